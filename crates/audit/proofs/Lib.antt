@@ -1,0 +1,3 @@
+pub mod Octets
+pub mod Pdu
+pub mod Examples

@@ -1,0 +1,69 @@
+-- Every public function of `pdu`: its promise asks nothing of the caller and determines what the caller sees.
+use mathlib.Core.Path.{sym, _∙_}
+use denote.Ref.{now}
+use Rattle.audit.specs.Promise.{Promised, PromisedWithOutput}
+use Rattle.pdu.proofs.Header.limits.Reads as header-limits-reads
+use Rattle.pdu.proofs.Header.limits.Kinds as header-limits-kinds
+use Rattle.pdu.proofs.Header.path_entries.Reads as header-path-entries-reads
+use Rattle.pdu.proofs.Header.path_entries.Kinds as header-path-entries-kinds
+use Rattle.pdu.proofs.Header.path_start.Reads as header-path-start-reads
+use Rattle.pdu.proofs.Header.path_start.Kinds as header-path-start-kinds
+use Rattle.pdu.proofs.Header.header_length.Reads as header-header-length-reads
+use Rattle.pdu.proofs.Header.header_length.Kinds as header-header-length-kinds
+use Rattle.pdu.proofs.Header.pdu_length.Reads as header-pdu-length-reads
+use Rattle.pdu.proofs.Header.pdu_length.Kinds as header-pdu-length-kinds
+use Rattle.pdu.proofs.read.Reads as read-reads
+use Rattle.pdu.proofs.read.Kinds as read-kinds
+use Rattle.pdu.proofs.refusal_number.Reads as refusal-number-reads
+use Rattle.pdu.proofs.refusal_number.Kinds as refusal-number-kinds
+use Rattle.pdu.proofs.reading_number.Reads as reading-number-reads
+use Rattle.pdu.proofs.reading_number.Kinds as reading-number-kinds
+use Rattle.pdu.proofs.parts.path_address.Reads as parts-path-address-reads
+use Rattle.pdu.proofs.parts.path_address.Kinds as parts-path-address-kinds
+use Rattle.pdu.proofs.parts.path_has.Reads as parts-path-has-reads
+use Rattle.pdu.proofs.parts.path_has.Kinds as parts-path-has-kinds
+use Rattle.pdu.proofs.parts.payload.Reads as parts-payload-reads
+use Rattle.pdu.proofs.parts.payload.Kinds as parts-payload-kinds
+use Rattle.pdu.proofs.writing.write_again.Reads as writing-write-again-reads
+use Rattle.pdu.proofs.writing.write_again.Kinds as writing-write-again-kinds
+use Rattle.pdu.proofs.writing.put_header.Reads as writing-put-header-reads
+use Rattle.pdu.proofs.writing.put_header.Kinds as writing-put-header-kinds
+
+pub header-limits : Promised 0 header-limits-kinds.ps header-limits-kinds.r header-limits-reads.Asked header-limits-reads.Post (λ κs x. x)
+header-limits = (λ κs a. tt, λ κs a x y s t p q. p ∙ sym q)
+
+pub header-path-entries : Promised 0 header-path-entries-kinds.ps header-path-entries-kinds.r header-path-entries-reads.Asked header-path-entries-reads.Post (λ κs x. x)
+header-path-entries = (λ κs a. tt, λ κs a x y s t p q. p .0 ∙ sym (q .0))
+
+pub header-path-start : Promised 0 header-path-start-kinds.ps header-path-start-kinds.r header-path-start-reads.Asked header-path-start-reads.Post (λ κs x. x)
+header-path-start = (λ κs a. tt, λ κs a x y s t p q. p .0 ∙ sym (q .0))
+
+pub header-header-length : Promised 0 header-header-length-kinds.ps header-header-length-kinds.r header-header-length-reads.Asked header-header-length-reads.Post (λ κs x. x)
+header-header-length = (λ κs a. tt, λ κs a x y s t p q. p .0 ∙ sym (q .0))
+
+pub header-pdu-length : Promised 0 header-pdu-length-kinds.ps header-pdu-length-kinds.r header-pdu-length-reads.Asked header-pdu-length-reads.Post (λ κs x. x)
+header-pdu-length = (λ κs a. tt, λ κs a x y s t p q. p .0 ∙ sym (q .0))
+
+pub read : Promised 1 read-kinds.ps read-kinds.r read-reads.Asked read-reads.Post (λ κs x. x)
+read = (λ κs a. tt, λ κs a x y s t p q. p ∙ sym q)
+
+pub refusal-number : Promised 0 refusal-number-kinds.ps refusal-number-kinds.r refusal-number-reads.Asked refusal-number-reads.Post (λ κs x. x)
+refusal-number = (λ κs a. tt, λ κs a x y s t p q. p ∙ sym q)
+
+pub reading-number : Promised 0 reading-number-kinds.ps reading-number-kinds.r reading-number-reads.Asked reading-number-reads.Post (λ κs x. x)
+reading-number = (λ κs a. tt, λ κs a x y s t p q. p ∙ sym q)
+
+pub parts-path-address : Promised 1 parts-path-address-kinds.ps parts-path-address-kinds.r parts-path-address-reads.Asked parts-path-address-reads.Post (λ κs x. x)
+parts-path-address = (λ κs a. tt, λ κs a x y s t p q. p ∙ sym q)
+
+pub parts-path-has : Promised 1 parts-path-has-kinds.ps parts-path-has-kinds.r parts-path-has-reads.Asked parts-path-has-reads.Post (λ κs x. x)
+parts-path-has = (λ κs a. tt, λ κs a x y s t p q. p ∙ sym q)
+
+pub parts-payload : Promised 1 parts-payload-kinds.ps parts-payload-kinds.r parts-payload-reads.Asked parts-payload-reads.Post (λ κs x. now x)
+parts-payload = (λ κs a. tt, λ κs a x y s t p q. p ∙ sym q)
+
+pub writing-write-again : PromisedWithOutput 2 writing-write-again-kinds.ps writing-write-again-kinds.r writing-write-again-reads.Asked writing-write-again-reads.Post (λ κs s. now (s .1 .0))
+writing-write-again = (λ κs a. tt, λ κs a x y s t p q. (p .0 ∙ sym (q .0), p .1 ∙ sym (q .1)))
+
+pub writing-put-header : PromisedWithOutput 1 writing-put-header-kinds.ps writing-put-header-kinds.r writing-put-header-reads.Asked writing-put-header-reads.Post (λ κs s. now (s .0))
+writing-put-header = (λ κs a. tt, λ κs a x y s t p q. (p .0 ∙ sym (q .0), p .1 ∙ sym (q .1)))

@@ -1,0 +1,1 @@
+// No code: what is proved of every public function, and the worked examples.

@@ -1,0 +1,3 @@
+pub mod Placing
+pub mod Numbering
+pub mod Words

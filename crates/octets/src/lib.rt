@@ -1,0 +1,64 @@
+// Bytes, the numbers in them, and parts put into an output one after another.
+ghost use mathlib.Core.Path.{_≡_};
+ghost use Prim.Native.Nat.{_/_, _%_, _<_};
+ghost use Rattle.octets.specs.Octets.{at, wordAt, wordBytes, placed, placeAfter};
+
+// Byte `i`, and 0 past the end.
+pub fn byte(bytes: &[u8], i: usize) -> u8
+    ensures { λ r. ⌜ r ≡ at (now (bytes .entry)) i ⌝ }
+{
+    if i < bytes.len() { bytes[i] } else { 0 }
+}
+
+// The number in the two bytes from `i` on, most significant first. A byte past the end counts as 0.
+pub fn word(bytes: &[u8], i: usize) -> u16
+    ensures { λ r. ⌜ r ≡ wordAt (now (bytes .entry)) i ⌝ }
+{
+    if i < bytes.len() {
+        wide(bytes[i]) * 256 + wide(byte(bytes, i + 1))
+    } else {
+        0
+    }
+}
+
+fn wide(x: u8) -> u16
+    ensures { λ r. ⌜ (r ≡ x) × (r < 256) ⌝ }
+{
+    x as u16
+}
+
+// The more significant byte of a number.
+pub fn high(x: u16) -> u8
+    ensures { λ r. ⌜ r ≡ x / 256 ⌝ }
+{
+    (x / 256) as u8
+}
+
+// The less significant byte of a number.
+pub fn low(x: u16) -> u8
+    ensures { λ r. ⌜ r ≡ x % 256 ⌝ }
+{
+    (x % 256) as u8
+}
+
+// Puts `part` into the output at `place`, and answers the place after it. Where it does not fit, nothing is written and the place stays.
+pub fn put(output: &mut [u8], place: usize, part: &[u8]) -> usize
+    ensures { λ r. ⌜ (r ≡ placeAfter (now (output .entry)) place (now (part .entry))) × (now (output .exit) ≡ placed (now (output .entry)) place (now (part .entry))) ⌝ }
+{
+    if output.len() < place {
+        return place;
+    }
+    if output.len() - place < part.len() {
+        return place;
+    }
+    bytes::copy(part, &mut output[place..]);
+    place + part.len()
+}
+
+// Puts the two bytes of a number into the output at `place`, as `put` does.
+pub fn put_word(output: &mut [u8], place: usize, x: u16) -> usize
+    ensures { λ r. ⌜ (r ≡ placeAfter (now (output .entry)) place (wordBytes x)) × (now (output .exit) ≡ placed (now (output .entry)) place (wordBytes x)) ⌝ }
+{
+    let part = [high(x), low(x)];
+    put(output, place, &part)
+}

@@ -1,0 +1,68 @@
+-- The header that bytes show, from fields found one by one, and its length by its bytes.
+use Prim.Native.Nat.{ℕ, zero, suc, _+_, _*_, _<_}
+use native.Mathlib.Omega.{arith}
+use mathlib.Core.Bool.{Bool, true, false, cond}
+use mathlib.Core.List.{List}
+use mathlib.Core.Path.{_≡_, refl}
+use Rattle.octets.specs.Numbers.{flag}
+use Rattle.octets.specs.Octets.{at, wordAt}
+use Rattle.pdu.specs.declared.Destination.{Destination}
+use Rattle.pdu.specs.declared.Destination.the-variants.{Everyone, Address}
+use Rattle.pdu.specs.declared.Header.{Header}
+use Rattle.pdu.specs.Header.{isSet, protocol, timeStampBit, pathBit, destinationBit, port, encryptedBit, reserved, ackBit, addedHeaderBit, hopLimit, payloadLength, sourcePlace, destinationPlace, pathCountPlace, destinationIn, pduIdIn, pathCountIn, headerOf}
+use Rattle.pdu.specs.Sizes.{destinationFlag, pathEntries, pathStart, headerLength}
+
+pub header-is : (bytes : List ℕ) {byte0 byte1 byte2 byte3 from id count : ℕ} {to : Destination}
+    → byte0 ≡ at bytes 0 → byte1 ≡ at bytes 1 → byte2 ≡ at bytes 2 → byte3 ≡ payloadLength byte2 (at bytes 3) → from ≡ wordAt bytes sourcePlace
+    → to ≡ destinationIn bytes → id ≡ pduIdIn bytes → count ≡ pathCountIn bytes
+    → _≡_ {A = Header}
+    (record {
+      protocol = protocol byte0;
+      «time_stamp_request» = isSet (timeStampBit byte0);
+      «path_bit» = isSet (pathBit byte0);
+      port = port byte1;
+      encrypted = isSet (encryptedBit byte1);
+      reserved = reserved byte1;
+      ack = isSet (ackBit byte1);
+      «added_header» = isSet (addedHeaderBit byte2);
+      «hop_limit» = hopLimit byte2;
+      «payload_length» = byte3;
+      source = from;
+      destination = to;
+      «pdu_id» = id;
+      «path_count» = count;
+    })
+    (headerOf bytes)
+unfolding headerOf
+header-is bytes e0 e1 e2 e3 e4 e5 e6 e7 = rw (e3, e0, e1, e2, e4, e5, e6, e7)
+
+-- a bit as a test, and back
+pub flag-isSet : (bit : ℕ) → bit < 2 → flag (isSet bit) ≡ bit
+flag-isSet zero h = refl
+flag-isSet (suc zero) h = refl
+flag-isSet (suc (suc n)) h = absurd (omega arith)
+
+pub destination-flag : (bit address : ℕ) → bit < 2 → destinationFlag (cond (isSet bit) (Address address) Everyone) ≡ bit
+destination-flag zero address h = refl
+destination-flag (suc zero) address h = refl
+destination-flag (suc (suc n)) address h = absurd (omega arith)
+
+entries-twice : (bit count : ℕ) → cond (isSet bit) (cond (isSet bit) count 0) 0 ≡ cond (isSet bit) count 0
+entries-twice bit count = go (isSet bit)
+  where
+    go : (t : Bool) → cond t (cond t count 0) 0 ≡ cond t count 0
+    go true = refl
+    go false = refl
+
+module _ (bytes : List ℕ) where
+  pub entries-shown : pathEntries (headerOf bytes) ≡ pathCountIn bytes
+  unfolding headerOf
+  entries-shown = entries-twice (pathBit (at bytes 0)) (at bytes (pathCountPlace (at bytes 0)))
+
+  pub start-shown : pathStart (headerOf bytes) ≡ pathCountPlace (at bytes 0) + pathBit (at bytes 0)
+  unfolding headerOf
+  start-shown =
+      omega (arith, destination-flag (destinationBit (at bytes 0)) (wordAt bytes destinationPlace) (omega arith), flag-isSet (pathBit (at bytes 0)) (omega arith))
+
+  pub length-shown : headerLength (headerOf bytes) ≡ pathCountPlace (at bytes 0) + pathBit (at bytes 0) + 2 * pathCountIn bytes
+  length-shown = omega (arith, start-shown, entries-shown)

@@ -1,0 +1,23 @@
+use borrow.Author.Tests.{eq-eqb, ne-eqb}
+use borrow.Author.Needs.{needs}
+use Rattle.pdu.proofs.pdu_id_in.Statement.{statement}
+use Rattle.pdu.proofs.pdu_id_in.Tie as tie
+
+byte-requires : tie.Need-byte-requires
+byte-requires c κs = search needs
+
+pdu-id-place-requires : tie.Need-pdu-id-place-requires
+pdu-id-place-requires c κs = search needs
+
+byte-requires-2 : tie.Need-byte-requires-2
+byte-requires-2 c κs = search needs
+
+returns : tie.Need-returns
+returns c = simp (← c .before .before .before .byte .ensures, eq-eqb _ _ (c .before .before .if1 .taken), ← c .before .pdu-id-place .ensures) (c .byte2 .ensures)
+
+returns-2 : tie.Need-returns-2
+returns-2 c = simp (← c .before .byte .ensures, ne-eqb _ _ (c .if1 .left))
+
+pub pdu-id-in-spec : {M : Type 1} → statement M
+pdu-id-in-spec =
+    tie.close (tie.spec byte-requires pdu-id-place-requires byte-requires-2 returns returns-2)

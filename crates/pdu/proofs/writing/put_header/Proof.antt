@@ -1,0 +1,53 @@
+use borrow.Author.Tests.{not-true, not-false}
+use mathlib.Core.Path.{sym, _∙_}
+use denote.Ref.{now}
+use Rattle.pdu.proofs.Encoding.{too-wide, no-room, header-put}
+use native.Mathlib.Omega.{arith}
+use borrow.Author.Needs.{needs}
+use Rattle.pdu.proofs.writing.put_header.Statement.{statement}
+use Rattle.pdu.proofs.writing.put_header.Tie as tie
+
+within-bits-requires : tie.Need-within-bits-requires
+within-bits-requires c κs = search needs
+
+returns : tie.Need-returns
+returns c = let a = c .before .before .before .args in too-wide (a .header) (now (a .output)) (sym (c .before .within-bits .ensures) ∙ not-true _ (c .if1 .taken))
+
+path-start-requires : tie.Need-path-start-requires
+path-start-requires c κs = search needs
+
+returns-2 : tie.Need-returns-2
+returns-2 c = let a = c .before .before .before .before .before .args in no-room (a .header) (now (a .output)) (sym (c .before .before .before .within-bits .ensures) ∙ not-false _ (c .before .before .if1 .left)) (omega (arith, c .before .path-start .ensures .0))
+
+put-fixed-requires : tie.Need-put-fixed-requires
+put-fixed-requires c κs = sym (c .before .before .before .before .within-bits .ensures) ∙ not-false _ (c .before .before .before .if1 .left)
+
+put-destination-requires : tie.Need-put-destination-requires
+put-destination-requires c κs = search needs
+
+put-if-requires : tie.Need-put-if-requires
+put-if-requires c κs = search needs
+
+put-if-requires-2 : tie.Need-put-if-requires-2
+put-if-requires-2 c κs = search needs
+
+same-length : tie.Need-same-length
+same-length c = search needs
+
+returns-3 : tie.Need-returns-3
+returns-3 c = let f = c .before .before .before .before .before .before .before .before .before .before .before .before .before .before .before in let a = f .before .before .before .before .before .before .before .args in header-put (a .header) (now (a .output)) (sym (f .before .before .before .before .before .within-bits .ensures) ∙ not-false _ (f .before .before .before .before .if1 .left)) _ _ _ _ _ _ _ _ (omega (arith, f .before .before .before .path-start .ensures .0)) (f .put-fixed .ensures) (c .before .before .before .before .before .before .before .before .before .before .before .put-destination .ensures) (c .before .before .before .before .before .before .put-if .ensures) (c .before .before .put-if2 .ensures)
+
+pub put-header-spec : {M : Type 1} → statement M
+put-header-spec =
+    tie.close
+    (tie.spec
+    within-bits-requires
+    returns
+    path-start-requires
+    returns-2
+    put-fixed-requires
+    put-destination-requires
+    put-if-requires
+    put-if-requires-2
+    same-length
+    returns-3)

@@ -1,0 +1,5 @@
+pub mod Header
+pub mod Sizes
+pub mod Reading
+pub mod Parts
+pub mod Writing

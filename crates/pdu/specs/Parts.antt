@@ -1,0 +1,31 @@
+-- Document 01, "Header, byte by byte", its last sentences: the path's addresses, and the payload that follows the header.
+use Prim.Native.Nat.{ℕ, zero, suc, _+_}
+use mathlib.Core.Bool.{Bool, false, _||_}
+use mathlib.Core.List.{List, [], _∷_}
+use lib.Dec.{eqb}
+use lib.ListN.{getD, take, drop}
+use Rattle.octets.specs.Octets.{wordAt}
+use Rattle.pdu.specs.declared.Header.{Header}
+use Rattle.pdu.specs.Sizes.{pathEntries, pathStart, headerLength}
+
+-- so many 2-byte addresses from a place on
+unfoldable pub addressesAt : List ℕ → ℕ → ℕ → List ℕ
+addressesAt bytes place zero = []
+addressesAt bytes place (suc n) = wordAt bytes place ∷ addressesAt bytes (place + 2) n
+
+-- the path of the PDU that a header shows in bytes
+abbrev pub pathIn : Header → List ℕ → List ℕ
+pathIn header bytes = addressesAt bytes (pathStart header) (pathEntries header)
+
+-- the path's address at a place, the first at 0; 0 past the last
+abbrev pub pathAddress : Header → List ℕ → ℕ → ℕ
+pathAddress header bytes i = getD (pathIn header bytes) i 0
+
+-- whether an address is anywhere in a path
+unfoldable pub inPath : ℕ → List ℕ → Bool
+inPath address [] = false
+inPath address (entry ∷ path) = eqb entry address || inPath address path
+
+-- the payload of the PDU that a header shows in bytes
+abbrev pub payloadIn : Header → List ℕ → List ℕ
+payloadIn header bytes = take (header .«payload_length») (drop (headerLength header) bytes)

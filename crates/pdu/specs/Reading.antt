@@ -1,0 +1,38 @@
+-- Document 01, "Numbers answered", 1 to 6, in that order, on a PDU at the start of the bytes given.
+use Prim.Native.Nat.{ℕ}
+use mathlib.Core.Bool.{not, cond, _&&_}
+use mathlib.Core.List.{List}
+use lib.Dec.{eqb, ltb}
+use lib.ListN.{length}
+use Rattle.octets.specs.Octets.{at}
+use Rattle.pdu.specs.declared.Header.{Header}
+use Rattle.pdu.specs.declared.Refusal.{Refusal}
+use Rattle.pdu.specs.declared.Refusal.the-variants.{TooShort, WrongVersion, UnknownProtocol, NoDestination, HeaderCut, PayloadCut}
+use Rattle.pdu.specs.declared.Reading.{Reading}
+use Rattle.pdu.specs.declared.Reading.the-variants.{Pdu, Refused}
+use Rattle.pdu.specs.Header.{isSet, version, protocol, destinationBit, headerOf}
+use Rattle.pdu.specs.Sizes.{fixedLength, headerLength, pduLength}
+
+unfoldable pub readOf : List ℕ → Reading
+readOf bytes =
+    cond (ltb (length bytes) fixedLength) (Refused TooShort)
+    (cond (not (eqb (version (at bytes 0)) 0)) (Refused WrongVersion)
+    (cond (ltb 1 (protocol (at bytes 0))) (Refused UnknownProtocol)
+    (cond (eqb (protocol (at bytes 0)) 1 && not (isSet (destinationBit (at bytes 0)))) (Refused NoDestination)
+    (cond (ltb (length bytes) (headerLength (headerOf bytes))) (Refused HeaderCut)
+    (cond (ltb (length bytes) (pduLength (headerOf bytes))) (Refused PayloadCut)
+    (Pdu (headerOf bytes)))))))
+
+-- the number of each refusal
+abbrev pub refusalNumber : Refusal → ℕ
+refusalNumber TooShort = 1
+refusalNumber WrongVersion = 2
+refusalNumber UnknownProtocol = 3
+refusalNumber NoDestination = 4
+refusalNumber HeaderCut = 5
+refusalNumber PayloadCut = 6
+
+-- the number of what reading answers: 0 where it shows a header
+abbrev pub readingNumber : Reading → ℕ
+readingNumber (Pdu header) = 0
+readingNumber (Refused refusal) = refusalNumber refusal

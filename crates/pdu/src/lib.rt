@@ -1,0 +1,292 @@
+// A PDU: its header and its limits, reading it, its parts, and writing it again.
+pub mod parts;
+pub mod writing;
+
+ghost use mathlib.Core.Path.{_≡_};
+ghost use Prim.Native.Nat.{_+_, _<_, _≤_};
+ghost use mathlib.Core.Bool.{not, _&&_};
+ghost use lib.Dec.{eqb};
+ghost use Rattle.octets.specs.Numbers.{flag};
+ghost use Rattle.pdu.specs.Header.{isSet, protocol, destinationBit, payloadLength, pduIdPlace, pathCountPlace, destinationIn, pduIdIn, pathCountIn, headerOf};
+ghost use Rattle.pdu.specs.Sizes.{limits, pathLimit, headerLimit, destinationFlag, pathEntries, pathStart, headerLength, pduLength};
+ghost use Rattle.pdu.specs.Reading.{readOf, refusalNumber, readingNumber};
+
+// Who a PDU is for.
+pub enum Destination {
+    Everyone,
+    Address(u16),
+}
+
+// The fields of a header, in the order of document 01's table. A PDU ID or path count that the PDU does not have is 0.
+pub struct Header {
+    pub protocol: u8,
+    pub time_stamp_request: bool,
+    pub path_bit: bool,
+    pub port: u8,
+    pub encrypted: bool,
+    pub reserved: u8,
+    pub ack: bool,
+    pub added_header: bool,
+    pub hop_limit: u8,
+    pub payload_length: u16,
+    pub source: u16,
+    pub destination: Destination,
+    pub pdu_id: u8,
+    pub path_count: u8,
+}
+
+// Why bytes are not a PDU: document 01's numbers 1 to 6, in that order.
+pub enum Refusal {
+    TooShort,
+    WrongVersion,
+    UnknownProtocol,
+    NoDestination,
+    HeaderCut,
+    PayloadCut,
+}
+
+// What reading answers.
+pub enum Reading {
+    Pdu(Header),
+    Refused(Refusal),
+}
+
+// Document 01's sizes, in bytes; the path's in addresses.
+pub struct Limits {
+    pub fixed: usize,
+    pub payload: usize,
+    pub path: usize,
+    pub header: usize,
+    pub pdu: usize,
+}
+
+// What writing answers: 0 and how many bytes were written, or the refusal's number and 0.
+pub struct Written {
+    pub number: u8,
+    pub length: usize,
+}
+
+impl Header {
+    pub const FIXED_LENGTH: usize = 6;
+
+    pub const PAYLOAD_LIMIT: usize = 4095;
+
+    pub const PATH_LIMIT: usize = 255;
+
+    pub const HEADER_LIMIT: usize = 520;
+
+    pub const PDU_LIMIT: usize = 4615;
+
+    // The limits above, as a value.
+    pub fn limits() -> Limits
+        ensures { λ r. ⌜ r ≡ limits ⌝ }
+    {
+        Limits {
+            fixed: Header::FIXED_LENGTH,
+            payload: Header::PAYLOAD_LIMIT,
+            path: Header::PATH_LIMIT,
+            header: Header::HEADER_LIMIT,
+            pdu: Header::PDU_LIMIT,
+        }
+    }
+
+    // How many addresses the path has: the path count, and none without the path bit.
+    pub fn path_entries(self) -> usize
+        ensures { λ r. ⌜ (r ≡ pathEntries self) × (r ≤ pathLimit) ⌝ }
+    {
+        if self.path_bit {
+            size(self.path_count)
+        } else {
+            0
+        }
+    }
+
+    // Where the path's addresses begin, counted from the PDU's first byte.
+    pub fn path_start(self) -> usize
+        ensures { λ r. ⌜ (r ≡ pathStart self) × (r ≤ 10) ⌝ }
+    {
+        let destination = self.destination;
+        Header::FIXED_LENGTH
+            + 2 * size(destination_flag(destination))
+            + size(flag_of(self.protocol == 1))
+            + size(flag_of(self.path_bit))
+    }
+
+    // The header's length in bytes, its path included.
+    pub fn header_length(self) -> usize
+        ensures { λ r. ⌜ (r ≡ headerLength self) × (r ≤ headerLimit) ⌝ }
+    {
+        self.path_start() + 2 * self.path_entries()
+    }
+
+    // The PDU's length in bytes: header and payload.
+    pub fn pdu_length(self) -> usize
+        ensures { λ r. ⌜ (r ≡ pduLength self) × (r ≤ headerLimit + 65535) ⌝ }
+    {
+        self.header_length() + wide(self.payload_length)
+    }
+}
+
+fn size(x: u8) -> usize
+    ensures { λ r. ⌜ (r ≡ x) × (r < 256) ⌝ }
+{
+    x as usize
+}
+
+fn wide(x: u16) -> usize
+    ensures { λ r. ⌜ (r ≡ x) × (r < 65536) ⌝ }
+{
+    x as usize
+}
+
+fn flag_of(bit: bool) -> u8
+    ensures { λ r. ⌜ (r ≡ flag bit) × (r ≤ 1) ⌝ }
+{
+    if bit { 1 } else { 0 }
+}
+
+fn destination_flag(destination: Destination) -> u8
+    ensures { λ r. ⌜ (r ≡ destinationFlag destination) × (r ≤ 1) ⌝ }
+{
+    match destination {
+        Destination::Everyone => 0,
+        Destination::Address(_) => 1,
+    }
+}
+
+// The header of the PDU at the start of `bytes`, or why there is none there. Any bytes get an answer; bytes after the PDU are not looked at.
+pub fn read(bytes: &[u8]) -> Reading
+    ensures { λ r. ⌜ r ≡ readOf (now (bytes .entry)) ⌝ }
+{
+    if bytes.len() < Header::FIXED_LENGTH {
+        return Reading::Refused(Refusal::TooShort);
+    }
+    let byte0 = bytes[0];
+    if byte0 / 64 != 0 {
+        return Reading::Refused(Refusal::WrongVersion);
+    }
+    if 1 < byte0 / 8 % 8 {
+        return Reading::Refused(Refusal::UnknownProtocol);
+    }
+    if no_destination(byte0) {
+        return Reading::Refused(Refusal::NoDestination);
+    }
+    let header = header_of(bytes);
+    if bytes.len() < header.header_length() {
+        return Reading::Refused(Refusal::HeaderCut);
+    }
+    if bytes.len() < header.pdu_length() {
+        return Reading::Refused(Refusal::PayloadCut);
+    }
+    Reading::Pdu(header)
+}
+
+// The number of a refusal.
+pub fn refusal_number(refusal: Refusal) -> u8
+    ensures { λ r. ⌜ r ≡ refusalNumber refusal ⌝ }
+{
+    match refusal {
+        Refusal::TooShort => 1,
+        Refusal::WrongVersion => 2,
+        Refusal::UnknownProtocol => 3,
+        Refusal::NoDestination => 4,
+        Refusal::HeaderCut => 5,
+        Refusal::PayloadCut => 6,
+    }
+}
+
+// The number of what reading answers: 0 for a header, else the refusal's.
+pub fn reading_number(reading: Reading) -> u8
+    ensures { λ r. ⌜ r ≡ readingNumber reading ⌝ }
+{
+    match reading {
+        Reading::Pdu(_) => 0,
+        Reading::Refused(refusal) => refusal_number(refusal),
+    }
+}
+
+fn header_of(bytes: &[u8]) -> Header
+    ensures { λ r. ⌜ r ≡ headerOf (now (bytes .entry)) ⌝ }
+{
+    let byte0 = octets::byte(bytes, 0);
+    let byte1 = octets::byte(bytes, 1);
+    let byte2 = octets::byte(bytes, 2);
+    Header {
+        protocol: byte0 / 8 % 8,
+        time_stamp_request: byte0 / 4 % 2 == 1,
+        path_bit: byte0 / 2 % 2 == 1,
+        port: byte1 / 16,
+        encrypted: byte1 / 8 % 2 == 1,
+        reserved: byte1 / 2 % 4,
+        ack: byte1 % 2 == 1,
+        added_header: byte2 / 128 == 1,
+        hop_limit: byte2 / 16 % 8,
+        payload_length: payload_length(byte2, octets::byte(bytes, 3)),
+        source: octets::word(bytes, 4),
+        destination: destination_in(bytes),
+        pdu_id: pdu_id_in(bytes),
+        path_count: path_count_in(bytes),
+    }
+}
+
+// Reliable service without a destination.
+fn no_destination(byte0: u8) -> bool
+    ensures { λ r. ⌜ r ≡ (eqb (protocol byte0) 1 && not (isSet (destinationBit byte0))) ⌝ }
+{
+    if byte0 / 8 % 8 == 1 {
+        byte0 % 2 != 1
+    } else {
+        false
+    }
+}
+
+fn payload_length(byte2: u8, byte3: u8) -> u16
+    ensures { λ r. ⌜ r ≡ payloadLength byte2 byte3 ⌝ }
+{
+    (byte2 % 16) as u16 * 256 + byte3 as u16
+}
+
+fn pdu_id_place(byte0: u8) -> usize
+    ensures { λ r. ⌜ r ≡ pduIdPlace byte0 ⌝ }
+{
+    Header::FIXED_LENGTH + 2 * size(byte0 % 2)
+}
+
+fn path_count_place(byte0: u8) -> usize
+    ensures { λ r. ⌜ r ≡ pathCountPlace byte0 ⌝ }
+{
+    pdu_id_place(byte0) + size(flag_of(byte0 / 8 % 8 == 1))
+}
+
+fn destination_in(bytes: &[u8]) -> Destination
+    ensures { λ r. ⌜ r ≡ destinationIn (now (bytes .entry)) ⌝ }
+{
+    let byte0 = octets::byte(bytes, 0);
+    if byte0 % 2 == 1 {
+        Destination::Address(octets::word(bytes, Header::FIXED_LENGTH))
+    } else {
+        Destination::Everyone
+    }
+}
+
+fn pdu_id_in(bytes: &[u8]) -> u8
+    ensures { λ r. ⌜ r ≡ pduIdIn (now (bytes .entry)) ⌝ }
+{
+    let byte0 = octets::byte(bytes, 0);
+    if byte0 / 8 % 8 == 1 {
+        octets::byte(bytes, pdu_id_place(byte0))
+    } else {
+        0
+    }
+}
+
+fn path_count_in(bytes: &[u8]) -> u8
+    ensures { λ r. ⌜ r ≡ pathCountIn (now (bytes .entry)) ⌝ }
+{
+    let byte0 = octets::byte(bytes, 0);
+    if byte0 / 2 % 2 == 1 {
+        octets::byte(bytes, path_count_place(byte0))
+    } else {
+        0
+    }
+}
