@@ -1,3 +1,5 @@
 pub mod Octets
 pub mod Pdu
+pub mod Origin
+pub mod Lists
 pub mod Examples

@@ -9,11 +9,27 @@ use Rattle.pdu.specs.declared.Reading.the-variants.{Pdu, Refused}
 use Rattle.pdu.specs.Reading.{readOf, refusalNumber}
 use Rattle.pdu.specs.Parts.{payloadIn}
 use Rattle.pdu.specs.Header.{headerOf}
+use Rattle.origin.specs.declared.Settings as asked
+use Rattle.origin.specs.Origination.{fresh, originated}
 
 -- the example of document 002
 abbrev pub example : List ℕ
 example =
     0x03 ∷ 0x00 ∷ 0x10 ∷ 0x0B ∷ 0x03 ∷ 0xE8 ∷ 0x06 ∷ 0x40 ∷ 0x00 ∷ 0x70 ∷ 0x01 ∷ 0x08 ∷ 0x12 ∷ 0x12 ∷ 0x03 ∷ 0x24 ∷ 0x13 ∷ 0x22 ∷ 0x02 ∷ 0x76 ∷ []
+
+-- settings that ask for a hop limit, and nothing else out of the way: source 5, port 0, best efforts to everyone, no path, no time stamp
+abbrev pub asking : ℕ → asked.Settings
+asking hop =
+    record {
+      source = 5;
+      destination = Everyone;
+      «hop_limit» = hop;
+      port = 0;
+      «time_stamp_request» = false;
+      «with_path» = false;
+      reliable = false;
+      «pdu_id» = 0;
+    }
 
 pub record CheckedByHand : Type 0 where
   -- 5 bytes of zero: 1
@@ -69,3 +85,8 @@ pub record CheckedByHand : Type 0 where
       })
   pub example-payload : payloadIn (headerOf example) example
       ≡ 0x70 ∷ 0x01 ∷ 0x08 ∷ 0x12 ∷ 0x12 ∷ 0x03 ∷ 0x24 ∷ 0x13 ∷ 0x22 ∷ 0x02 ∷ 0x76 ∷ []
+  -- hop setting 15 refused with 10; so are 263 and 2^32 + 7, which a narrower number would have taken for 7; 7 taken, and on the air as 7
+  pub p13-refused : originated (asking 15) [] 100 ≡ record { number = 10; length = 0 }
+  pub p13-not-trimmed : (originated (asking 263) [] 100 ≡ record { number = 10; length = 0 }) × (originated (asking 4294967303) [] 100 ≡ record { number = 10; length = 0 })
+  pub p13-taken : originated (asking 7) [] 100 ≡ record { number = 0; length = 6 }
+  pub p13-written : fresh (asking 7) [] ≡ 0x00 ∷ 0x00 ∷ 0x70 ∷ 0x00 ∷ 0x00 ∷ 0x05 ∷ []

@@ -1,0 +1,184 @@
+-- The laws of the list check and of membership, for the loops that go through a list and for callers.
+use Prim.Native.Nat.{ℕ, zero, suc, _+_, _*_, _%_, _<_, _≤_}
+use mathlib.Core.Path.{_≡_, refl, _∙_}
+use mathlib.Core.Bool.{Bool, true, false, _&&_, _||_, false≢true, or-true}
+use mathlib.Core.Logic.{_⊎_, inl, inr, ⊎-elim}
+use mathlib.Core.List.{List, [], _∷_}
+use native.Mathlib.Numerals.{add-one}
+use native.Mathlib.Omega.{arith}
+use borrow.Author.Tests.{lt-ltb, le-ltb, le-leb, lt-leb, leb-true, eq-eqb, ne-eqb}
+use lib.Dec.{leb}
+use lib.ListN.{length, getD, drop, drop-of-length-le, length-drop}
+use lib.Seq.{drop-cons}
+use Rattle.octets.specs.Numbers.{_gives_, _orElse_}
+use Rattle.octets.proofs.Numbering.{orElse-zero, gives-here, gives-later}
+use Rattle.lists.specs.Lists.{lowAboveHigh, faultOf, firstFault, holds, four}
+
+-- What is left to look at from a place on.
+unfoldable pub rangeFaultFrom : List ℕ → ℕ → ℕ
+rangeFaultFrom list i = lowAboveHigh (drop i list) gives 20
+
+unfoldable pub firstFaultFrom : List (List ℕ) → ℕ → ℕ
+firstFaultFrom lists k = firstFault (drop k lists)
+
+unfoldable pub holdsFrom : List ℕ → ℕ → ℕ → Bool
+holdsFrom list i address = holds (drop i list) address
+
+drop-one : {A : Type 0} (l : List A) (i : ℕ) (d : A) → i < length l → drop i l ≡ getD l i d ∷ drop (i + 1) l
+drop-one l i d h = rw (add-one, drop-cons l i d)
+
+drop-two : (l : List ℕ) (i j : ℕ) → i + 1 < length l → j ≡ i + 2 → drop i l ≡ getD l i 0 ∷ getD l (i + 1) 0 ∷ drop j l
+drop-two l i j h e =
+    let g : i < length l = omega arith in
+    let f : j ≡ (i + 1) + 1 = omega arith in
+    rw (f, drop-one l i 0, drop-one l (i + 1) 0)
+
+-- The fault of one list.
+module _ (list : List ℕ) where
+  pub too-long : 128 < length list → faultOf list ≡ 22
+  unfolding faultOf
+  too-long h = gives-here _ 22 _ (omega arith) (lt-ltb 128 (length list) h)
+
+  pub odd-number : length list ≤ 128 → length list % 2 ≡ 1 → faultOf list ≡ 21
+  unfolding faultOf
+  odd-number h e = gives-later _ 22 _ (le-ltb 128 (length list) h) ∙ gives-here _ 21 _ (omega arith) (eq-eqb (length list % 2) 1 e)
+
+  pub only-ranges : length list ≤ 128 → (length list % 2 ≡ 1 → ⊥) → faultOf list ≡ rangeFaultFrom list 0
+  unfolding faultOf rangeFaultFrom
+  only-ranges h e = gives-later _ 22 _ (le-ltb 128 (length list) h) ∙ gives-later _ 21 _ (ne-eqb (length list % 2) 1 e)
+
+  pub range-right : (i j : ℕ) → i + 1 < length list → j ≡ i + 2 → getD list i 0 ≤ getD list (i + 1) 0 → rangeFaultFrom list i ≡ rangeFaultFrom list j
+  unfolding lowAboveHigh rangeFaultFrom
+  range-right i j h e g = rw (drop-two list i j h e) (simp (le-ltb (getD list (i + 1) 0) (getD list i 0) g))
+
+  pub range-wrong : (i : ℕ) → i + 1 < length list → getD list (i + 1) 0 < getD list i 0 → rangeFaultFrom list i ≡ 20
+  unfolding lowAboveHigh rangeFaultFrom _gives_
+  range-wrong i h g = rw (drop-two list i (i + 2) h refl) (simp (lt-ltb (getD list (i + 1) 0) (getD list i 0) g))
+
+  pub ranges-end : (i : ℕ) → length list ≤ i → rangeFaultFrom list i ≡ 0
+  unfolding lowAboveHigh rangeFaultFrom _gives_
+  ranges-end i h = rw (drop-of-length-le list h)
+
+-- The first fault of several lists.
+module _ (lists : List (List ℕ)) where
+  pub lists-start : firstFault lists ≡ firstFaultFrom lists 0
+  unfolding firstFaultFrom
+  lists-start = refl
+
+  pub list-right : (k : ℕ) (list : List ℕ) → k < length lists → list ≡ getD lists k [] → faultOf list ≡ 0 → firstFaultFrom lists k ≡ firstFaultFrom lists (k + 1)
+  unfolding firstFault firstFaultFrom _orElse_
+  list-right k list h is e = rw (drop-one lists k [] h, ← is, e)
+
+  pub list-wrong : (k n : ℕ) (list : List ℕ) → k < length lists → list ≡ getD lists k [] → faultOf list ≡ n → 0 < n → firstFaultFrom lists k ≡ n
+  unfolding firstFault firstFaultFrom _orElse_
+  list-wrong k zero list h is e p = absurd (omega arith)
+  list-wrong k (suc n) list h is e p = rw (drop-one lists k [] h, ← is, e)
+
+  pub lists-end : (k : ℕ) → length lists ≤ k → firstFaultFrom lists k ≡ 0
+  unfolding firstFault firstFaultFrom
+  lists-end k h = rw (drop-of-length-le lists h)
+
+-- What a caller has of four lists without fault.
+pub record NoFault (sourcePass sourceReject destinationPass destinationReject : List ℕ) : Type 0 where
+  pub source-pass : faultOf sourcePass ≡ 0
+  pub source-reject : faultOf sourceReject ≡ 0
+  pub destination-pass : faultOf destinationPass ≡ 0
+  pub destination-reject : faultOf destinationReject ≡ 0
+
+pub no-fault : (sourcePass sourceReject destinationPass destinationReject : List ℕ)
+    → firstFault (four sourcePass sourceReject destinationPass destinationReject) ≡ 0 → NoFault sourcePass sourceReject destinationPass destinationReject
+unfolding firstFault
+no-fault sourcePass sourceReject destinationPass destinationReject e =
+    let one = orElse-zero _ _ e in
+    let two = orElse-zero _ _ (one .1) in
+    let three = orElse-zero _ _ (two .1) in
+    let last = orElse-zero _ _ (three .1) in
+    record { source-pass = one .0; source-reject = two .0; destination-pass = three .0; destination-reject = last .0 }
+
+-- A list without a whole range: no values, or one without a partner.
+holds-none : (list : List ℕ) (address : ℕ) → length list ≤ 1 → holds list address ≡ false
+unfolding holds
+holds-none [] address h = refl
+holds-none (low ∷ []) address h = refl
+holds-none (low ∷ high ∷ ranges) address h = absurd (omega arith)
+
+pub empty-holds-none : (address : ℕ) → holds [] address ≡ false
+empty-holds-none address = holds-none [] address (omega arith)
+
+-- Membership, from a place on.
+module _ (list : List ℕ) (address : ℕ) where
+  pub holds-start : holds list address ≡ holdsFrom list 0 address
+  unfolding holdsFrom
+  holds-start = refl
+
+  pub holds-here : (i : ℕ) → i + 1 < length list → getD list i 0 ≤ address → address ≤ getD list (i + 1) 0 → holdsFrom list i address ≡ true
+  unfolding holds holdsFrom
+  holds-here i h low high =
+      rw (drop-two list i (i + 2) h refl) (simp (le-leb (getD list i 0) address low, le-leb address (getD list (i + 1) 0) high))
+
+  pub below-low : (i j : ℕ) → i + 1 < length list → j ≡ i + 2 → address < getD list i 0 → holdsFrom list i address ≡ holdsFrom list j address
+  unfolding holds holdsFrom
+  below-low i j h e low = rw (drop-two list i j h e) (simp (lt-leb (getD list i 0) address low))
+
+  pub above-high : (i j : ℕ) → i + 1 < length list → j ≡ i + 2 → getD list i 0 ≤ address → getD list (i + 1) 0 < address → holdsFrom list i address ≡ holdsFrom list j address
+  unfolding holds holdsFrom
+  above-high i j h e low high =
+      rw (drop-two list i j h e) (simp (le-leb (getD list i 0) address low, lt-leb address (getD list (i + 1) 0) high))
+
+  pub holds-end : (i : ℕ) → length list ≤ i + 1 → holdsFrom list i address ≡ false
+  unfolding holdsFrom
+  holds-end i h = holds-none (drop i list) address (simp length-drop (omega arith))
+
+-- An address in one of the list's ranges: those at values 0 and 1, 2 and 3 and so on, both ends included.
+pub record InRange (list : List ℕ) (address : ℕ) : Type 0 where
+  pub range : ℕ
+  pub within : 2 * range + 1 < length list
+  pub from-low : getD list (2 * range) 0 ≤ address
+  pub to-high : address ≤ getD list (2 * range + 1) 0
+
+either : (a b : Bool) → (a || b) ≡ true → (a ≡ true) ⊎ (b ≡ true)
+either true b e = inl refl
+either false b e = inr e
+
+both : (a b : Bool) → (a && b) ≡ true → (a ≡ true) × (b ≡ true)
+both true b e = (refl, e)
+both false b e = absurd (false≢true e)
+
+next-low : (range : ℕ) → 2 * suc range ≡ suc (suc (2 * range))
+next-low range = omega arith
+
+next-high : (range : ℕ) → 2 * suc range + 1 ≡ suc (suc (2 * range + 1))
+next-high range = omega arith
+
+first-range : (low high : ℕ) (ranges : List ℕ) (address : ℕ) → (leb low address && leb address high) ≡ true → InRange (low ∷ high ∷ ranges) address
+first-range low high ranges address e =
+    let (from, to) = both (leb low address) (leb address high) e in
+    record { range = 0; within = omega arith; from-low = leb-true _ _ from; to-high = leb-true _ _ to }
+
+later-range : (low high : ℕ) {ranges : List ℕ} {address : ℕ} → InRange ranges address → InRange (low ∷ high ∷ ranges) address
+later-range low high r =
+    record {
+      range = suc (r .range);
+      within = omega (arith, r .within);
+      from-low = rw (next-low (r .range)) (r .from-low);
+      to-high = rw (next-high (r .range)) (r .to-high);
+    }
+
+-- A list holds an address exactly where the address is in one of its ranges.
+pub held-in-range : (list : List ℕ) (address : ℕ) → holds list address ≡ true → InRange list address
+unfolding holds
+held-in-range [] address e = absurd (false≢true e)
+held-in-range (low ∷ []) address e = absurd (false≢true e)
+held-in-range (low ∷ high ∷ ranges) address e =
+    ⊎-elim (first-range low high ranges address) (λ h. later-range low high (held-in-range ranges address h)) (either _ _ e)
+
+held-at : (list : List ℕ) (address range : ℕ) → 2 * range + 1 < length list → getD list (2 * range) 0 ≤ address → address ≤ getD list (2 * range + 1) 0 → holds list address ≡ true
+unfolding holds
+held-at [] address range within from to = absurd (omega arith)
+held-at (low ∷ []) address range within from to = absurd (omega arith)
+held-at (low ∷ high ∷ ranges) address zero within from to = simp (le-leb low address from, le-leb address high to)
+held-at (low ∷ high ∷ ranges) address (suc range) within from to =
+    rw (held-at ranges address range (omega arith) (rw (next-low range) at from) (rw (next-high range) at to)) (or-true (leb low address && leb address high))
+
+pub in-range-held : {list : List ℕ} {address : ℕ} → InRange list address → holds list address ≡ true
+in-range-held {list} {address} r = held-at list address (r .range) (r .within) (r .from-low) (r .to-high)

@@ -1,0 +1,109 @@
+// Origination: a fresh PDU from settings and a payload.
+use pdu::Destination;
+use pdu::Header;
+use pdu::Written;
+ghost use mathlib.Core.Path.{_≡_};
+ghost use mathlib.Core.Bool.{cond, _&&_};
+ghost use Prim.Native.Nat.{_≤_};
+ghost use lib.Dec.{eqb};
+ghost use lib.ListN.{length};
+ghost use Rattle.pdu.specs.Sizes.{payloadLimit, destinationFlag, pduLength};
+ghost use Rattle.origin.specs.Origination.{freshHeader, originationNumber, originated, originatedOutput};
+
+// What a caller asks of a fresh PDU. Hop limit and port are wider than their bits, so that a number too large arrives whole and is refused.
+pub struct Settings {
+    pub source: u16,
+    pub destination: Destination,
+    pub hop_limit: u64,
+    pub port: u64,
+    pub time_stamp_request: bool,
+    pub with_path: bool,
+    pub reliable: bool,
+    pub pdu_id: u8,
+}
+
+// Writes a fresh PDU at the start of the output and answers 0 and its length. Answers 10 to 13 for a hop limit above 7, a port above 15, a payload
+// above its limit, or reliable service without a destination, and then 14 where the output is too short; each with length 0 and the output as it
+// was. The PDU ID counts for reliable service only. Output past the PDU keeps its bytes.
+pub fn originate(settings: Settings, payload: &[u8], output: &mut [u8]) -> Written
+    ensures { λ r. ⌜ (r ≡ originated settings (now (payload .entry)) (length (now (output .entry)))) × (now (output .exit) ≡ originatedOutput settings (now (payload .entry)) (now (output .entry))) ⌝ }
+{
+    let refusal = settings_refusal(settings, payload);
+    if refusal != 0 {
+        return refused(refusal);
+    }
+    let header = fresh_header(settings, payload.len());
+    let length = header.pdu_length();
+    if output.len() < length {
+        return refused(14);
+    }
+    let place = pdu::writing::put_header(output, header);
+    octets::put(output, place, payload);
+    Written { number: 0, length }
+}
+
+// A refusal's number, and nothing written.
+fn refused(number: u8) -> Written
+    ensures { λ r. ⌜ r ≡ record { number = number; length = 0 } ⌝ }
+{
+    Written { number, length: 0 }
+}
+
+// The refusals that need no output, 10 to 13: what is answered where there is just room enough.
+fn settings_refusal(settings: Settings, payload: &[u8]) -> u8
+    ensures { λ r. ⌜ r ≡ originationNumber settings (now (payload .entry)) (pduLength (freshHeader settings (length (now (payload .entry))))) ⌝ }
+{
+    if 7 < settings.hop_limit {
+        return 10;
+    }
+    if 15 < settings.port {
+        return 11;
+    }
+    if Header::PAYLOAD_LIMIT < payload.len() {
+        return 12;
+    }
+    let destination = settings.destination;
+    if unaddressed(settings.reliable, destination) {
+        return 13;
+    }
+    0
+}
+
+// Reliable service without a destination.
+fn unaddressed(reliable: bool, destination: Destination) -> bool
+    ensures { λ r. ⌜ r ≡ (reliable && eqb (destinationFlag destination) 0) ⌝ }
+{
+    match destination {
+        Destination::Everyone => reliable,
+        Destination::Address(_) => false,
+    }
+}
+
+fn fresh_header(settings: Settings, payload_length: usize) -> Header
+    requires { ⌜ (settings .«hop_limit» ≤ 7) × (settings .port ≤ 15) × («payload_length» ≤ payloadLimit) ⌝ }
+    ensures { λ r. ⌜ r ≡ freshHeader settings «payload_length» ⌝ }
+{
+    let destination = settings.destination;
+    Header {
+        protocol: only_if(settings.reliable, 1),
+        time_stamp_request: settings.time_stamp_request,
+        path_bit: settings.with_path,
+        port: settings.port as u8,
+        encrypted: false,
+        reserved: 0,
+        ack: false,
+        added_header: false,
+        hop_limit: settings.hop_limit as u8,
+        payload_length: payload_length as u16,
+        source: settings.source,
+        destination,
+        pdu_id: only_if(settings.reliable, settings.pdu_id),
+        path_count: 0,
+    }
+}
+
+fn only_if(called: bool, byte: u8) -> u8
+    ensures { λ r. ⌜ r ≡ cond called byte 0 ⌝ }
+{
+    if called { byte } else { 0 }
+}
