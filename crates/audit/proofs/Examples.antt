@@ -5,10 +5,16 @@ use Rattle.pdu.specs.Reading.{readOf}
 use Rattle.octets.specs.Numbers.{_gives_, _orElse_}
 use Rattle.pdu.specs.Writing.{headerBytes, pathBytes, encode}
 use Rattle.origin.specs.Origination.{freshHeader, fresh, originationNumber, originated}
+use Rattle.octets.specs.Octets.{over}
+use Rattle.pdu.specs.Parts.{addressesAt, inPath}
+use Rattle.lists.specs.Lists.{lowAboveHigh, faultOf, firstFault, holds}
+use Rattle.node.specs.Decision.{passFault, deliveryFault, repeatFault, listOrReadingFault, givenTwice, deliveryNumber, repeatNumber, delivered, taken}
+use Rattle.node.specs.Repeat.{repeated}
+use Rattle.node.specs.Answers.{answerOf, outputAfter}
 use Rattle.audit.specs.Examples.{CheckedByHand}
 
 pub checked : CheckedByHand
-unfolding readOf headerOf originated originationNumber freshHeader fresh encode headerBytes pathBytes _gives_ _orElse_
+unfolding readOf headerOf originated originationNumber freshHeader fresh encode headerBytes pathBytes _gives_ _orElse_ over addressesAt inPath lowAboveHigh faultOf firstFault holds passFault deliveryFault repeatFault listOrReadingFault givenTwice deliveryNumber repeatNumber delivered taken repeated answerOf outputAfter
 checked =
     record {
       p1 = (refl, refl);
@@ -21,8 +27,20 @@ checked =
       p7 = (refl, refl);
       example-header = refl;
       example-payload = refl;
+      p8 = refl;
+      p8-output = refl;
+      p9 = refl;
+      p9-delivered = refl;
+      p9-output = refl;
+      p10 = refl;
+      p10-output = refl;
+      p11 = refl;
+      p11-output = refl;
+      p12 = refl;
+      p12-output = refl;
       p13-refused = refl;
       p13-not-trimmed = (refl, refl);
       p13-taken = refl;
       p13-written = refl;
+      p14 = refl;
     }

@@ -1,14 +1,19 @@
 -- Document 01, "Checked by hand": the cases marked P, in one table. `proofs/Examples.antt` computes every line of it.
 use Prim.Native.Nat.{ℕ}
-use mathlib.Core.Bool.{true, false}
-use mathlib.Core.List.{List, [], _∷_}
+use mathlib.Core.Bool.{Bool, true, false}
+use mathlib.Core.List.{List, [], _∷_, _++_}
 use mathlib.Core.Path.{_≡_}
+use lib.ListN.{length, set, replicate}
 use Rattle.pdu.specs.declared.Destination.the-variants.{Everyone, Address}
 use Rattle.pdu.specs.declared.Refusal.the-variants.{TooShort, WrongVersion, UnknownProtocol, NoDestination, HeaderCut, PayloadCut}
 use Rattle.pdu.specs.declared.Reading.the-variants.{Pdu, Refused}
 use Rattle.pdu.specs.Reading.{readOf, refusalNumber}
 use Rattle.pdu.specs.Parts.{payloadIn}
 use Rattle.pdu.specs.Header.{headerOf}
+use Rattle.node.specs.declared.Settings.{Settings}
+use Rattle.node.specs.declared.Answer.{Answer}
+use Rattle.node.specs.Decision.{Lists, listsOf, delivered}
+use Rattle.node.specs.Answers.{answerOf, outputAfter}
 use Rattle.origin.specs.declared.Settings as asked
 use Rattle.origin.specs.Origination.{fresh, originated}
 
@@ -30,6 +35,40 @@ asking hop =
       reliable = false;
       «pdu_id» = 0;
     }
+
+-- a node of that address, echo on or off, repeating, all lists off and empty
+abbrev pub nodeAt : ℕ → Bool → Settings
+nodeAt own echo =
+    record {
+      own = own;
+      echo = echo;
+      repeating = true;
+      «source_pass» = false;
+      «source_reject» = false;
+      «destination_pass» = false;
+      «destination_reject» = false;
+    }
+
+abbrev pub noLists : Lists
+noLists = listsOf [] [] [] []
+
+-- the example repeated by node 2000, as document 01 prints it
+abbrev pub exampleRepeated : List ℕ
+exampleRepeated =
+    0x03 ∷ 0x00 ∷ 0x00 ∷ 0x0B ∷ 0x03 ∷ 0xE8 ∷ 0x06 ∷ 0x40 ∷ 0x01 ∷ 0x07 ∷ 0xD0 ∷ 0x70 ∷ 0x01 ∷ 0x08 ∷ 0x12 ∷ 0x12 ∷ 0x03 ∷ 0x24 ∷ 0x13 ∷ 0x22
+    ∷ 0x02 ∷ 0x76 ∷ []
+
+-- an output of 30 bytes
+abbrev pub blank : List ℕ
+blank = replicate 30 0xFF
+
+-- what a node leaves in it
+abbrev pub answers : Settings → List ℕ → Answer
+answers settings received = answerOf settings noLists (length blank) received
+
+-- one number twice, with nothing delivered and nothing repeated, for a PDU of so many bytes
+abbrev pub twice : ℕ → ℕ → Answer
+twice n bytes = record { delivery = n; repeat = n; «delivered_place» = 0; «delivered_length» = 0; «repeated_length» = 0; taken = bytes }
 
 pub record CheckedByHand : Type 0 where
   -- 5 bytes of zero: 1
@@ -85,8 +124,38 @@ pub record CheckedByHand : Type 0 where
       })
   pub example-payload : payloadIn (headerOf example) example
       ≡ 0x70 ∷ 0x01 ∷ 0x08 ∷ 0x12 ∷ 0x12 ∷ 0x03 ∷ 0x24 ∷ 0x13 ∷ 0x22 ∷ 0x02 ∷ 0x76 ∷ []
+  -- the example at node 2000: 39 and 0, nothing delivered, repeated as printed, and the output past the repeat kept
+  pub p8 : answers (nodeAt 2000 true) example
+      ≡ record { delivery = 39; repeat = 0; «delivered_place» = 0; «delivered_length» = 0; «repeated_length» = 22; taken = 20 }
+  pub p8-output : outputAfter (nodeAt 2000 true) noLists example blank ≡ exampleRepeated ++ replicate 8 0xFF
+  -- the same at node 1600: 0 and 41, the payload delivered, the output as it was
+  pub p9 : answers (nodeAt 1600 true) example
+      ≡ record { delivery = 0; repeat = 41; «delivered_place» = 9; «delivered_length» = 11; «repeated_length» = 0; taken = 20 }
+  pub p9-delivered : delivered (nodeAt 1600 true) noLists (length blank) example
+      ≡ 0x70 ∷ 0x01 ∷ 0x08 ∷ 0x12 ∷ 0x12 ∷ 0x03 ∷ 0x24 ∷ 0x13 ∷ 0x22 ∷ 0x02 ∷ 0x76 ∷ []
+  pub p9-output : outputAfter (nodeAt 1600 true) noLists example blank ≡ blank
+  -- P8's output at node 2000, echo on: 30 twice, although its hop limit is 0
+  pub p10 : answers (nodeAt 2000 true) exampleRepeated ≡ twice 30 22
+  pub p10-output : outputAfter (nodeAt 2000 true) noLists exampleRepeated blank ≡ blank
+  -- the same, echo off: 39 and 37
+  pub p11 : answers (nodeAt 2000 false) exampleRepeated
+      ≡ record { delivery = 39; repeat = 37; «delivered_place» = 0; «delivered_length» = 0; «repeated_length» = 0; taken = 22 }
+  pub p11-output : outputAfter (nodeAt 2000 false) noLists exampleRepeated blank ≡ blank
+  -- hop 7, otherwise the example: repeated with 7
+  pub p12 : answers (nodeAt 2000 true) (set example 2 0x70) ≡ answers (nodeAt 2000 true) example
+  pub p12-output : outputAfter (nodeAt 2000 true) noLists (set example 2 0x70) blank ≡ set exampleRepeated 2 0x70 ++ replicate 8 0xFF
   -- hop setting 15 refused with 10; so are 263 and 2^32 + 7, which a narrower number would have taken for 7; 7 taken, and on the air as 7
   pub p13-refused : originated (asking 15) [] 100 ≡ record { number = 10; length = 0 }
   pub p13-not-trimmed : (originated (asking 263) [] 100 ≡ record { number = 10; length = 0 }) × (originated (asking 4294967303) [] 100 ≡ record { number = 10; length = 0 })
   pub p13-taken : originated (asking 7) [] 100 ≡ record { number = 0; length = 6 }
   pub p13-written : fresh (asking 7) [] ≡ 0x00 ∷ 0x00 ∷ 0x70 ∷ 0x00 ∷ 0x00 ∷ 0x05 ∷ []
+  -- a source pass list on and empty: 31
+  pub p14 : answers (record {
+    own = 2000;
+    echo = true;
+    repeating = true;
+    «source_pass» = true;
+    «source_reject» = false;
+    «destination_pass» = false;
+    «destination_reject» = false;
+  }) example ≡ twice 31 20

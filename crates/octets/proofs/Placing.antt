@@ -118,3 +118,12 @@ over-set bytes output i byte h = rw (set-append-left bytes (drop (length bytes) 
 pub take-over : (bytes output : List ℕ) (n : ℕ) → length bytes ≡ n → take n (over bytes output) ≡ bytes
 unfolding over
 take-over bytes output n e = take-at bytes (drop (length bytes) output) n e
+
+-- the place after a part is a place of the output
+pub after-within : (output : List ℕ) (place : ℕ) (part : List ℕ) → place ≤ length output → placeAfter output place part ≤ length output
+unfolding placeAfter
+after-within output place part h = go (leb (place + length part) (length output)) refl
+  where
+    go : (t : Bool) → leb (place + length part) (length output) ≡ t → cond t (place + length part) place ≤ length output
+    go true e = leb-true _ _ e
+    go false e = h

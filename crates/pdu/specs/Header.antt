@@ -77,7 +77,8 @@ pduIdPlace byte0 = destinationPlace + 2 * destinationBit byte0
 abbrev pub pathCountPlace : ℕ → ℕ
 pathCountPlace byte0 = pduIdPlace byte0 + flag (eqb (protocol byte0) 1)
 
--- what bytes show of the fields that may be missing: everyone without a destination, PDU ID 0 and path count 0 without one
+-- what bytes show of the fields that may be missing: a PDU without a destination is for everyone ("One PDU at one node"); a PDU ID or path count that
+-- is not there is shown as 0
 abbrev pub destinationIn : List ℕ → Destination
 destinationIn bytes = cond (isSet (destinationBit (at bytes 0))) (Address (wordAt bytes destinationPlace)) Everyone
 

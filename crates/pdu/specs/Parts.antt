@@ -1,4 +1,4 @@
--- Document 01, "Header, byte by byte", its last sentences: the path's addresses, and the payload that follows the header.
+-- Document 01, "Header, byte by byte", below the table: the path's addresses, and the payload that follows the header.
 use Prim.Native.Nat.{ℕ, zero, suc, _+_}
 use mathlib.Core.Bool.{Bool, false, _||_}
 use mathlib.Core.List.{List, [], _∷_}
@@ -21,7 +21,7 @@ pathIn header bytes = addressesAt bytes (pathStart header) (pathEntries header)
 abbrev pub pathAddress : Header → List ℕ → ℕ → ℕ
 pathAddress header bytes i = getD (pathIn header bytes) i 0
 
--- whether an address is anywhere in a path
+-- whether an address is anywhere in a path ("One PDU at one node", 3)
 unfoldable pub inPath : ℕ → List ℕ → Bool
 inPath address [] = false
 inPath address (entry ∷ path) = eqb entry address || inPath address path

@@ -13,6 +13,7 @@ use Rattle.pdu.specs.declared.Reading.the-variants.{Pdu, Refused}
 use Rattle.pdu.specs.Header.{isSet, version, protocol, destinationBit, headerOf}
 use Rattle.pdu.specs.Sizes.{fixedLength, headerLength, pduLength}
 
+-- a path count that lies past the end is shown as 0, but its own byte counts in the header's length, so such a header is cut
 unfoldable pub readOf : List ℕ → Reading
 readOf bytes =
     cond (ltb (length bytes) fixedLength) (Refused TooShort)

@@ -1,0 +1,6 @@
+pub mod Tests
+pub mod Repeating
+pub mod Answering
+pub mod Encoded
+pub mod Heard
+pub mod ShutOut

@@ -1,0 +1,24 @@
+use mathlib.Core.Path.{sym}
+use Rattle.node.proofs.Tests.{and-false}
+use borrow.Author.Needs.{needs}
+use Rattle.node.proofs.destination_is_outside.Statement.{statement}
+use Rattle.node.proofs.destination_is_outside.Tie as tie
+
+enum-told : tie.Need-enum-told
+enum-told c = search needs
+
+enum-known-destination : tie.Need-enum-known-destination
+enum-known-destination c = search needs
+
+is-outside-requires : tie.Need-is-outside-requires
+is-outside-requires c κs = search needs
+
+returns : tie.Need-returns
+returns c = rw (c .enum-told .given .1) (sym (and-false (c .before .before .before .args .on)))
+
+returns-2 : tie.Need-returns-2
+returns-2 c = rw (c .before .before .destination .given .1) (c .is-outside .ensures)
+
+pub destination-is-outside-spec : {M : Type 1} → statement M
+destination-is-outside-spec =
+    tie.close (tie.spec enum-told enum-known-destination is-outside-requires returns returns-2)

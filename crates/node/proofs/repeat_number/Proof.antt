@@ -1,0 +1,46 @@
+use mathlib.Core.Path.{sym, _∙_}
+use Rattle.node.specs.Decision.{repeatFault}
+use Rattle.octets.proofs.Numbering.{gives-here, gives-later, gives-last, gives-none}
+use borrow.Author.Tests.{eq-eqb, ne-eqb}
+use native.Mathlib.Omega.{arith}
+use borrow.Author.Needs.{needs}
+use Rattle.node.proofs.repeat_number.Statement.{statement}
+use Rattle.node.proofs.repeat_number.Tie as tie
+
+is-for-own-requires : tie.Need-is-for-own-requires
+is-for-own-requires c κs = search needs
+
+returns : tie.Need-returns
+unfolding repeatFault
+returns c = sym (gives-here _ 41 _ (omega arith) (sym (c .before .is-for-own .ensures) ∙ c .if1 .taken))
+
+returns-2 : tie.Need-returns-2
+unfolding repeatFault
+returns-2 c = sym (gives-later _ 41 _ (sym (c .before .before .before .is-for-own .ensures) ∙ c .before .before .if1 .left) ∙ gives-here _ 36 _ (omega arith) (c .if2 .taken))
+
+returns-3 : tie.Need-returns-3
+unfolding repeatFault
+returns-3 c = sym (gives-later _ 41 _ (sym (c .before .before .before .before .before .is-for-own .ensures) ∙ c .before .before .before .before .if1 .left) ∙ gives-later _ 36 _ (c .before .before .if2 .left) ∙ gives-here _ 37 _ (omega arith) (eq-eqb _ _ (c .if3 .taken)))
+
+path-is-full-requires : tie.Need-path-is-full-requires
+path-is-full-requires c κs = search needs
+
+returns-4 : tie.Need-returns-4
+unfolding repeatFault
+returns-4 c = sym (gives-later _ 41 _ (sym (c .before .before .before .before .before .before .before .is-for-own .ensures) ∙ c .before .before .before .before .before .before .if1 .left) ∙ gives-later _ 36 _ (c .before .before .before .before .if2 .left) ∙ gives-later _ 37 _ (ne-eqb _ _ (c .before .before .if3 .left)) ∙ gives-last _ 38 (sym (c .before .path-is-full .ensures) ∙ c .if4 .taken))
+
+returns-5 : tie.Need-returns-5
+unfolding repeatFault
+returns-5 c = sym (gives-later _ 41 _ (sym (c .before .before .before .before .before .before .before .is-for-own .ensures) ∙ c .before .before .before .before .before .before .if1 .left) ∙ gives-later _ 36 _ (c .before .before .before .before .if2 .left) ∙ gives-later _ 37 _ (ne-eqb _ _ (c .before .before .if3 .left)) ∙ gives-none _ 38 (sym (c .before .path-is-full .ensures) ∙ c .if4 .left))
+
+pub repeat-number-spec : {M : Type 1} → statement M
+repeat-number-spec =
+    tie.close
+    (tie.spec
+    is-for-own-requires
+    returns
+    returns-2
+    returns-3
+    path-is-full-requires
+    returns-4
+    returns-5)

@@ -1,0 +1,3 @@
+pub mod Decision
+pub mod Repeat
+pub mod Answers

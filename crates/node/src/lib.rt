@@ -1,0 +1,289 @@
+// One PDU at one node: what is delivered, what is repeated, and the repeated PDU.
+ghost use mathlib.Core.Path.{_≡_};
+ghost use mathlib.Core.Bool.{true, not, cond, _&&_};
+ghost use Prim.Native.Nat.{_<_, _≤_};
+ghost use lib.Dec.{eqb, ltb};
+ghost use Rattle.pdu.specs.Sizes.{pathLimit, headerLength, pduLength};
+ghost use lib.ListN.{length, take, drop};
+ghost use Rattle.octets.specs.Octets.{over};
+ghost use Rattle.pdu.specs.declared.Reading.the-variants.{Pdu};
+ghost use Rattle.pdu.specs.Reading.{readOf};
+ghost use Rattle.lists.specs.Lists.{four, firstFault, holds};
+ghost use Rattle.node.specs.Decision.{Lists, listsOf, listOrReadingFault, destinationIsIn, destinationIsOutside, isForOwn, isForAnother, isEcho, passFault, deliveryFault, repeatFault};
+ghost use Rattle.node.specs.Repeat.{repeated, repeatedLength};
+ghost use Rattle.node.specs.Answers.{answerOf, outputAfter};
+use pdu::Destination;
+use pdu::Header;
+use pdu::Reading;
+
+mod repeat;
+
+// What a node is set to. Each of the four lists is on or off; an empty pass list that is on passes nothing.
+pub struct Settings {
+    pub own: u16,
+    pub echo: bool,
+    pub repeating: bool,
+    pub source_pass: bool,
+    pub source_reject: bool,
+    pub destination_pass: bool,
+    pub destination_reject: bool,
+}
+
+// What a node answers for one PDU. The delivered payload lies at `delivered_place` in the received bytes; place and length are 0 where nothing is
+// delivered. `repeated_length` is 0 where nothing is repeated, and `taken` is 0 where a list is at fault or no PDU can be read.
+pub struct Answer {
+    pub delivery: u8,
+    pub repeat: u8,
+    pub delivered_place: usize,
+    pub delivered_length: usize,
+    pub repeated_length: usize,
+    pub taken: usize,
+}
+
+fn is_echo(settings: Settings, header: Header, received: &[u8]) -> bool
+    ensures { λ r. ⌜ r ≡ isEcho settings header (now (received .entry)) ⌝ }
+{
+    if settings.echo {
+        if header.path_bit {
+            return pdu::parts::path_has(received, header, settings.own);
+        }
+    }
+    false
+}
+
+fn is_outside(on: bool, list: &[u16], address: u16) -> bool
+    ensures { λ r. ⌜ r ≡ (on && not (holds (now (list .entry)) address)) ⌝ }
+{
+    if on {
+        !lists::holds(list, address)
+    } else {
+        false
+    }
+}
+
+fn is_in(on: bool, list: &[u16], address: u16) -> bool
+    ensures { λ r. ⌜ r ≡ (on && holds (now (list .entry)) address) ⌝ }
+{
+    if on {
+        lists::holds(list, address)
+    } else {
+        false
+    }
+}
+
+fn destination_is_outside(on: bool, list: &[u16], destination: Destination) -> bool
+    ensures { λ r. ⌜ r ≡ (on && destinationIsOutside (now (list .entry)) destination) ⌝ }
+{
+    match destination {
+        Destination::Everyone => false,
+        Destination::Address(address) => is_outside(on, list, address),
+    }
+}
+
+fn destination_is_in(on: bool, list: &[u16], destination: Destination) -> bool
+    ensures { λ r. ⌜ r ≡ (on && destinationIsIn (now (list .entry)) destination) ⌝ }
+{
+    match destination {
+        Destination::Everyone => false,
+        Destination::Address(address) => is_in(on, list, address),
+    }
+}
+
+fn is_for_own(own: u16, destination: Destination) -> bool
+    ensures { λ r. ⌜ r ≡ isForOwn own destination ⌝ }
+{
+    match destination {
+        Destination::Everyone => false,
+        Destination::Address(address) => address == own,
+    }
+}
+
+fn is_for_another(own: u16, destination: Destination) -> bool
+    ensures { λ r. ⌜ r ≡ isForAnother own destination ⌝ }
+{
+    match destination {
+        Destination::Everyone => false,
+        Destination::Address(address) => address != own,
+    }
+}
+
+// The numbers 30 to 34, or 0. The source that is looked up is the PDU's.
+fn passing_number<'a>(
+    settings: Settings,
+    source_pass: &'a [u16],
+    source_reject: &'a [u16],
+    destination_pass: &'a [u16],
+    destination_reject: &'a [u16],
+    header: Header,
+    received: &[u8],
+) -> u8
+    ensures { λ r. ⌜ r ≡ passFault settings (listsOf (now («source_pass» .entry)) (now («source_reject» .entry)) (now («destination_pass» .entry)) (now («destination_reject» .entry))) header (now (received .entry)) ⌝ }
+{
+    let destination = header.destination;
+    if is_echo(settings, header, received) {
+        return 30;
+    }
+    if is_outside(settings.source_pass, source_pass, header.source) {
+        return 31;
+    }
+    if is_in(settings.source_reject, source_reject, header.source) {
+        return 32;
+    }
+    if destination_is_outside(settings.destination_pass, destination_pass, destination) {
+        return 33;
+    }
+    if destination_is_in(settings.destination_reject, destination_reject, destination) {
+        return 34;
+    }
+    0
+}
+
+// 39 or 35, or 0 where the payload is delivered.
+fn delivery_number(settings: Settings, header: Header) -> u8
+    ensures { λ r. ⌜ r ≡ deliveryFault settings header ⌝ }
+{
+    let destination = header.destination;
+    if is_for_another(settings.own, destination) {
+        return 39;
+    }
+    if header.added_header { 35 } else { 0 }
+}
+
+// 41, 36, 37 or 38, or 0 where the PDU is repeated.
+fn repeat_number(settings: Settings, header: Header) -> u8
+    ensures { λ r. ⌜ r ≡ repeatFault settings header ⌝ }
+{
+    let destination = header.destination;
+    if is_for_own(settings.own, destination) {
+        return 41;
+    }
+    if !settings.repeating {
+        return 36;
+    }
+    if header.hop_limit == 0 {
+        return 37;
+    }
+    if path_is_full(header) { 38 } else { 0 }
+}
+
+fn path_is_full(header: Header) -> bool
+    ensures { λ r. ⌜ r ≡ (header .«path_bit» && eqb (header .«path_count») pathLimit) ⌝ }
+{
+    if header.path_bit {
+        header.path_count as usize == Header::PATH_LIMIT
+    } else {
+        false
+    }
+}
+
+// What the node answers for the PDU at the start of `received`: document 01's order, lists first, then reading, echo, the lists' tests, delivery and
+// repeating. Any settings, lists, bytes and output get an answer. The output changes only where the repeat number is 0, and then only the bytes of
+// the repeated PDU at its start.
+pub fn hear<'a>(
+    settings: Settings,
+    source_pass: &'a [u16],
+    source_reject: &'a [u16],
+    destination_pass: &'a [u16],
+    destination_reject: &'a [u16],
+    received: &[u8],
+    output: &mut [u8],
+) -> Answer
+    ensures { λ r. ⌜ (r ≡ answerOf settings (listsOf (now («source_pass» .entry)) (now («source_reject» .entry)) (now («destination_pass» .entry)) (now («destination_reject» .entry))) (length (now (output .entry))) (now (received .entry))) × (now (output .exit) ≡ outputAfter settings (listsOf (now («source_pass» .entry)) (now («source_reject» .entry)) (now («destination_pass» .entry)) (now («destination_reject» .entry))) (now (received .entry)) (now (output .entry))) ⌝ }
+{
+    let fault = lists::fault(
+        source_pass,
+        source_reject,
+        destination_pass,
+        destination_reject,
+    );
+    if fault != 0 {
+        return given_twice(fault, 0);
+    }
+    let reading = pdu::read(received);
+    let Reading::Pdu(header) = reading else {
+        return given_twice(pdu::reading_number(reading), 0);
+    };
+    let number = passing_number(
+        settings,
+        source_pass,
+        source_reject,
+        destination_pass,
+        destination_reject,
+        header,
+        received,
+    );
+    if number != 0 {
+        return given_twice(number, header.pdu_length());
+    }
+    decide(settings, received, header, output)
+}
+
+// Delivery and repeating, of a PDU that no earlier number stopped.
+fn decide(settings: Settings, received: &[u8], header: Header, output: &mut [u8]) -> Answer
+    requires { ⌜ readOf (now received) ≡ Pdu header ⌝ }
+    ensures { λ r. ⌜ ((lists : Lists) → listOrReadingFault lists (now (received .entry)) ≡ 0 → passFault settings lists header (now (received .entry)) ≡ 0 → (r ≡ answerOf settings lists (length (now (output .entry))) (now (received .entry))) × (now (output .exit) ≡ outputAfter settings lists (now (received .entry)) (now (output .entry)))) ⌝ }
+{
+    let delivery = delivery_number(settings, header);
+    let repeat = repeat_number(settings, header);
+    if repeat != 0 {
+        return answered(header, delivery, repeat, 0);
+    }
+    let length = repeat::put_repeat(settings, received, header, output);
+    if length == 0 {
+        return given_twice(40, header.pdu_length());
+    }
+    answered(header, delivery, 0, length)
+}
+
+fn given_twice(number: u8, taken: usize) -> Answer
+    ensures { λ r. ⌜ r ≡ record { delivery = number; repeat = number; «delivered_place» = 0; «delivered_length» = 0; «repeated_length» = 0; taken = taken } ⌝ }
+{
+    Answer {
+        delivery: number,
+        repeat: number,
+        delivered_place: 0,
+        delivered_length: 0,
+        repeated_length: 0,
+        taken,
+    }
+}
+
+fn answered(header: Header, delivery: u8, repeat: u8, length: usize) -> Answer
+    ensures { λ r. ⌜ r ≡ record { delivery = delivery; repeat = repeat; «delivered_place» = cond (eqb delivery 0) (headerLength header) 0; «delivered_length» = cond (eqb delivery 0) (header .«payload_length») 0; «repeated_length» = length; taken = pduLength header } ⌝ }
+{
+    let taken = header.pdu_length();
+    if delivery == 0 {
+        return Answer {
+            delivery,
+            repeat,
+            delivered_place: header.header_length(),
+            delivered_length: header.payload_length as usize,
+            repeated_length: length,
+            taken,
+        };
+    }
+    Answer {
+        delivery,
+        repeat,
+        delivered_place: 0,
+        delivered_length: 0,
+        repeated_length: length,
+        taken,
+    }
+}
+
+// The delivered payload, as that part of the received bytes that the answer names; empty where nothing is delivered. Of an answer that is not this
+// node's for these bytes, what the bytes hold at that place, as far as they go.
+pub fn delivered(received: &[u8], answer: Answer) -> &[u8]
+    ensures { λ r. ⌜ now r ≡ take (answer .«delivered_length») (drop (answer .«delivered_place») (now (received .entry))) ⌝ }
+{
+    let place = answer.delivered_place;
+    let length = answer.delivered_length;
+    if received.len() < place {
+        return &received[0..0];
+    }
+    if received.len() - place < length {
+        return &received[place..];
+    }
+    &received[place..place + length]
+}

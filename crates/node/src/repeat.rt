@@ -1,0 +1,98 @@
+// The repeated PDU, put together in a scratch array and copied to the output.
+use pdu::Header;
+ghost use mathlib.Core.Path.{_≡_};
+ghost use mathlib.Core.Bool.{Bool, true, cond};
+ghost use mathlib.Core.List.{List};
+ghost use Prim.Native.Nat.{_+_, _-_, _*_, _<_, _≤_};
+ghost use lib.Dec.{ltb};
+ghost use lib.ListN.{length, set};
+ghost use Rattle.octets.specs.Octets.{wordBytes, over, placed, placeAfter};
+ghost use Rattle.pdu.specs.declared.Reading.the-variants.{Pdu};
+ghost use Rattle.pdu.specs.Header.{hopLimit};
+ghost use Rattle.pdu.specs.Sizes.{pathLimit, pathStart, headerLength};
+ghost use Rattle.pdu.specs.Reading.{readOf};
+ghost use Rattle.node.specs.Repeat.{loweredByte, loweredHeader, repeated, repeatedLength};
+ghost use Rattle.node.specs.Decision.{repeatFault};
+
+// Writes the repeat of the received PDU at the start of the output and answers its length. Where the output is too short, writes nothing and answers 0.
+pub(crate) fn put_repeat(
+    settings: super::Settings,
+    received: &[u8],
+    header: Header,
+    output: &mut [u8],
+) -> usize
+    requires { ⌜ (readOf (now received) ≡ Pdu header) × (repeatFault settings header ≡ 0) ⌝ }
+    ensures { λ r. ⌜ (r ≡ cond (ltb (length (now (output .entry))) (repeatedLength header)) 0 (repeatedLength header)) × (now (output .exit) ≡ cond (ltb (length (now (output .entry))) (repeatedLength header)) (now (output .entry)) (over (repeated (settings .own) (now (received .entry))) (now (output .entry)))) ⌝ }
+{
+    let length = repeated_length(header);
+    if output.len() < length {
+        return 0;
+    }
+    let mut scratch = [0u8; Header::PDU_LIMIT];
+    fill(&mut scratch, settings, received, header);
+    octets::put(output, 0, &scratch[..length]);
+    length
+}
+
+fn repeated_length(header: Header) -> usize
+    ensures { λ r. ⌜ r ≡ repeatedLength header ⌝ }
+{
+    let length = header.pdu_length();
+    if header.path_bit { length + 2 } else { length }
+}
+
+fn fill(scratch: &mut [u8], settings: super::Settings, received: &[u8], header: Header)
+    requires { ⌜ (readOf (now received) ≡ Pdu header) × (repeatFault settings header ≡ 0) × (repeatedLength header ≤ length (now scratch)) ⌝ }
+    ensures { λ _. ⌜ now (scratch .exit) ≡ over (repeated (settings .own) (now (received .entry))) (now (scratch .entry)) ⌝ }
+{
+    let own_place = put_lowered(scratch, received, header);
+    let payload_place = put_own(scratch, own_place, settings.own, header);
+    octets::put(
+        scratch,
+        payload_place,
+        pdu::parts::payload(received, header),
+    );
+}
+
+// The received header with its hop limit lowered.
+fn put_lowered(scratch: &mut [u8], received: &[u8], header: Header) -> usize
+    requires { ⌜ (readOf (now received) ≡ Pdu header) × (header .«hop_limit» ≡ 0 → ⊥) × (headerLength header ≤ length (now scratch)) ⌝ }
+    ensures { λ r. ⌜ (r ≡ headerLength header) × (now (scratch .exit) ≡ over (loweredHeader (now (received .entry))) (now (scratch .entry))) ⌝ }
+{
+    let end = header.header_length();
+    octets::put(scratch, 0, &received[..end]);
+    set_byte(scratch, 2, lowered_byte(received[2]));
+    end
+}
+
+fn lowered_byte(byte2: u8) -> u8
+    requires { ⌜ (hopLimit byte2 ≡ 0 → ⊥) ⌝ }
+    ensures { λ r. ⌜ r ≡ loweredByte byte2 ⌝ }
+{
+    if byte2 / 16 % 8 == 7 {
+        byte2
+    } else {
+        byte2 - 16
+    }
+}
+
+fn set_byte(scratch: &mut [u8], place: usize, byte: u8)
+    requires { ⌜ place < length (now scratch) ⌝ }
+    ensures { λ _. ⌜ now (scratch .exit) ≡ set (now (scratch .entry)) place byte ⌝ }
+{
+    scratch[place] = byte;
+}
+
+// With the path bit: the count one higher, and the own address after the last path entry.
+fn put_own(scratch: &mut [u8], place: usize, own: u16, header: Header) -> usize
+    requires { ⌜ (header .«path_bit» ≡ true → (header .«path_count» < pathLimit) × (pathStart header ≤ length (now scratch))) ⌝ }
+    ensures { λ r. ⌜ (r ≡ cond (header .«path_bit») (placeAfter (set (now (scratch .entry)) (pathStart header - 1) (header .«path_count» + 1)) place (wordBytes own)) place) × (now (scratch .exit) ≡ cond (header .«path_bit») (placed (set (now (scratch .entry)) (pathStart header - 1) (header .«path_count» + 1)) place (wordBytes own)) (now (scratch .entry))) ⌝ }
+{
+    if header.path_bit {
+        let count_place = header.path_start() - 1;
+        set_byte(scratch, count_place, header.path_count + 1);
+        octets::put_word(scratch, place, own)
+    } else {
+        place
+    }
+}
