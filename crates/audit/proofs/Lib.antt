@@ -3,4 +3,8 @@ pub mod Pdu
 pub mod Origin
 pub mod Lists
 pub mod Node
+pub mod Batch
+pub mod Text
+pub mod Job
+pub mod Run
 pub mod Examples

@@ -1,0 +1,79 @@
+-- Document 01, "A batch".
+use Prim.Native.Nat.{ℕ, zero, suc, _+_}
+use mathlib.Core.Bool.{Bool, not, cond, _||_}
+use mathlib.Core.List.{List, [], _∷_}
+use lib.Dec.{eqb, ltb, leb}
+use lib.ListN.{length, drop}
+use Rattle.node.specs.declared.Settings.{Settings}
+use Rattle.node.specs.declared.Answer.{Answer}
+use Rattle.node.specs.Decision.{Lists, listOrReadingFault, taken}
+use Rattle.node.specs.Answers.{answerOf, outputAfter}
+use Rattle.batch.specs.declared.Cursor.{Cursor}
+use Rattle.batch.specs.declared.Numbers.{Numbers}
+use Rattle.batch.specs.declared.Stepped.{Stepped}
+use Rattle.batch.specs.declared.Stepped.the-variants.{TooLong, Ended, Answered}
+
+-- "Sizes": a batch is 0 to 16,384 bytes
+abbrev pub batchLimit : ℕ
+batchLimit = 16384
+
+-- a batch over the size limit is answered 54 alone
+abbrev pub isTooLong : List ℕ → Bool
+isTooLong batch = ltb batchLimit (length batch)
+
+-- no bytes are left at the cursor, or the walk has ended
+abbrev pub isDone : List ℕ → Cursor → Bool
+isDone batch cursor = cursor .ended || leb (length batch) (cursor .place)
+
+-- where the next PDU starts: the byte after the last one's payload; at 1 to 6 or a list fault the walk ends
+abbrev pub nextCursor : Lists → List ℕ → ℕ → Cursor
+nextCursor lists batch place =
+    record { place = place + taken lists (drop place batch); ended = not (eqb (listOrReadingFault lists (drop place batch)) 0) }
+
+-- one step of the walk
+unfoldable pub stepOf : Settings → Lists → ℕ → List ℕ → Cursor → Stepped
+stepOf settings lists room batch cursor =
+    cond (isTooLong batch) TooLong
+    (cond (isDone batch cursor) Ended
+    (Answered (answerOf settings lists room (drop (cursor .place) batch)) (nextCursor lists batch (cursor .place))))
+
+-- what the step leaves in the output: what the node leaves there
+unfoldable pub stepOutput : Settings → Lists → List ℕ → Cursor → List ℕ → List ℕ
+stepOutput settings lists batch cursor output =
+    cond (isTooLong batch || isDone batch cursor) output (outputAfter settings lists (drop (cursor .place) batch) output)
+
+-- the two numbers of each outcome: 54 alone for a batch that is too long, none where no PDU is answered
+abbrev pub numbersOf : Stepped → Numbers
+numbersOf TooLong = record { delivery = 54; repeat = 54 }
+numbersOf Ended = record { delivery = 0; repeat = 0 }
+numbersOf (Answered answer cursor) = record { delivery = answer .delivery; repeat = answer .repeat }
+
+-- the whole walk: 54 for a batch that is too long, else 0; each PDU's offset and answer; the offset of the first byte not taken
+pub record Walk : Type 0 where
+  pub number : ℕ
+  pub offsets : List ℕ
+  pub answers : List Answer
+  pub end : ℕ
+
+-- a walk that ends at an offset without a further answer
+abbrev pub endingAt : ℕ → ℕ → Walk
+endingAt number offset = record { number = number; offsets = []; answers = []; end = offset }
+
+-- one PDU's offset and answer before a walk
+abbrev pub before : ℕ → Answer → Walk → Walk
+before offset answer walk =
+    record { number = walk .number; offsets = offset ∷ walk .offsets; answers = answer ∷ walk .answers; end = walk .end }
+
+-- the walk from an offset on, for at most so many PDUs
+unfoldable pub walkFrom : ℕ → Settings → Lists → ℕ → List ℕ → ℕ → Walk
+walkFrom zero settings lists room batch offset = endingAt 0 offset
+walkFrom (suc turns) settings lists room batch offset =
+    cond (leb (length batch) offset) (endingAt 0 offset)
+    (before offset (answerOf settings lists room (drop offset batch))
+    (cond (eqb (listOrReadingFault lists (drop offset batch)) 0)
+    (walkFrom turns settings lists room batch (offset + taken lists (drop offset batch)))
+    (endingAt 0 offset)))
+
+-- the walk of a batch; a PDU takes at least 6 bytes, so there are fewer of them than bytes
+unfoldable pub walk : Settings → Lists → ℕ → List ℕ → Walk
+walk settings lists room batch = cond (isTooLong batch) (endingAt 54 0) (walkFrom (length batch) settings lists room batch 0)

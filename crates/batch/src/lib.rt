@@ -1,0 +1,102 @@
+// The walk over a batch of PDUs that lie back to back.
+ghost use mathlib.Core.Path.{_≡_};
+ghost use mathlib.Core.Bool.{false};
+ghost use lib.ListN.{length};
+ghost use Rattle.node.specs.Decision.{listsOf};
+ghost use Rattle.batch.specs.Walk.{stepOf, stepOutput, numbersOf};
+use node::Answer;
+use node::Settings;
+
+// Where a walk has come to. It begins at `Cursor::start()`.
+pub struct Cursor {
+    pub place: usize,
+    pub ended: bool,
+}
+
+// What one step of a walk finds: a PDU's answer and the next cursor; no more PDU; or a batch over the size limit, answered 54 alone. The places in
+// the answer count from the PDU's first byte, which is at the cursor's place.
+pub enum Stepped {
+    Answered(Answer, Cursor),
+    Ended,
+    TooLong,
+}
+
+// The delivery number and the repeat number.
+pub struct Numbers {
+    pub delivery: u8,
+    pub repeat: u8,
+}
+
+impl Cursor {
+    pub const BATCH_LIMIT: usize = 16384;
+
+    // The cursor at a batch's first byte.
+    pub fn start() -> Cursor
+        ensures { λ r. ⌜ r ≡ record { place = 0; ended = false } ⌝ }
+    {
+        Cursor {
+            place: 0,
+            ended: false,
+        }
+    }
+}
+
+// One step of the walk: the node's answer for the PDU at the cursor, and the cursor of the next. Any cursor gets an answer; one past the batch's
+// end, or of a walk that ended, gets `Ended`. The output is changed as the node changes it, and not at all where no PDU is answered.
+pub fn step<'a>(
+    settings: Settings,
+    source_pass: &'a [u16],
+    source_reject: &'a [u16],
+    destination_pass: &'a [u16],
+    destination_reject: &'a [u16],
+    batch: &[u8],
+    cursor: Cursor,
+    output: &mut [u8],
+) -> Stepped
+    ensures { λ r. ⌜ (r ≡ stepOf settings (listsOf (now («source_pass» .entry)) (now («source_reject» .entry)) (now («destination_pass» .entry)) (now («destination_reject» .entry))) (length (now (output .entry))) (now (batch .entry)) cursor) × (now (output .exit) ≡ stepOutput settings (listsOf (now («source_pass» .entry)) (now («source_reject» .entry)) (now («destination_pass» .entry)) (now («destination_reject» .entry))) (now (batch .entry)) cursor (now (output .entry))) ⌝ }
+{
+    let place = cursor.place;
+    if Cursor::BATCH_LIMIT < batch.len() {
+        return Stepped::TooLong;
+    }
+    if cursor.ended {
+        return Stepped::Ended;
+    }
+    if batch.len() <= place {
+        return Stepped::Ended;
+    }
+    let answer = node::hear(
+        settings,
+        source_pass,
+        source_reject,
+        destination_pass,
+        destination_reject,
+        &batch[place..],
+        output,
+    );
+    let next = Cursor {
+        place: place + answer.taken,
+        ended: answer.taken == 0,
+    };
+    Stepped::Answered(answer, next)
+}
+
+// The two numbers that go with a step: the answer's; 54 twice for a batch that is too long; 0 twice where no PDU is answered.
+pub fn numbers_of(stepped: Stepped) -> Numbers
+    ensures { λ r. ⌜ r ≡ numbersOf stepped ⌝ }
+{
+    match stepped {
+        Stepped::Answered(answer, _) => Numbers {
+            delivery: answer.delivery,
+            repeat: answer.repeat,
+        },
+        Stepped::Ended => Numbers {
+            delivery: 0,
+            repeat: 0,
+        },
+        Stepped::TooLong => Numbers {
+            delivery: 54,
+            repeat: 54,
+        },
+    }
+}

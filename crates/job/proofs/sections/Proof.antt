@@ -1,0 +1,238 @@
+use Prim.Native.Nat.{ℕ, _<_, _^_}
+use mathlib.Core.List.{List}
+use denote.Ref.{now}
+use lib.ListN.{length}
+use Rattle.job.specs.declared.Section.{Section}
+use Rattle.job.specs.Jobs.{sectionsOf}
+use Rattle.job.proofs.Steps.{Come, afterFirst, afterSecond, afterThird, afterFourth, afterBatch, begun, next-list, next-batch, end-fits, batch-end-fits, left-over, whole, refused-here}
+use native.Mathlib.Omega.{arith}
+use borrow.Author.Needs.{needs}
+use Rattle.job.proofs.sections.Statement.{statement}
+use Rattle.job.proofs.sections.Tie as tie
+use Rattle.job.proofs.sections.Reads as reads
+use Rattle.job.proofs.sections.Lts as lts
+use Rattle.job.proofs.batch_at.Reads as batch-at-reads
+use Rattle.job.proofs.list_at.Reads as list-at-reads
+use Rattle.job.proofs.list_end.Reads as list-end-reads
+use Rattle.job.proofs.refusal.Reads as refusal-reads
+use Rattle.octets.proofs.byte.Reads as byte-reads
+use Rattle.octets.proofs.word.Reads as word-reads
+
+abbrev claims : lts.Claims
+claims = (
+  list-at-reads.Asked,
+  list-at-reads.Learnt,
+  refusal-reads.Asked,
+  refusal-reads.Learnt,
+  list-end-reads.Asked,
+  list-end-reads.Learnt,
+  batch-at-reads.Asked,
+  batch-at-reads.Learnt,
+  word-reads.Asked,
+  word-reads.Learnt,
+  byte-reads.Asked,
+  byte-reads.Learnt,
+)
+
+-- the five places where a section has been looked at, and the way back from each to the one before it
+abbrev First : Type 0
+First = lts.After-list-at claims reads.Pre reads.Post
+
+abbrev Second : Type 0
+Second = lts.After-list-at2 claims reads.Pre reads.Post
+
+abbrev Third : Type 0
+Third = lts.After-list-at3 claims reads.Pre reads.Post
+
+abbrev Fourth : Type 0
+Fourth = lts.After-list-at4 claims reads.Pre reads.Post
+
+abbrev Last : Type 0
+Last = lts.After-batch-at claims reads.Pre reads.Post
+
+abbrev to-first : Second → First
+to-first c = c .before .before .before .before .before
+
+abbrev to-second : Third → Second
+to-second c = c .before .before .before .before .before
+
+abbrev to-third : Fourth → Third
+to-third c = c .before .before .before .before .before
+
+abbrev to-fourth : Last → Fourth
+to-fourth c = c .before .before .before .before .before
+
+-- the bytes, and the section taken on the way to each place
+abbrev bytes-of : First → List ℕ
+bytes-of c = now (c .before .before .args .bytes)
+
+abbrev source-pass : Second → Section
+source-pass c = c .before .before .before .first .given .0 .0
+
+abbrev source-reject : Third → Section
+source-reject c = c .before .before .before .second .given .0 .0
+
+abbrev destination-pass : Fourth → Section
+destination-pass c = c .before .before .before .third .given .0 .0
+
+abbrev destination-reject : Last → Section
+destination-reject c = c .before .before .before .fourth .given .0 .0
+
+few-bytes : (c : First) → length (bytes-of c) < 2 ^ 64
+few-bytes c = omega arith
+
+first-step : (c : First) → Come (sectionsOf (bytes-of c)) (c .list-at .result) (afterFirst (bytes-of c))
+first-step c = begun (bytes-of c) (c .list-at .ensures)
+
+second-step : (c : Second) → let bytes = bytes-of (to-first c) in Come (sectionsOf bytes) (c .list-at2 .result) (afterSecond bytes (source-pass c))
+second-step c = next-list _ (afterSecond (bytes-of (to-first c))) (first-step (to-first c)) (c .before .before .before .first .given .1) (c .before .list-end .ensures) (c .list-at2 .ensures)
+
+third-step : (c : Third) → let s = to-second c in let bytes = bytes-of (to-first s) in Come (sectionsOf bytes) (c .list-at3 .result) (afterThird bytes (source-pass s) (source-reject c))
+third-step c = let s = to-second c in next-list _ (afterThird (bytes-of (to-first s)) (source-pass s)) (second-step s) (c .before .before .before .second .given .1) (c .before .list-end2 .ensures) (c .list-at3 .ensures)
+
+fourth-step : (c : Fourth) → let t = to-third c in let s = to-second t in let bytes = bytes-of (to-first s) in Come (sectionsOf bytes) (c .list-at4 .result) (afterFourth bytes (source-pass s) (source-reject t) (destination-pass c))
+fourth-step c = let t = to-third c in let s = to-second t in next-list _ (afterFourth (bytes-of (to-first s)) (source-pass s) (source-reject t)) (third-step t) (c .before .before .before .third .given .1) (c .before .list-end3 .ensures) (c .list-at4 .ensures)
+
+last-step : (c : Last) → let f = to-fourth c in let t = to-third f in let s = to-second t in let bytes = bytes-of (to-first s) in Come (sectionsOf bytes) (c .batch-at .result) (afterBatch bytes (source-pass s) (source-reject t) (destination-pass f) (destination-reject c))
+last-step c = let f = to-fourth c in let t = to-third f in let s = to-second t in next-batch _ (afterBatch (bytes-of (to-first s)) (source-pass s) (source-reject t) (destination-pass f)) (fourth-step f) (c .before .before .before .fourth .given .1) (c .before .list-end4 .ensures) (c .batch-at .ensures)
+
+list-at-requires : tie.Need-list-at-requires
+list-at-requires c κs = search needs
+
+enum-known-first : tie.Need-enum-known-first
+enum-known-first c = search needs
+
+enum-told : tie.Need-enum-told
+enum-told c = search needs
+
+refusal-requires : tie.Need-refusal-requires
+refusal-requires c κs = search needs
+
+returns : tie.Need-returns
+returns c = refused-here (first-step (c .before .before .before)) (c .before .enum-told .given .1) (c .refusal .ensures)
+
+list-end-requires : tie.Need-list-end-requires
+list-end-requires c κs = end-fits _ 3 (few-bytes (c .before .before .before)) (c .before .before .before .list-at .ensures) (c .before .first .given .1)
+
+list-at-requires-2 : tie.Need-list-at-requires-2
+list-at-requires-2 c κs = search needs
+
+enum-known-second : tie.Need-enum-known-second
+enum-known-second c = search needs
+
+enum-told-2 : tie.Need-enum-told-2
+enum-told-2 c = search needs
+
+refusal-requires-2 : tie.Need-refusal-requires-2
+refusal-requires-2 c κs = search needs
+
+returns-2 : tie.Need-returns-2
+returns-2 c = refused-here (second-step (c .before .before .before)) (c .before .enum-told2 .given .1) (c .refusal2 .ensures)
+
+list-end-requires-2 : tie.Need-list-end-requires-2
+list-end-requires-2 c κs = end-fits _ (c .before .before .before .before .list-end .result) (few-bytes (to-first (c .before .before .before))) (c .before .before .before .list-at2 .ensures) (c .before .second .given .1)
+
+list-at-requires-3 : tie.Need-list-at-requires-3
+list-at-requires-3 c κs = search needs
+
+enum-known-third : tie.Need-enum-known-third
+enum-known-third c = search needs
+
+enum-told-3 : tie.Need-enum-told-3
+enum-told-3 c = search needs
+
+refusal-requires-3 : tie.Need-refusal-requires-3
+refusal-requires-3 c κs = search needs
+
+returns-3 : tie.Need-returns-3
+returns-3 c = refused-here (third-step (c .before .before .before)) (c .before .enum-told3 .given .1) (c .refusal3 .ensures)
+
+list-end-requires-3 : tie.Need-list-end-requires-3
+list-end-requires-3 c κs = end-fits _ (c .before .before .before .before .list-end2 .result) (few-bytes (to-first (to-second (c .before .before .before)))) (c .before .before .before .list-at3 .ensures) (c .before .third .given .1)
+
+list-at-requires-4 : tie.Need-list-at-requires-4
+list-at-requires-4 c κs = search needs
+
+enum-known-fourth : tie.Need-enum-known-fourth
+enum-known-fourth c = search needs
+
+enum-told-4 : tie.Need-enum-told-4
+enum-told-4 c = search needs
+
+refusal-requires-4 : tie.Need-refusal-requires-4
+refusal-requires-4 c κs = search needs
+
+returns-4 : tie.Need-returns-4
+returns-4 c = refused-here (fourth-step (c .before .before .before)) (c .before .enum-told4 .given .1) (c .refusal4 .ensures)
+
+list-end-requires-4 : tie.Need-list-end-requires-4
+list-end-requires-4 c κs = end-fits _ (c .before .before .before .before .list-end3 .result) (few-bytes (to-first (to-second (to-third (c .before .before .before))))) (c .before .before .before .list-at4 .ensures) (c .before .fourth .given .1)
+
+batch-at-requires : tie.Need-batch-at-requires
+batch-at-requires c κs = search needs
+
+enum-known-last : tie.Need-enum-known-last
+enum-known-last c = search needs
+
+enum-told-5 : tie.Need-enum-told-5
+enum-told-5 c = search needs
+
+refusal-requires-5 : tie.Need-refusal-requires-5
+refusal-requires-5 c κs = search needs
+
+returns-5 : tie.Need-returns-5
+returns-5 c = refused-here (last-step (c .before .before .before)) (c .before .enum-told5 .given .1) (c .refusal5 .ensures)
+
+add-if1 : tie.Need-add-if1
+add-if1 c = record { fits = batch-end-fits _ (c .before .before .before .before .before .list-end4 .result) (few-bytes (to-first (to-second (to-third (to-fourth (c .before .before .before .before)))))) (c .before .before .before .before .batch-at .ensures) (c .before .before .last .given .1) }
+
+returns-6 : tie.Need-returns-6
+returns-6 c = let l = c .before .before .before .before .before in let f = to-fourth l in let t = to-third f in let s = to-second t in left-over (bytes-of (to-first s)) (source-pass s) (source-reject t) (destination-pass f) (destination-reject l) (c .before .before .before .last .given .0 .0) (last-step l) (c .before .before .before .last .given .1) (c .if1 .taken)
+
+word-requires : tie.Need-word-requires
+word-requires c κs = search needs
+
+byte-requires : tie.Need-byte-requires
+byte-requires c κs = search needs
+
+returns-7 : tie.Need-returns-7
+returns-7 c = let l = c .before .before .before .before .before .before .before in let f = to-fourth l in let t = to-third f in let s = to-second t in whole (bytes-of (to-first s)) (source-pass s) (source-reject t) (destination-pass f) (destination-reject l) (c .before .before .before .before .before .last .given .0 .0) (last-step l) (c .before .before .before .before .before .last .given .1) (c .before .word .ensures) (c .byte .ensures) (c .before .before .if1 .left)
+
+pub sections-spec : {M : Type 1} → statement M
+sections-spec =
+    tie.close
+    (tie.spec
+    list-at-requires
+    enum-known-first
+    enum-told
+    refusal-requires
+    returns
+    list-end-requires
+    list-at-requires-2
+    enum-known-second
+    enum-told-2
+    refusal-requires-2
+    returns-2
+    list-end-requires-2
+    list-at-requires-3
+    enum-known-third
+    enum-told-3
+    refusal-requires-3
+    returns-3
+    list-end-requires-3
+    list-at-requires-4
+    enum-known-fourth
+    enum-told-4
+    refusal-requires-4
+    returns-4
+    list-end-requires-4
+    batch-at-requires
+    enum-known-last
+    enum-told-5
+    refusal-requires-5
+    returns-5
+    add-if1
+    returns-6
+    word-requires
+    byte-requires
+    returns-7)

@@ -1,0 +1,117 @@
+-- Document 01, "The program relay": one job, read left to right. The first fault met gives the answer: 50, 51, 52, 54, or 20 when a range has been
+-- read; 53 last.
+use Prim.Native.Nat.{ℕ, zero, suc, _+_, _*_, _/_, _%_}
+use mathlib.Core.Bool.{cond}
+use mathlib.Core.List.{List, _++_}
+use lib.Dec.{eqb, ltb, leb}
+use lib.ListN.{length, take, drop, replicate}
+use Rattle.octets.specs.Numbers.{_gives_, _orElse_}
+use Rattle.octets.specs.Octets.{at, wordAt}
+use Rattle.pdu.specs.Parts.{addressesAt}
+use Rattle.node.specs.declared.Settings.{Settings}
+use Rattle.node.specs.Decision.{Lists}
+use Rattle.job.specs.declared.Section.{Section}
+use Rattle.job.specs.declared.Taken.{Taken}
+use Rattle.job.specs.declared.Taken.the-variants as taken
+use Rattle.job.specs.declared.Job.{Job}
+use Rattle.job.specs.declared.Reading.{Reading}
+use Rattle.job.specs.declared.Reading.the-variants as reading
+
+-- a list holds at most 64 ranges ("Sizes")
+abbrev pub rangeLimit : ℕ
+rangeLimit = 64
+
+-- a batch is at most 16,384 bytes ("Sizes")
+abbrev pub batchLimit : ℕ
+batchLimit = 16384
+
+-- so many ranges of 4 bytes from a place on: 50 where one is cut short, 20 where one that was read has its low above its high, or 0
+unfoldable pub rangesNumber : ℕ → List ℕ → ℕ → ℕ
+rangesNumber zero bytes place = 0
+rangesNumber (suc n) bytes place =
+    ltb (length bytes) (place + 4) gives 50
+    orElse ltb (wordAt bytes (place + 2)) (wordAt bytes place) gives 20
+    orElse rangesNumber n bytes (place + 4)
+
+-- the number of a list section at a place: its count byte, then its ranges
+unfoldable pub listNumber : List ℕ → ℕ → ℕ
+listNumber bytes place =
+    leb (length bytes) place gives 50 orElse ltb rangeLimit (at bytes place) gives 52 orElse rangesNumber (at bytes place) bytes (place + 1)
+
+-- the number of the batch section at a place: its length in 2 bytes, then that many bytes
+unfoldable pub batchNumber : List ℕ → ℕ → ℕ
+batchNumber bytes place =
+    ltb (length bytes) (place + 2) gives 50
+    orElse ltb batchLimit (wordAt bytes place) gives 54
+    orElse ltb (length bytes) (place + 2 + wordAt bytes place) gives 50
+
+-- a section taken: where its contents begin and how many they are (ranges, or bytes of the batch), or the refusal
+abbrev pub takenOf : ℕ → ℕ → ℕ → Taken
+takenOf number place count = cond (eqb number 0) (taken.At (record { place = place; count = count })) (taken.Refused number)
+
+-- a list section at a place: a count byte and that many ranges of 4 bytes
+unfoldable pub listAt : List ℕ → ℕ → Taken
+listAt bytes place = takenOf (listNumber bytes place) (place + 1) (at bytes place)
+
+-- the batch section at a place: the batch, after its length in 2 bytes
+unfoldable pub batchAt : List ℕ → ℕ → Taken
+batchAt bytes place = takenOf (batchNumber bytes place) (place + 2) (wordAt bytes place)
+
+-- what follows a section, or its refusal
+abbrev pub andThen : Taken → (Section → Reading) → Reading
+andThen (taken.At section) later = later section
+andThen (taken.Refused number) later = reading.Refused number
+
+-- where a list section ends
+abbrev pub listEnd : Section → ℕ
+listEnd section = section .place + 4 * section .count
+
+-- from byte 3 on: four list sections, the batch; nothing after it
+unfoldable pub sectionsOf : List ℕ → Reading
+sectionsOf bytes =
+    andThen (listAt bytes 3)
+    (λ a. andThen (listAt bytes (listEnd a))
+    (λ b. andThen (listAt bytes (listEnd b))
+    (λ c. andThen (listAt bytes (listEnd c))
+    (λ d. andThen (batchAt bytes (listEnd d))
+    (λ e. cond (ltb (e .place + e .count) (length bytes)) (reading.Refused 53)
+    (reading.Job (record { own = wordAt bytes 0; flags = at bytes 2; «source_pass» = a; «source_reject» = b; «destination_pass» = c; «destination_reject» = d; batch = e })))))))
+
+-- own address and flags, then the sections; bit 6 or 7 is set in flags above 63
+unfoldable pub jobOf : List ℕ → Reading
+jobOf bytes = cond (ltb (length bytes) 3) (reading.Refused 50) (cond (ltb 63 (at bytes 2)) (reading.Refused 51) (sectionsOf bytes))
+
+-- the flags: bit 0 echo, 1 repeating, 2 source pass on, 3 source reject on, 4 destination pass on, 5 destination reject on
+unfoldable pub settingsOf : Job → Settings
+settingsOf job =
+    record {
+      own = job .own;
+      echo = eqb (job .flags % 2) 1;
+      repeating = eqb (job .flags / 2 % 2) 1;
+      «source_pass» = eqb (job .flags / 4 % 2) 1;
+      «source_reject» = eqb (job .flags / 8 % 2) 1;
+      «destination_pass» = eqb (job .flags / 16 % 2) 1;
+      «destination_reject» = eqb (job .flags / 32 % 2) 1;
+    }
+
+-- a list's values, low and high of each range, most significant byte first
+abbrev pub valuesIn : List ℕ → Section → List ℕ
+valuesIn bytes section = addressesAt bytes (section .place) (2 * section .count)
+
+-- values at the start of an array of 128, which is 64 ranges ("Sizes"); 0 behind them
+unfoldable pub padded : List ℕ → List ℕ
+padded values = take 128 (values ++ replicate 128 0)
+
+-- the batch's bytes
+abbrev pub batchIn : List ℕ → Job → List ℕ
+batchIn bytes job = take (job .batch .count) (drop (job .batch .place) bytes)
+
+-- the four lists
+abbrev pub listsIn : List ℕ → Job → Lists
+listsIn bytes job =
+    record {
+      sourcePass = valuesIn bytes (job .«source_pass»);
+      sourceReject = valuesIn bytes (job .«source_reject»);
+      destinationPass = valuesIn bytes (job .«destination_pass»);
+      destinationReject = valuesIn bytes (job .«destination_reject»);
+    }

@@ -1,0 +1,254 @@
+// One job of the program relay: its own address, its flags, its four lists and its batch, found in the bytes that it was read as.
+ghost use mathlib.Core.Path.{_≡_};
+ghost use Prim.Native.Nat.{_+_, _*_, _%_, _<_, _≤_, _^_};
+ghost use lib.Dec.{eqb};
+ghost use lib.ListN.{length, getD};
+ghost use Rattle.job.specs.declared.Reading.the-variants.{Refused};
+ghost use Rattle.job.specs.Jobs.{rangesNumber, listAt, batchAt, andThen, listEnd, sectionsOf, jobOf, settingsOf, valuesIn, padded, batchIn};
+
+// Where a section's contents begin, and how many they are: ranges of 4 bytes, or the batch's bytes.
+pub struct Section {
+    pub place: usize,
+    pub count: usize,
+}
+
+// A section, or the number it was refused with.
+pub enum Taken {
+    At(Section),
+    Refused(u8),
+}
+
+// A job that has no fault. The sections lie in the bytes it was read from.
+pub struct Job {
+    pub own: u16,
+    pub flags: u8,
+    pub source_pass: Section,
+    pub source_reject: Section,
+    pub destination_pass: Section,
+    pub destination_reject: Section,
+    pub batch: Section,
+}
+
+// A job, or the number it was refused with.
+pub enum Reading {
+    Job(Job),
+    Refused(u8),
+}
+
+fn size(x: u8) -> usize
+    ensures { λ r. ⌜ (r ≡ x) × (r < 256) ⌝ }
+{
+    x as usize
+}
+
+fn wide(x: u16) -> usize
+    ensures { λ r. ⌜ (r ≡ x) × (r < 65536) ⌝ }
+{
+    x as usize
+}
+
+// The first fault of so many ranges: 50 for one cut short, 20 for one whose low is above its high, else 0.
+fn ranges_number(bytes: &[u8], start: usize, count: usize) -> u8
+    requires { ⌜ start ≤ length (now bytes) ⌝ }
+    ensures { λ r. ⌜ r ≡ rangesNumber count (now (bytes .entry)) start ⌝ }
+{
+    let mut place = start;
+    let mut left = count;
+    while left > 0 {
+        if bytes.len() - place < 4 {
+            return 50;
+        }
+        if octets::word(bytes, place + 2) < octets::word(bytes, place) {
+            return 20;
+        }
+        place += 4;
+        left -= 1;
+    }
+    0
+}
+
+// The list section at a place: its count byte, then that many ranges.
+// 50 where the count or a range is cut short, 52 for more than 64 ranges, 20 for a range whose low is above its high; the first of these that is met
+// from left to right. A count of 0 is an empty list, and a place past the end is a section cut short.
+pub fn list_at(bytes: &[u8], place: usize) -> Taken
+    ensures { λ r. ⌜ r ≡ listAt (now (bytes .entry)) place ⌝ }
+{
+    if bytes.len() <= place {
+        return Taken::Refused(50);
+    }
+    let count = size(bytes[place]);
+    if count > 64 {
+        return Taken::Refused(52);
+    }
+    let start = place + 1;
+    let number = ranges_number(bytes, start, count);
+    if number != 0 {
+        return Taken::Refused(number);
+    }
+    Taken::At(Section {
+        place: start,
+        count: count,
+    })
+}
+
+// The batch section at a place: its length in 2 bytes, then that many bytes.
+// 50 where the length is cut short, 54 for a length above 16,384, then 50 where the batch itself is cut short. What follows it is not looked at.
+pub fn batch_at(bytes: &[u8], place: usize) -> Taken
+    ensures { λ r. ⌜ r ≡ batchAt (now (bytes .entry)) place ⌝ }
+{
+    if bytes.len() < 2 {
+        return Taken::Refused(50);
+    }
+    if bytes.len() - 2 < place {
+        return Taken::Refused(50);
+    }
+    let count = wide(octets::word(bytes, place));
+    let start = place + 2;
+    let rest = bytes.len() - start;
+    if count > 16384 {
+        return Taken::Refused(54);
+    }
+    if rest < count {
+        return Taken::Refused(50);
+    }
+    Taken::At(Section {
+        place: start,
+        count: count,
+    })
+}
+
+fn list_end(section: Section) -> usize
+    requires { ⌜ listEnd section < 2 ^ 64 ⌝ }
+    ensures { λ r. ⌜ r ≡ listEnd section ⌝ }
+{
+    section.place + 4 * section.count
+}
+
+// The refusal of a section that was not taken.
+fn refusal(taken: Taken) -> Reading
+    ensures { λ r. ⌜ r ≡ andThen taken (λ section. Refused 0) ⌝ }
+{
+    match taken {
+        Taken::At(_) => Reading::Refused(0),
+        Taken::Refused(number) => Reading::Refused(number),
+    }
+}
+
+// The job's sections, from byte 3 on: what `list_at` gives for each list and `batch_at` for the batch, then 53 for bytes after the batch.
+fn sections(bytes: &[u8]) -> Reading
+    ensures { λ r. ⌜ r ≡ sectionsOf (now (bytes .entry)) ⌝ }
+{
+    let first = list_at(bytes, 3);
+    let Taken::At(source_pass) = first else {
+        return refusal(first);
+    };
+    let second = list_at(bytes, list_end(source_pass));
+    let Taken::At(source_reject) = second else {
+        return refusal(second);
+    };
+    let third = list_at(bytes, list_end(source_reject));
+    let Taken::At(destination_pass) = third else {
+        return refusal(third);
+    };
+    let fourth = list_at(bytes, list_end(destination_pass));
+    let Taken::At(destination_reject) = fourth else {
+        return refusal(fourth);
+    };
+    let last = batch_at(bytes, list_end(destination_reject));
+    let Taken::At(batch) = last else {
+        return refusal(last);
+    };
+    if batch.place + batch.count < bytes.len() {
+        return Reading::Refused(53);
+    }
+    Reading::Job(Job {
+        own: octets::word(bytes, 0),
+        flags: octets::byte(bytes, 2),
+        source_pass: source_pass,
+        source_reject: source_reject,
+        destination_pass: destination_pass,
+        destination_reject: destination_reject,
+        batch: batch,
+    })
+}
+
+// The job in the bytes, or the number of the first fault met from left to right.
+// 50 where the bytes end too soon, 51 for flags with bit 6 or 7 set, then what `list_at` gives for each list and `batch_at` for the batch; 53, for
+// bytes after the batch, comes last.
+pub fn read(bytes: &[u8]) -> Reading
+    ensures { λ r. ⌜ r ≡ jobOf (now (bytes .entry)) ⌝ }
+{
+    if bytes.len() < 3 {
+        return Reading::Refused(50);
+    }
+    if bytes[2] > 63 {
+        return Reading::Refused(51);
+    }
+    sections(bytes)
+}
+
+fn is_odd(x: u8) -> bool
+    ensures { λ r. ⌜ r ≡ eqb (x % 2) 1 ⌝ }
+{
+    x % 2 == 1
+}
+
+impl Job {
+    // What the job's own address and flags set a node to. Flags above 63, which no job that was read has, count by their lower six bits.
+    pub fn settings(self) -> node::Settings
+        ensures { λ r. ⌜ r ≡ settingsOf self ⌝ }
+    {
+        node::Settings {
+            own: self.own,
+            echo: is_odd(self.flags),
+            repeating: is_odd(self.flags / 2),
+            source_pass: is_odd(self.flags / 4),
+            source_reject: is_odd(self.flags / 8),
+            destination_pass: is_odd(self.flags / 16),
+            destination_reject: is_odd(self.flags / 32),
+        }
+    }
+}
+
+// The section's value at a place: low and high of the first range at 0 and 1, and so on.
+fn value_at(bytes: &[u8], section: Section, i: usize) -> u16
+    requires { ⌜ i < 128 ⌝ }
+    ensures { λ r. ⌜ r ≡ getD (valuesIn (now (bytes .entry)) section) i 0 ⌝ }
+{
+    if section.count <= i / 2 {
+        return 0;
+    }
+    if bytes.len() <= section.place {
+        return 0;
+    }
+    octets::word(bytes, section.place + 2 * i)
+}
+
+// The values of a list section, low, high, low, high and so on, at the start of the array; 0 behind them.
+// Bytes past the end count as 0. Of a section of more than 64 ranges, which no job that was read has, the first 64 are shown.
+pub fn values(bytes: &[u8], section: Section) -> [u16; 128]
+    ensures { λ r. ⌜ r ≡ padded (valuesIn (now (bytes .entry)) section) ⌝ }
+{
+    let mut values = [0u16; 128];
+    let mut i: usize = 0;
+    while i < 128 {
+        values[i] = value_at(bytes, section, i);
+        i += 1;
+    }
+    values
+}
+
+// The job's batch, as that part of the bytes. Where the bytes are not those that the job was read from, only what is there.
+pub fn batch(bytes: &[u8], job: Job) -> &[u8]
+    ensures { λ r. ⌜ now r ≡ batchIn (now (bytes .entry)) job ⌝ }
+{
+    let place = job.batch.place;
+    let count = job.batch.count;
+    if bytes.len() < place {
+        return &bytes[0..0];
+    }
+    if bytes.len() - place < count {
+        return &bytes[place..];
+    }
+    &bytes[place..place + count]
+}

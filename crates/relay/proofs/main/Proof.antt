@@ -1,0 +1,50 @@
+use mathlib.Core.Path.{sym}
+use lib.Seq.{length-take-le}
+use borrow.Author.Needs.{needs}
+use Rattle.relay.proofs.main.Statement.{statement}
+use Rattle.relay.proofs.main.Tie as tie
+
+slice-aggregate-read-full : tie.Need-slice-aggregate-read-full
+slice-aggregate-read-full c = search needs
+
+read-full-requires : tie.Need-read-full-requires
+read-full-requires c κs = search needs
+
+array-share-prefix-bytes : tie.Need-array-share-prefix-bytes
+array-share-prefix-bytes c = search needs
+
+slice-aggregate-relay : tie.Need-slice-aggregate-relay
+slice-aggregate-relay c = search needs
+
+slice-aggregate-relay-2 : tie.Need-slice-aggregate-relay-2
+slice-aggregate-relay-2 c = search needs
+
+relay-requires : tie.Need-relay-requires
+relay-requires c κs = search needs
+
+array-share-prefix-text : tie.Need-array-share-prefix-text
+array-share-prefix-text c = rw (c .before .relay .kept .1 .0) (c .before .relay .ensures .2)
+
+slice-aggregate-write-all : tie.Need-slice-aggregate-write-all
+slice-aggregate-write-all c = sym (length-take-le _ _ (rw (c .before .before .relay .kept .1 .0) (c .before .before .relay .ensures .2)))
+
+write-all-requires : tie.Need-write-all-requires
+write-all-requires c κs = search needs
+
+returns : tie.Need-returns
+returns c = search needs
+
+pub main-spec : {M : Type 1} → statement M
+main-spec =
+    tie.close
+    (tie.spec
+    slice-aggregate-read-full
+    read-full-requires
+    array-share-prefix-bytes
+    slice-aggregate-relay
+    slice-aggregate-relay-2
+    relay-requires
+    array-share-prefix-text
+    slice-aggregate-write-all
+    write-all-requires
+    returns)

@@ -1,0 +1,101 @@
+-- A job's lines, from what its parts promise.
+use Prim.Native.Nat.{ℕ, _*_, _≤_}
+use native.Mathlib.Omega.{arith}
+use mathlib.Core.List.{List, [], _∷_}
+use mathlib.Core.Path.{_≡_, refl, ap, sym, _∙_}
+use lib.ListN.{length, take, drop, length-take}
+use lib.Seq.{length-take-le}
+use Rattle.octets.specs.Octets.{placed, placeAfter}
+use Rattle.octets.proofs.Placing.{length-placed, after-within}
+use Rattle.node.specs.declared.Settings.{Settings}
+use Rattle.node.specs.Decision.{Lists, listsOf}
+use Rattle.batch.specs.Walk.{batchLimit, walk}
+use Rattle.text.specs.Text.{firstLine, refusedLine}
+use Rattle.job.specs.declared.Section.{Section}
+use Rattle.job.specs.declared.Job.{Job}
+use Rattle.job.specs.declared.Reading.the-variants as reading
+use Rattle.job.specs.Jobs.{jobOf, settingsOf, valuesIn, padded, listsIn, batchIn}
+use Rattle.job.proofs.Inversion.{job-in}
+use Rattle.job.proofs.Padding.{length-padded, values-start}
+use Rattle.run.specs.Run.{roomForOne, walkLines, batchLines, runLines, textWith, placeWith}
+
+-- a list's values, as the start of an array
+module _ (bytes : List ℕ) (section : Section) (few : section .count ≤ 64) (array : List ℕ) (e : array ≡ padded (valuesIn bytes section)) where
+  pub in-array : 2 * section .count ≤ length array
+  in-array = omega (arith, ap length e, length-padded (valuesIn bytes section))
+
+  pub list-long : 2 * section .count ≡ length (take (2 * section .count) array)
+  list-long = sym (length-take-le (2 * section .count) array in-array)
+
+  pub list-is : take (2 * section .count) array ≡ valuesIn bytes section
+  list-is = ap (take (2 * section .count)) e ∙ values-start bytes section few
+
+pub lists-are : (bytes : List ℕ) (job : Job) (a b c d : List ℕ) → a ≡ valuesIn bytes (job .«source_pass») → b ≡ valuesIn bytes (job .«source_reject»)
+    → c ≡ valuesIn bytes (job .«destination_pass») → d ≡ valuesIn bytes (job .«destination_reject») → listsOf a b c d ≡ listsIn bytes job
+lists-are bytes job a b c d ea eb ec ed = λ i. record { sourcePass = ea i; sourceReject = eb i; destinationPass = ec i; destinationReject = ed i }
+
+pub batch-short : (bytes : List ℕ) (job : Job) (batch : List ℕ) → jobOf bytes ≡ reading.Job job → batch ≡ batchIn bytes job → length batch ≤ batchLimit
+batch-short bytes job batch e eb =
+    let i = job-in bytes job e in
+    omega (arith, ap length eb, length-take (job .batch .count) (drop (job .batch .place) bytes), i .batch-limit)
+
+-- the first line, then those of the walk
+own-is : (job : Job) → settingsOf job .own ≡ job .own
+unfolding settingsOf
+own-is job = refl
+
+place-first : (text line : List ℕ) (later : List (List ℕ)) → placeWith text 0 (line ∷ later) ≡ placeWith (placed text 0 line) (placeAfter text 0 line) later
+unfolding placeWith
+place-first text line later = refl
+
+text-first : (text line : List ℕ) (later : List (List ℕ)) → textWith text 0 (line ∷ later) ≡ textWith (placed text 0 line) (placeAfter text 0 line) later
+unfolding textWith
+text-first text line later = refl
+
+batch-put : (settings : Settings) (lists : Lists) (batch text t1 t2 : List ℕ) (own p1 p2 : ℕ) → own ≡ settings .own
+    → (p1 ≡ placeAfter text 0 (firstLine own)) × (t1 ≡ placed text 0 (firstLine own))
+    → (p2 ≡ placeWith t1 p1 (walkLines settings lists batch 0 (walk settings lists roomForOne batch)))
+    × (t2 ≡ textWith t1 p1 (walkLines settings lists batch 0 (walk settings lists roomForOne batch)))
+    → (p2 ≡ placeWith text 0 (batchLines settings lists batch)) × (t2 ≡ textWith text 0 (batchLines settings lists batch))
+unfolding batchLines
+batch-put settings lists batch text t1 t2 own p1 p2 eo e1 e2 =
+    let later = walkLines settings lists batch 0 (walk settings lists roomForOne batch) in (
+      e2 .0 ∙ ap (λ (t : List ℕ). placeWith t p1 later) (e1 .1) ∙ ap (λ (p : ℕ). placeWith (placed text 0 (firstLine own)) p later) (e1 .0)
+          ∙ sym (place-first text (firstLine own) later) ∙ ap (λ (o : ℕ). placeWith text 0 (firstLine o ∷ later)) eo,
+      e2 .1 ∙ ap (λ (t : List ℕ). textWith t p1 later) (e1 .1) ∙ ap (λ (p : ℕ). textWith (placed text 0 (firstLine own)) p later) (e1 .0)
+          ∙ sym (text-first text (firstLine own) later) ∙ ap (λ (o : ℕ). textWith text 0 (firstLine o ∷ later)) eo,
+    )
+
+pub job-put : (bytes : List ℕ) (job : Job) (settings : Settings) (lists : Lists) (batch text t1 t2 : List ℕ) (p1 p2 : ℕ)
+    → settings ≡ settingsOf job → lists ≡ listsIn bytes job → batch ≡ batchIn bytes job
+    → (p1 ≡ placeAfter text 0 (firstLine (job .own))) × (t1 ≡ placed text 0 (firstLine (job .own)))
+    → (p2 ≡ placeWith t1 p1 (walkLines settings lists batch 0 (walk settings lists roomForOne batch)))
+    × (t2 ≡ textWith t1 p1 (walkLines settings lists batch 0 (walk settings lists roomForOne batch)))
+    → (p2 ≡ placeWith text 0 (batchLines (settingsOf job) (listsIn bytes job) (batchIn bytes job)))
+    × (t2 ≡ textWith text 0 (batchLines (settingsOf job) (listsIn bytes job) (batchIn bytes job)))
+job-put bytes job settings lists batch text t1 t2 p1 p2 es el eb e1 e2 =
+    let own = sym (ap (λ (s : Settings). s .own) es ∙ own-is job) in
+    rw (← es, ← el, ← eb) (batch-put settings lists batch text t1 t2 (job .own) p1 p2 own e1 e2)
+
+-- a job's lines by its reading
+module _ (bytes text : List ℕ) where
+  pub refused-put : (number : ℕ) (t : List ℕ) (p : ℕ) → jobOf bytes ≡ reading.Refused number
+      → (p ≡ placeAfter text 0 (refusedLine number)) × (t ≡ placed text 0 (refusedLine number))
+      → (p ≡ placeWith text 0 (runLines bytes)) × (t ≡ textWith text 0 (runLines bytes))
+  unfolding runLines textWith placeWith
+  refused-put number t p e r = rw e r
+
+  pub read-put : (job : Job) (t : List ℕ) (p : ℕ) → jobOf bytes ≡ reading.Job job
+      → (p ≡ placeWith text 0 (batchLines (settingsOf job) (listsIn bytes job) (batchIn bytes job)))
+      × (t ≡ textWith text 0 (batchLines (settingsOf job) (listsIn bytes job) (batchIn bytes job)))
+      → (p ≡ placeWith text 0 (runLines bytes)) × (t ≡ textWith text 0 (runLines bytes))
+  unfolding runLines
+  read-put job t p e r = rw e r
+
+-- lines never end past the text
+pub place-within : (lines : List (List ℕ)) (text : List ℕ) (place : ℕ) → place ≤ length text → placeWith text place lines ≤ length text
+unfolding placeWith
+place-within [] text place h = h
+place-within (line ∷ later) text place h =
+    let long = length-placed text place line in
+    omega (arith, long, place-within later (placed text place line) (placeAfter text place line) (omega (arith, long, after-within text place line h)))

@@ -1,0 +1,62 @@
+-- Document 01, "The program `relay`": the lines that a batch prints.
+use Prim.Native.Nat.{ℕ, _+_}
+use mathlib.Core.Bool.{cond}
+use mathlib.Core.List.{List, [], _∷_, _++_}
+use lib.Dec.{eqb}
+use lib.ListN.{length, drop}
+use Rattle.octets.specs.Octets.{placed, placeAfter}
+use Rattle.pdu.specs.Sizes.{pduLimit}
+use Rattle.node.specs.declared.Settings.{Settings}
+use Rattle.node.specs.Decision.{Lists, deliveryNumber, repeatNumber}
+use Rattle.node.specs.Repeat.{repeated}
+use Rattle.batch.specs.Walk.{Walk, walk}
+use Rattle.job.specs.declared.Reading.{Reading}
+use Rattle.job.specs.declared.Reading.the-variants.{Job, Refused}
+use Rattle.job.specs.Jobs.{jobOf, settingsOf, listsIn, batchIn}
+use Rattle.text.specs.Text.{firstLine, pduLine, lastLine, refusedLine}
+
+-- the program's output for one PDU has room for the longest, so that none is too long for it
+abbrev pub roomForOne : ℕ
+roomForOne = pduLimit
+
+-- the repeated PDU, or nothing
+abbrev pub repeatedOrNone : Settings → Lists → List ℕ → List ℕ
+repeatedOrNone settings lists received = cond (eqb (repeatNumber settings lists roomForOne received) 0) (repeated (settings .own) received) []
+
+-- the line of the PDU at an offset
+abbrev pub lineAt : Settings → Lists → List ℕ → ℕ → ℕ → List ℕ
+lineAt settings lists batch number offset =
+    pduLine number offset (deliveryNumber settings lists roomForOne (drop offset batch)) (repeatNumber settings lists roomForOne (drop offset batch))
+    (repeatedOrNone settings lists (drop offset batch))
+
+-- a line for each offset, numbered from a number on
+unfoldable pub pduLines : Settings → Lists → List ℕ → ℕ → List ℕ → List (List ℕ)
+pduLines settings lists batch number [] = []
+pduLines settings lists batch number (offset ∷ later) = lineAt settings lists batch number offset ∷ pduLines settings lists batch (number + 1) later
+
+-- the PDU lines of a walk after so many were printed, and the last line
+unfoldable pub walkLines : Settings → Lists → List ℕ → ℕ → Walk → List (List ℕ)
+walkLines settings lists batch printed w =
+    pduLines settings lists batch (printed + 1) (w .offsets) ++ (lastLine (printed + length (w .offsets)) (w .end) ∷ [])
+
+-- all lines of a batch that is not too long: own address, a line a PDU, the last line
+unfoldable pub batchLines : Settings → Lists → List ℕ → List (List ℕ)
+batchLines settings lists batch = firstLine (settings .own) ∷ walkLines settings lists batch 0 (walk settings lists roomForOne batch)
+
+-- lines put into a text one after another; one that does not fit is left out
+unfoldable pub textWith : List ℕ → ℕ → List (List ℕ) → List ℕ
+textWith text place [] = text
+textWith text place (line ∷ later) = textWith (placed text place line) (placeAfter text place line) later
+
+unfoldable pub placeWith : List ℕ → ℕ → List (List ℕ) → ℕ
+placeWith text place [] = place
+placeWith text place (line ∷ later) = placeWith (placed text place line) (placeAfter text place line) later
+
+-- the lines of a job: a bad job prints only `refused` and the number
+abbrev pub jobLines : List ℕ → Reading → List (List ℕ)
+jobLines bytes (Refused number) = refusedLine number ∷ []
+jobLines bytes (Job job) = batchLines (settingsOf job) (listsIn bytes job) (batchIn bytes job)
+
+-- what `relay` prints for the bytes of a job, line by line
+unfoldable pub runLines : List ℕ → List (List ℕ)
+runLines bytes = jobLines bytes (jobOf bytes)

@@ -1,0 +1,106 @@
+// One run of `relay`: a job's bytes to the text that is printed.
+ghost use mathlib.Core.Path.{_≡_};
+ghost use Prim.Native.Nat.{_≤_};
+ghost use lib.ListN.{length};
+ghost use Rattle.node.specs.Decision.{Lists, listsOf};
+ghost use Rattle.batch.specs.Walk.{batchLimit, walk};
+ghost use Rattle.job.specs.declared.Reading.the-variants as reading;
+ghost use Rattle.job.specs.Jobs.{jobOf, settingsOf, listsIn, batchIn};
+ghost use Rattle.run.specs.Run.{roomForOne, walkLines, batchLines, runLines, textWith, placeWith};
+use batch::Cursor;
+use batch::Stepped;
+use job::Job;
+use job::Reading;
+use node::Settings;
+use pdu::Header;
+
+// Writes what `relay` prints for a job's bytes into the text, line after line from its start, and answers where the lines end. Any bytes get an
+// answer. A line that no longer fits is left out; a text of 262,144 bytes has room for the lines of every job.
+pub fn relay(bytes: &[u8], text: &mut [u8]) -> usize
+    ensures { λ r. ⌜ (r ≡ placeWith (now (text .entry)) 0 (runLines (now (bytes .entry)))) × (now (text .exit) ≡ textWith (now (text .entry)) 0 (runLines (now (bytes .entry)))) × (r ≤ length (now (text .entry))) ⌝ }
+{
+    let reading = job::read(bytes);
+    match reading {
+        Reading::Refused(number) => text::put_refused_line(text, 0, number),
+        Reading::Job(job) => put_job(text, bytes, job),
+    }
+}
+
+fn put_job(text: &mut [u8], bytes: &[u8], job: Job) -> usize
+    requires { ⌜ jobOf (now bytes) ≡ reading.Job job ⌝ }
+    ensures { λ r. ⌜ (r ≡ placeWith (now (text .entry)) 0 (batchLines (settingsOf job) (listsIn (now (bytes .entry)) job) (batchIn (now (bytes .entry)) job))) × (now (text .exit) ≡ textWith (now (text .entry)) 0 (batchLines (settingsOf job) (listsIn (now (bytes .entry)) job) (batchIn (now (bytes .entry)) job))) ⌝ }
+{
+    let source_pass = job::values(bytes, job.source_pass);
+    let source_reject = job::values(bytes, job.source_reject);
+    let destination_pass = job::values(bytes, job.destination_pass);
+    let destination_reject = job::values(bytes, job.destination_reject);
+    let source_passes = 2 * job.source_pass.count;
+    let source_rejects = 2 * job.source_reject.count;
+    let destination_passes = 2 * job.destination_pass.count;
+    let destination_rejects = 2 * job.destination_reject.count;
+    let place = text::put_first_line(text, 0, job.own);
+    put_walk(
+        text,
+        place,
+        job.settings(),
+        &source_pass[..source_passes],
+        &source_reject[..source_rejects],
+        &destination_pass[..destination_passes],
+        &destination_reject[..destination_rejects],
+        job::batch(bytes, job),
+    )
+}
+
+// A line for each PDU of the batch, and the last line.
+fn put_walk<'a>(
+    text: &mut [u8],
+    place: usize,
+    settings: Settings,
+    source_pass: &'a [u16],
+    source_reject: &'a [u16],
+    destination_pass: &'a [u16],
+    destination_reject: &'a [u16],
+    batch: &[u8],
+) -> usize
+    requires { ⌜ length (now batch) ≤ batchLimit ⌝ }
+    ensures { λ r. ⌜ (r ≡ placeWith (now (text .entry)) place (walkLines settings (listsOf (now («source_pass» .entry)) (now («source_reject» .entry)) (now («destination_pass» .entry)) (now («destination_reject» .entry))) (now (batch .entry)) 0 (walk settings (listsOf (now («source_pass» .entry)) (now («source_reject» .entry)) (now («destination_pass» .entry)) (now («destination_reject» .entry))) roomForOne (now (batch .entry))))) × (now (text .exit) ≡ textWith (now (text .entry)) place (walkLines settings (listsOf (now («source_pass» .entry)) (now («source_reject» .entry)) (now («destination_pass» .entry)) (now («destination_reject» .entry))) (now (batch .entry)) 0 (walk settings (listsOf (now («source_pass» .entry)) (now («source_reject» .entry)) (now («destination_pass» .entry)) (now («destination_reject» .entry))) roomForOne (now (batch .entry))))) ⌝ }
+{
+    let mut repeated = [0u8; Header::PDU_LIMIT];
+    let mut next_place = place;
+    let mut lines: u64 = 0;
+    let mut offset: usize = 0;
+    let mut ended = false;
+    loop {
+        let cursor = Cursor {
+            place: offset,
+            ended,
+        };
+        let stepped = batch::step(
+            settings,
+            source_pass,
+            source_reject,
+            destination_pass,
+            destination_reject,
+            batch,
+            cursor,
+            &mut repeated,
+        );
+        let Stepped::Answered(answer, next) = stepped else {
+            break;
+        };
+        lines += 1;
+        let length = answer.repeated_length;
+        next_place = text::put_pdu_line(
+            text,
+            next_place,
+            lines,
+            offset as u64,
+            answer.delivery,
+            answer.repeat,
+            &repeated[..length],
+        );
+        offset = next.place;
+        ended = next.ended;
+    }
+    text::put_last_line(text, next_place, lines, offset as u64)
+}

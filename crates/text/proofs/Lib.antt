@@ -1,0 +1,6 @@
+pub mod Example
+pub mod Decimal
+pub mod Parts
+pub mod Hex
+pub mod Shown
+pub mod Lines

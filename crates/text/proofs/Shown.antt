@@ -1,0 +1,49 @@
+-- The repeated PDU as it is shown, and the room for it.
+use Prim.Native.Nat.{ℕ, zero, suc, _+_, _*_, _-_, _/_, _≤_, _<_}
+use native.Mathlib.Omega.{arith}
+use mathlib.Core.Bool.{Bool, true, false, cond}
+use mathlib.Core.List.{List, [], _∷_}
+use mathlib.Core.Path.{_≡_, refl, sym, _∙_}
+use lib.Dec.{leb, eqb, leb·zero, eqb·suc-zero}
+use lib.ListN.{length}
+use borrow.Author.Tests.{le-leb, lt-leb, leb-true, leb-false, eq-eqb, ne-eqb}
+use Rattle.text.proofs.Hex.{length-hex}
+use Rattle.text.specs.Text.{text, hex, shown}
+
+pub length-shown : (repeated : List ℕ) → length (shown repeated) ≡ cond (eqb (length repeated) 0) 1 (2 * length repeated)
+unfolding shown
+length-shown [] = refl
+length-shown (byte ∷ repeated) = simp (eqb·suc-zero (length repeated)) (length-hex (byte ∷ repeated))
+
+-- what is shown takes a place at least, and the line's end one more
+pub too-small : (output place start repeated : ℕ) → output < place + start + 2 → false ≡ leb (place + start + cond (eqb repeated 0) 1 (2 * repeated) + 1) output
+too-small output place start zero h = sym (lt-leb (place + start + 1 + 1) output (omega arith))
+too-small output place start (suc repeated) h = rw (eqb·suc-zero repeated) (sym (lt-leb (place + start + 2 * suc repeated + 1) output (omega arith)))
+
+same-tests : (a b c d : ℕ) → (a ≤ b → c ≤ d) → (b < a → d < c) → leb a b ≡ leb c d
+same-tests a b c d within without = go (leb a b) refl
+  where
+    go : (test : Bool) → leb a b ≡ test → test ≡ leb c d
+    go true e = sym (le-leb c d (within (leb-true a b e)))
+    go false e = sym (lt-leb c d (without (leb-false a b e)))
+
+-- half of the room that is left, against the whole of what is wanted
+pub same-room : (output place start repeated : ℕ) → place ≤ output → start ≤ output - place → 2 ≤ output - place - start
+    → leb repeated ((output - place - start - 1) / 2) ≡ leb (place + start + cond (eqb repeated 0) 1 (2 * repeated) + 1) output
+same-room output place start zero h k l = leb·zero ((output - place - start - 1) / 2) ∙ sym (le-leb (place + start + 1 + 1) output (omega arith))
+same-room output place start (suc repeated) h k l =
+    rw (eqb·suc-zero repeated)
+    (same-tests (suc repeated) ((output - place - start - 1) / 2) (place + start + 2 * suc repeated + 1) output (λ fits. omega arith) (λ fits. omega arith))
+
+pub shown-at-most : (repeated : List ℕ) → length (shown repeated) ≤ 1 + 2 * length repeated
+unfolding shown
+shown-at-most [] = omega arith
+shown-at-most (byte ∷ repeated) = simp (eqb·suc-zero (length repeated)) (omega (arith, length-hex (byte ∷ repeated)))
+
+pub shown-none : (repeated : List ℕ) → length repeated ≡ 0 → shown repeated ≡ text "-"
+unfolding shown
+shown-none repeated h = rw (eq-eqb (length repeated) 0 h)
+
+pub shown-some : (repeated : List ℕ) → (length repeated ≡ 0 → ⊥) → shown repeated ≡ hex repeated
+unfolding shown
+shown-some repeated h = rw (ne-eqb (length repeated) 0 h)
