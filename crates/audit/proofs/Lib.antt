@@ -7,4 +7,6 @@ pub mod Batch
 pub mod Text
 pub mod Job
 pub mod Run
+pub mod Bound
+pub mod Demands
 pub mod Examples

@@ -1,0 +1,73 @@
+-- The three demands, each from its parts.
+use Prim.Native.Nat.{ℕ, _≤_}
+use mathlib.Core.Bool.{cond}
+use mathlib.Core.List.{List, [], _∷_, _++_}
+use mathlib.Core.Path.{_≡_, refl, ap, sym, _∙_}
+use lib.ListN.{length}
+use Rattle.pdu.specs.declared.Header.{Header}
+use Rattle.pdu.specs.declared.Reading.the-variants.{Pdu}
+use Rattle.pdu.specs.Sizes.{pduLimit}
+use Rattle.pdu.specs.Reading.{readOf}
+use Rattle.pdu.specs.Parts.{pathIn, payloadIn}
+use Rattle.origin.specs.Origination.{originated, originatedOutput}
+use Rattle.node.specs.declared.Settings.{Settings}
+use Rattle.node.specs.Decision.{Lists, repeatFault, repeatNumber}
+use Rattle.node.specs.Repeat.{repeatedHeader, repeated}
+use Rattle.origin.proofs.ReadBack.{fresh-back}
+use Rattle.origin.proofs.Deciding.{hop-refused}
+use Rattle.pdu.proofs.Same.{written-same}
+use Rattle.pdu.proofs.Back.{read-encode, path-encode, payload-encode}
+use Rattle.node.proofs.Heard.{repeats}
+use Rattle.node.proofs.Repeating.{ready}
+use Rattle.node.proofs.Encoded.{alone-reads, alone-path, alone-payload, repeat-short}
+use Rattle.batch.proofs.Walking as walking
+use Rattle.flood.specs.Air.{address}
+use Rattle.flood.proofs.Demand.{demand-3, demand-3-bytes}
+use Rattle.flood.proofs.Demand as demand
+use Rattle.flood.proofs.Exact as exact
+use Rattle.audit.specs.Demands.{AllBytes, Demand1, Demand2, Demand3}
+
+pub total : Demand1
+unfolding originated originatedOutput
+total = record { hop-refused = λ settings payload output h. rw (← hop-refused settings payload (length output) h) (refl, refl) }
+
+same-header : (a b : Header) → Pdu a ≡ Pdu b → a ≡ b
+same-header a b e = cc
+
+repeat-back : (settings : Settings) (lists : Lists) (room : ℕ) (received : List ℕ) (header : Header) → AllBytes received → readOf received ≡ Pdu header
+    → repeatNumber settings lists room received ≡ 0
+    → (readOf (repeated (settings .own) received) ≡ Pdu (repeatedHeader header))
+    × (pathIn (repeatedHeader header) (repeated (settings .own) received) ≡ pathIn header received ++ cond (header .«path_bit») (settings .own ∷ []) [])
+    × (payloadIn (repeatedHeader header) (repeated (settings .own) received) ≡ payloadIn header received)
+    × (length (repeated (settings .own) received) ≤ pduLimit)
+repeat-back settings lists room received header small e z =
+    let r = repeats settings lists room received z in
+    let same : r .header ≡ header = same-header (r .header) header (sym (r .read) ∙ e) in
+    let ok = ready settings received header e (ap (repeatFault settings) (sym same) ∙ r .repeats) in (
+      alone-reads received header small e ok (settings .own),
+      alone-path received header small e ok (settings .own),
+      alone-payload received header small e ok (settings .own),
+      repeat-short received header small e ok (settings .own),
+    )
+
+pub exactly : Demand2
+exactly =
+    record {
+      written-again = λ bytes header small e. written-same bytes header small e;
+      reads-back = λ header path payload rest ok. (read-encode ok rest, path-encode ok rest, payload-encode ok rest);
+      fresh-reads-back = λ settings payload rest room e. fresh-back settings payload room e rest .reads;
+      repeat-reads-back = λ settings lists room received header small e z. repeat-back settings lists room received header small e z;
+      stepping-walks = λ settings lists room batch. walking.stepping-walks settings lists room batch;
+    }
+
+pub bounded : Demand3
+bounded =
+    record {
+      bounded = λ nodes all settings payload room message receptions once. demand-3 nodes all settings payload room message receptions once;
+      bytes-bounded = λ nodes all settings payload room message receptions once. demand-3-bytes nodes all settings payload room message receptions once;
+      reached = λ nodes all settings payload room message free roomy everyone fits receptions once complete. (
+        exact.reached nodes all settings payload room message free roomy (λ n m. exact.for-everyone (address n) (settings .destination) everyone) fits receptions once complete,
+        exact.reached-bytes nodes all settings payload room message free roomy (λ n m. exact.for-everyone (address n) (settings .destination) everyone) fits receptions once complete,
+      );
+      schedule = λ nodes all settings payload room message. demand.schedule nodes all settings payload room message;
+    }

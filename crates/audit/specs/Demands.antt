@@ -1,0 +1,84 @@
+-- The three demands, each as one record; `proofs/Demands.antt` gives each of them and cites its parts.
+use Prim.Native.Nat.{ℕ, _+_, _*_, _<_, _≤_}
+use mathlib.Core.Bool.{false, cond}
+use mathlib.Core.List.{List, [], _∷_, _++_, map, List·Memᴰ, List·Nodup}
+use mathlib.Core.Logic.{_⊎_}
+use mathlib.Core.Path.{_≡_}
+use lib.ListN.{length, take, drop}
+use Rattle.octets.specs.Octets.{at}
+use Rattle.pdu.specs.declared.Destination.the-variants.{Everyone}
+use Rattle.pdu.specs.declared.Header.{Header}
+use Rattle.pdu.specs.declared.Reading.the-variants.{Pdu}
+use Rattle.pdu.specs.Sizes.{pathLimit, pduLimit, pduLength}
+use Rattle.pdu.specs.Reading.{readOf}
+use Rattle.pdu.specs.Parts.{pathIn, payloadIn}
+use Rattle.pdu.specs.Writing.{encode}
+use Rattle.pdu.proofs.Back.{WellFormed}
+use Rattle.origin.specs.declared.Settings as asked
+use Rattle.origin.specs.Origination.{freshHeader, fresh, originationNumber, originated, originatedOutput}
+use Rattle.node.specs.declared.Settings.{Settings}
+use Rattle.node.specs.Decision.{Lists, repeatNumber}
+use Rattle.node.specs.Repeat.{repeatedHeader, repeated}
+use Rattle.node.specs.Answers.{answerOf}
+use Rattle.batch.specs.Walk.{walk}
+use Rattle.batch.proofs.Walking.{steps}
+use Rattle.bound.specs.Bound.{terms, bound, bytesBound}
+use Rattle.flood.specs.Flood.{Reception, Bounded}
+use Rattle.flood.specs.Complete.{Complete}
+use Rattle.flood.specs.Air.{Node, Nodes, Open, Originated, address, sends, pathOf, onTheAir, bytesOnTheAir}
+
+-- numbers that are bytes
+abbrev pub AllBytes : List ℕ → Type 0
+AllBytes bytes = (i : ℕ) → at bytes i < 256
+
+-- Demand 1, total. That every public function answers any input, and how, are its contract and this crate's `Promised` theorems, one for each
+-- function, in the files named by the crates. Here: a hop setting above 7 is refused, whatever else is set, with nothing written.
+pub record Demand1 : Type 0 where
+  pub hop-refused : (settings : asked.Settings) (payload output : List ℕ) → 7 < settings .«hop_limit»
+      → (originated settings payload (length output) ≡ record { number = 10; length = 0 }) × (originatedOutput settings payload output ≡ output)
+
+-- Demand 2, exact. The contracts say that reading, writing and the node's decision are the definitions; these say that the definitions fit together.
+pub record Demand2 : Type 0 where
+  -- what is read and written again is the same bytes
+  pub written-again : (bytes : List ℕ) (header : Header) → AllBytes bytes → readOf bytes ≡ Pdu header
+      → encode header (pathIn header bytes) (payloadIn header bytes) ≡ take (pduLength header) bytes
+  -- what is written reads back, whatever follows it
+  pub reads-back : (header : Header) (path payload rest : List ℕ) → WellFormed header path payload
+      → (readOf (encode header path payload ++ rest) ≡ Pdu header) × (pathIn header (encode header path payload ++ rest) ≡ path)
+      × (payloadIn header (encode header path payload ++ rest) ≡ payload)
+  -- and so does what was originated, as it was set
+  pub fresh-reads-back : (settings : asked.Settings) (payload rest : List ℕ) (room : ℕ) → originationNumber settings payload room ≡ 0
+      → readOf (fresh settings payload ++ rest) ≡ Pdu (freshHeader settings (length payload))
+  -- a repeat reads back as the received header with hop limit, count and path changed as said, the own address after the last path entry, and the
+  -- same payload; it is never longer than a PDU may be
+  pub repeat-reads-back : (settings : Settings) (lists : Lists) (room : ℕ) (received : List ℕ) (header : Header) → AllBytes received
+      → readOf received ≡ Pdu header → repeatNumber settings lists room received ≡ 0
+      → (readOf (repeated (settings .own) received) ≡ Pdu (repeatedHeader header))
+      × (pathIn (repeatedHeader header) (repeated (settings .own) received) ≡ pathIn header received ++ cond (header .«path_bit») (settings .own ∷ []) [])
+      × (payloadIn (repeatedHeader header) (repeated (settings .own) received) ≡ payloadIn header received)
+      × (length (repeated (settings .own) received) ≤ pduLimit)
+  -- stepping over a batch gives exactly its walk
+  pub stepping-walks : (settings : Settings) (lists : Lists) (room : ℕ) (batch : List ℕ)
+      → steps settings lists room batch (length batch) (record { place = 0; ended = false }) ≡ walk settings lists room batch
+
+-- Demand 3, bounded, over demand 2's rules: any nodes of different addresses with echo on, whatever their lists, settings and room; any message that
+-- origination wrote with a path; any receptions of transmissions already made, none twice.
+pub record Demand3 : Type 0 where
+  pub bounded : (nodes : List Node) → Nodes nodes → (settings : asked.Settings) (payload : List ℕ) (room : ℕ) → Originated settings payload room
+      → (receptions : List Reception) → List·Nodup receptions
+      → Bounded address pathOf nodes (settings .«hop_limit») (onTheAir nodes (fresh settings payload) receptions)
+  -- the bytes on the air
+  pub bytes-bounded : (nodes : List Node) → Nodes nodes → (settings : asked.Settings) (payload : List ℕ) (room : ℕ) → Originated settings payload room
+      → (receptions : List Reception) → List·Nodup receptions
+      → bytesOnTheAir nodes (fresh settings payload) receptions ≤ bytesBound (length nodes) (settings .«hop_limit») (length (fresh settings payload))
+  -- both are exact where every node repeats what it may, has room, hears every transmission, and the message is for everyone
+  pub reached : (nodes : List Node) → Nodes nodes → (settings : asked.Settings) (payload : List ℕ) (room : ℕ) → Originated settings payload room
+      → ((n : Node) → List·Memᴰ n nodes → Open n)
+      → ((n : Node) → List·Memᴰ n nodes → length (fresh settings payload) + 2 * terms (length nodes) (settings .«hop_limit») ≤ n .room)
+      → settings .destination ≡ Everyone → (length nodes ≤ pathLimit) ⊎ (settings .«hop_limit» < 7)
+      → (receptions : List Reception) → List·Nodup receptions → Complete sends nodes (fresh settings payload ∷ []) receptions
+      → (length (onTheAir nodes (fresh settings payload) receptions) ≡ bound (length nodes) (settings .«hop_limit»))
+      × (bytesOnTheAir nodes (fresh settings payload) receptions ≡ bytesBound (length nodes) (settings .«hop_limit») (length (fresh settings payload)))
+  -- and such receptions exist
+  pub schedule : (nodes : List Node) → Nodes nodes → (settings : asked.Settings) (payload : List ℕ) (room : ℕ) → Originated settings payload room
+      → (receptions : List Reception) × List·Nodup receptions × Complete sends nodes (fresh settings payload ∷ []) receptions

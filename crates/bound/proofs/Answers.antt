@@ -1,0 +1,121 @@
+-- Laws of what fits 64 bits, and of the loop that adds a series up. Assumes nothing.
+use mathlib.Core.Path.{_≡_, refl, sym, ap, _∙_}
+use mathlib.Core.Logic.{_⊎_, ⊎-elim, by-cases}
+use Prim.Native.Nat.{ℕ, suc, _+_, _*_, _-_, _^_, _≤_, _<_}
+use native.Mathlib.Decide.{decLt}
+use native.Mathlib.Nat.{le-mul-of-pos-right, mul-comm, mul-suc}
+use native.Mathlib.Numerals.{add-one}
+use native.Mathlib.Omega.{arith}
+use borrow.Author.Tests.{lt-ltb, le-ltb}
+use denote.Enum.Declared.{tagOf}
+use Rattle.bound.specs.Answer.{fitting, answer}
+use Rattle.bound.specs.Bound.{product, series, terms}
+use Rattle.bound.specs.declared.Bound.{Bound}
+use Rattle.bound.specs.declared.Bound.the-variants.{Exactly, TooLarge, HopRefused}
+use Rattle.bound.proofs.Bound.{the-type}
+use Rattle.bound.proofs.Series.{product-positive, product-past, series-more}
+
+pub fitting-small : (x : ℕ) → x < 2 ^ 64 → fitting x ≡ Exactly x
+unfolding fitting
+fitting-small x h = rw (lt-ltb x (2 ^ 64) h)
+
+pub fitting-large : (x : ℕ) → 2 ^ 64 ≤ x → fitting x ≡ TooLarge
+unfolding fitting
+fitting-large x h = rw (le-ltb x (2 ^ 64) h)
+
+-- an answer that is the number
+pub exact : (x v : ℕ) {r : Bound} → r ≡ fitting x → r ≡ Exactly v → (v ≡ x) × (v < 2 ^ 64)
+exact x v {r} is number =
+    by-cases (decLt x (2 ^ 64))
+    (λ h. let small = fitting-small x h in let same : v ≡ x = cc in (same, omega arith))
+    (λ h. let large = fitting-large x (omega arith) in let z : _≡_ {A = ℕ} 0 1 = cc in absurd (omega arith))
+
+-- an answer that is not
+pub past : (x : ℕ) (r : Bound) → r ≡ fitting x → (tagOf the-type r ≡ 1) ⊎ (tagOf the-type r ≡ 2) → 2 ^ 64 ≤ x
+past x r is other =
+    by-cases (decLt x (2 ^ 64))
+    (λ h.
+    let none : tagOf the-type r ≡ 0 = ap (tagOf the-type) (is ∙ fitting-small x h) in
+    absurd (⊎-elim {C = ⊥} (λ e. omega arith) (λ e. omega arith) other))
+    (λ h. omega arith)
+
+-- the hop limit
+pub hop-refused : (h x : ℕ) → 7 < h → answer h x ≡ HopRefused
+unfolding answer
+hop-refused h x above = rw (lt-ltb 7 h above)
+
+pub hop-taken : (h x : ℕ) → h ≤ 7 → answer h x ≡ fitting x
+unfolding answer
+hop-taken h x low = rw (le-ltb 7 h low)
+
+-- The loop's numbers once k terms are added.
+pub record Added (length growth n k total paths size : ℕ) : Type 0 where
+  pub total-is : total ≡ series (λ j. length + growth * j) n k
+  pub paths-is : paths ≡ product n k
+  pub size-is : size ≡ length + growth * k
+  pub total-fits : total < 2 ^ 64
+  pub paths-fit : paths < 2 ^ 64
+
+pub none-added : (length growth n : ℕ) → length < 2 ^ 64 → Added length growth n 0 length 1 length
+unfolding series product
+none-added length growth n fits =
+    record { total-is = omega arith; paths-is = refl; size-is = omega arith; total-fits = fits; paths-fit = omega arith }
+
+-- A turn of the loop: where one of its four numbers does not fit, the whole sum does not; where all fit, one term more is added.
+module _ {length growth n k total paths size : ℕ} (a : Added length growth n k total paths size) where
+  paths-next : paths * (n - k) ≡ product n (suc k)
+  unfolding product
+  paths-next = rw (a .paths-is)
+
+  size-next : size + growth ≡ length + growth * suc k
+  size-next = omega (arith, a .size-is, mul-suc growth k)
+
+  reached : (m : ℕ) → k < m → total + paths * (n - k) * (size + growth) ≤ series (λ j. length + growth * j) n m
+  reached m more = rw (a .total-is, paths-next, size-next) (series-more (λ j. length + growth * j) n k m more)
+
+  module _ (m : ℕ) (more : k < m) where
+    pub total-past : {x y z : ℕ} → x ≡ paths * (n - k) → y ≡ size + growth → z ≡ x * y → 2 ^ 64 ≤ total + z
+        → TooLarge ≡ fitting (series (λ j. length + growth * j) n m)
+    total-past p q e h = sym (fitting-large _ (omega (arith, rw (sym p, sym q, sym e) at (reached m more))))
+
+    pub term-past : {x y : ℕ} → x ≡ paths * (n - k) → y ≡ size + growth → 2 ^ 64 ≤ x * y → TooLarge ≡ fitting (series (λ j. length + growth * j) n m)
+    term-past p q h = total-past p q refl (omega arith)
+
+    pub paths-past : 0 < length + growth → 2 ^ 64 ≤ paths * (n - k) → TooLarge ≡ fitting (series (λ j. length + growth * j) n m)
+    paths-past some h =
+        let sized : 0 < size + growth = omega (arith, size-next, mul-suc growth k) in
+        term-past refl refl (omega (arith, le-mul-of-pos-right (paths * (n - k)) sized))
+
+    pub size-past : m ≤ n → 2 ^ 64 ≤ size + growth → TooLarge ≡ fitting (series (λ j. length + growth * j) n m)
+    size-past most h =
+        let any : 0 < paths * (n - k) = omega (arith, paths-next, product-positive n (suc k) (omega arith)) in
+        term-past refl refl (omega (arith, le-mul-of-pos-right (size + growth) any, mul-comm (size + growth) (paths * (n - k))))
+
+  pub added : {x y z sum : ℕ} → x ≡ paths * (n - k) → y ≡ size + growth → z ≡ x * y → sum ≡ total + z → sum < 2 ^ 64 → x < 2 ^ 64
+      → Added length growth n (k + 1) sum x y
+  unfolding series
+  added p q e s fits few =
+      record {
+        total-is = rw (add-one k) (s ∙ rw (e, p, q, a .total-is, paths-next, size-next));
+        paths-is = rw (add-one k) (p ∙ paths-next);
+        size-is = rw (add-one k) (q ∙ size-next);
+        total-fits = fits;
+        paths-fit = few;
+      }
+
+  -- there are at most 21 turns
+  pub few-turns : k ≤ n → k < 21
+  few-turns h =
+      by-cases (decLt k 21) (λ few. few)
+      (λ many. let past-it = product-past n k (omega arith) h in absurd (omega (arith, a .paths-is, a .paths-fit)))
+
+  pub all-added : (m : ℕ) → k ≡ m → Exactly total ≡ fitting (series (λ j. length + growth * j) n m)
+  all-added m e =
+      let whole : total ≡ series (λ j. length + growth * j) n m = a .total-is ∙ ap (series (λ j. length + growth * j) n) e in
+      ap Exactly whole ∙ sym (fitting-small _ (omega arith))
+
+-- the answer at a hop limit that is taken
+pub at-terms : (weight : ℕ → ℕ) (n h : ℕ) {m : ℕ} {r : Bound} → r ≡ fitting (series weight n m) → m ≡ terms n h → h ≤ 7
+    → r ≡ answer h (series weight n (terms n h))
+at-terms weight n h is count low =
+    is ∙ ap (λ (k : ℕ). fitting (series weight n k)) count ∙ sym (hop-taken h (series weight n (terms n h)) low)

@@ -1,0 +1,115 @@
+// How many times one report can go out on the air at most, and how many bytes that is.
+ghost use mathlib.Core.Path.{_≡_};
+ghost use Prim.Native.Nat.{_+_, _*_, _<_, _≤_};
+ghost use Rattle.bound.specs.Bound.{series, terms, bound, bytesBound};
+ghost use Rattle.bound.specs.Answer.{fitting, answer, refusalNumber};
+
+// An answer: the number, or that it is more than 64 bits hold, or that the hop limit is above 7.
+pub enum Bound {
+    Exactly(u64),
+    TooLarge,
+    HopRefused,
+}
+
+const TOP: u64 = 18446744073709551615;
+
+// The most transmissions that one fresh message with that hop limit can cause among so many
+// repeating nodes, its own counted: 1 + N + N (N - 1) + ..
+// A hop limit above 7 is refused. Any numbers are answered within 21 turns of a loop.
+pub fn most_transmissions(nodes: u64, hop_limit: u64) -> Bound
+    ensures { λ r. ⌜ r ≡ answer «hop_limit» (bound nodes «hop_limit») ⌝ }
+{
+    at_hop_limit(nodes, hop_limit, 1, 0)
+}
+
+// The most bytes that those transmissions have together, if the fresh message has `length` bytes:
+// each entry of a path adds 2. Answered and refused as by most_transmissions.
+pub fn most_bytes(nodes: u64, hop_limit: u64, length: u64) -> Bound
+    ensures { λ r. ⌜ r ≡ answer «hop_limit» (bytesBound nodes «hop_limit» length) ⌝ }
+{
+    at_hop_limit(nodes, hop_limit, length, 2)
+}
+
+// The number that goes with an answer: 10 for a hop limit that is refused, else 0.
+pub fn refusal(bound: Bound) -> u64
+    ensures { λ r. ⌜ r ≡ refusalNumber bound ⌝ }
+{
+    match bound {
+        Bound::Exactly(_) => 0,
+        Bound::TooLarge => 0,
+        Bound::HopRefused => 10,
+    }
+}
+
+// The bound where a message with k path entries counts as length + growth * k.
+fn at_hop_limit(nodes: u64, hop_limit: u64, length: u64, growth: u64) -> Bound
+    requires { ⌜ 0 < length + growth ⌝ }
+    ensures { λ r. ⌜ r ≡ answer «hop_limit» (series (λ k. length + growth * k) nodes (terms nodes «hop_limit»)) ⌝ }
+{
+    if hop_limit > 7 {
+        return Bound::HopRefused;
+    }
+    add_up(nodes, terms_of(nodes, hop_limit), length, growth)
+}
+
+// 7 sets no limit to the hops, so that only the nodes do.
+fn terms_of(nodes: u64, hop_limit: u64) -> u64
+    ensures { λ r. ⌜ (r ≡ terms nodes «hop_limit») × (r ≤ nodes) ⌝ }
+{
+    if hop_limit == 7 {
+        return nodes;
+    }
+    if nodes < hop_limit { nodes } else { hop_limit }
+}
+
+// length + n (length + growth) + n (n - 1) (length + 2 growth) + .., with so many terms after the
+// first. A product of 21 factors does not fit 64 bits, so there are never more turns than that.
+fn add_up(nodes: u64, terms: u64, length: u64, growth: u64) -> Bound
+    requires { ⌜ (terms ≤ nodes) × (0 < length + growth) ⌝ }
+    ensures { λ r. ⌜ r ≡ fitting (series (λ k. length + growth * k) nodes terms) ⌝ }
+{
+    let mut total = length;
+    let mut paths: u64 = 1;
+    let mut size = length;
+    let mut k: u64 = 0;
+    while k < terms {
+        let Bound::Exactly(more_paths) = times(paths, nodes - k) else {
+            return Bound::TooLarge;
+        };
+        let Bound::Exactly(larger) = plus(size, growth) else {
+            return Bound::TooLarge;
+        };
+        let Bound::Exactly(term) = times(more_paths, larger) else {
+            return Bound::TooLarge;
+        };
+        let Bound::Exactly(sum) = plus(total, term) else {
+            return Bound::TooLarge;
+        };
+        paths = more_paths;
+        size = larger;
+        total = sum;
+        k += 1;
+    }
+    Bound::Exactly(total)
+}
+
+fn times(a: u64, b: u64) -> Bound
+    ensures { λ r. ⌜ r ≡ fitting (a * b) ⌝ }
+{
+    if b == 0 {
+        return Bound::Exactly(0);
+    }
+    if a > TOP / b {
+        return Bound::TooLarge;
+    }
+    Bound::Exactly(a * b)
+}
+
+fn plus(a: u64, b: u64) -> Bound
+    ensures { λ r. ⌜ r ≡ fitting (a + b) ⌝ }
+{
+    if a > TOP - b {
+        return Bound::TooLarge;
+    }
+    Bound::Exactly(a + b)
+}

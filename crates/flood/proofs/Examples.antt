@@ -1,0 +1,135 @@
+-- Demand 3 in runs that are computed, byte by byte: the bound is met, and each condition is needed. Assumes nothing.
+use mathlib.Core.Path.{_≡_, refl, ap, sym, subst}
+use mathlib.Core.Bool.{Bool, true, false}
+use mathlib.Core.List.{List, [], _∷_, map, List·Memᴰ, Memᴰ·of-map, List·Nodup}
+use Prim.Native.Nat.{ℕ, zero, suc, _≤_, _<_}
+use native.Mathlib.Omega.{arith}
+use borrow.Author.Tests.{le-ltb}
+use lib.ListN.{length}
+use Rattle.octets.specs.Numbers.{_gives_, _orElse_}
+use Rattle.octets.specs.Octets.{at}
+use Rattle.pdu.specs.declared.Destination.the-variants.{Everyone}
+use Rattle.pdu.specs.Header.{headerOf}
+use Rattle.pdu.specs.Reading.{readOf}
+use Rattle.pdu.specs.Parts.{addressesAt, inPath}
+use Rattle.pdu.specs.Writing.{headerBytes, pathBytes, encode}
+use Rattle.lists.specs.Lists.{lowAboveHigh, faultOf, firstFault}
+use Rattle.bound.specs.Bound.{product, series, terms, bound, bytesBound}
+use Rattle.origin.specs.declared.Settings.{Settings}
+use Rattle.origin.specs.Origination.{freshHeader, fresh, originationNumber}
+use Rattle.node.specs.Decision.{listsOf, passFault, repeatFault, listOrReadingFault, givenTwice, repeatNumber}
+use Rattle.node.specs.Repeat.{repeated}
+use Rattle.flood.specs.Air.{Node, address, sends, pathOf, onTheAir, Nodes, Open, Originated}
+use Rattle.flood.specs.Flood.{flood, answer, total}
+use Rattle.flood.proofs.Rounds.{round, rounds}
+
+-- a node that repeats, with its lists off and empty and an output of 100 bytes
+abbrev pub plain : Bool → ℕ → Node
+plain echo own =
+    record {
+      settings = record { own = own; echo = echo; repeating = true; «source_pass» = false; «source_reject» = false; «destination_pass» = false; «destination_reject» = false };
+      lists = listsOf [] [] [] [];
+      room = 100;
+    }
+
+-- a message for everyone with one byte of payload
+abbrev pub asked : Bool → ℕ → Settings
+asked path hop =
+    record {
+      source = 1000;
+      destination = Everyone;
+      «hop_limit» = hop;
+      port = 0;
+      «time_stamp_request» = false;
+      «with_path» = path;
+      reliable = false;
+      «pdu_id» = 0;
+    }
+
+abbrev pub begun : Bool → ℕ → List ℕ
+begun path hop = fresh (asked path hop) (0x70 ∷ [])
+
+-- what goes out where each of the nodes hears each of the first n transmissions
+unfoldable pub air : List Node → Bool → ℕ → ℕ → List (List ℕ)
+air nodes path hop n = onTheAir nodes (begun path hop) (rounds (length nodes) n)
+
+abbrev pub three : List Node
+three = plain true 1 ∷ plain true 2 ∷ plain true 3 ∷ []
+
+-- The theorems are about these nodes and this message: the conditions can be met.
+own-addresses : (addresses : List ℕ) → map address (map (plain true) addresses) ≡ addresses
+own-addresses [] = refl
+own-addresses (a ∷ l) = ap (λ (x : List ℕ). a ∷ x) (own-addresses l)
+
+pub plain-nodes : (addresses : List ℕ) → List·Nodup addresses → ((a : ℕ) → List·Memᴰ a addresses → a < 65536) → Nodes (map (plain true) addresses)
+plain-nodes addresses differ fit =
+    record {
+      addresses-differ = subst List·Nodup (sym (own-addresses addresses)) differ;
+      addresses-fit = λ node m. let (a, a-in, e) = Memᴰ·of-map (plain true) addresses m in subst (λ (x : Node). address x < 65536) e (fit a a-in);
+      echo-on = λ node m. let (a, a-in, e) = Memᴰ·of-map (plain true) addresses m in ap (λ (x : Node). x .settings .echo) (sym e);
+    }
+
+pub plain-open : (echo : Bool) (own : ℕ) → Open (plain echo own)
+unfolding firstFault faultOf lowAboveHigh _gives_ _orElse_
+plain-open echo own =
+    record {
+      repeating-on = refl;
+      source-pass-off = refl;
+      source-reject-off = refl;
+      destination-pass-off = refl;
+      destination-reject-off = refl;
+      no-fault = refl;
+    }
+
+pub asked-taken : (hop : ℕ) → hop ≤ 7 → Originated (asked true hop) (0x70 ∷ []) 100
+unfolding originationNumber freshHeader _gives_ _orElse_
+asked-taken hop small =
+    record {
+      taken = rw (le-ltb 7 hop small);
+      with-path = refl;
+      source-fits = omega arith;
+      destination-fits = λ to e. let z : _≡_ {A = ℕ} 0 1 = cc in absurd (omega arith);
+      id-fits = omega arith;
+      payload-fits = one;
+    }
+  where
+    one : (place : ℕ) → at (0x70 ∷ []) place < 256
+    one zero = omega arith
+    one (suc place) = omega arith
+
+pub record Computed : Type 0 where
+  -- three nodes that hear all there is to hear: as many transmissions as document 01 says (Checked by hand, last line), and as many bytes
+  pub hop-0 : length (air three true 0 1) ≡ 1
+  pub hop-2 : length (air three true 2 10) ≡ 10
+  pub hop-6 : length (air three true 6 16) ≡ 16
+  pub hop-7 : length (air three true 7 16) ≡ 16
+  pub no-nodes : length (onTheAir [] (begun true 7) (rounds 3 1)) ≡ 1
+  pub bytes-2 : total length (air three true 2 10) ≡ bytesBound 3 2 8
+  -- each condition is needed: one node, whose bound is 2, goes past it with echo off, and without the path bit; two nodes of one address
+  -- send one path twice
+  pub alone : bound 1 7 ≡ 2
+  pub echo-off : length (air (plain false 1 ∷ []) true 7 3) ≡ 4
+  pub no-path-bit : length (air (plain true 1 ∷ []) false 7 3) ≡ 4
+  pub one-address : map pathOf (air (plain true 1 ∷ plain true 1 ∷ []) true 7 1) ≡ [] ∷ (1 ∷ []) ∷ (1 ∷ []) ∷ []
+  -- the bytes themselves, from hop limit 2: node 1's repeat, then node 2's of that, and none of node 3, since the hop limit is 0 by then
+  pub in-a-row : onTheAir three (begun true 2) (record { node = 0; transmission = 0 } ∷ record { node = 1; transmission = 1 } ∷ record { node = 2; transmission = 2 } ∷ [])
+      ≡ (0x02 ∷ 0x00 ∷ 0x20 ∷ 0x01 ∷ 0x03 ∷ 0xE8 ∷ 0x00 ∷ 0x70 ∷ [])
+      ∷ (0x02 ∷ 0x00 ∷ 0x10 ∷ 0x01 ∷ 0x03 ∷ 0xE8 ∷ 0x01 ∷ 0x00 ∷ 0x01 ∷ 0x70 ∷ [])
+      ∷ (0x02 ∷ 0x00 ∷ 0x00 ∷ 0x01 ∷ 0x03 ∷ 0xE8 ∷ 0x02 ∷ 0x00 ∷ 0x01 ∷ 0x00 ∷ 0x02 ∷ 0x70 ∷ []) ∷ []
+
+pub computed : Computed
+unfolding bound bytesBound series product terms total air rounds round flood answer sends fresh freshHeader encode headerBytes pathBytes repeated repeatNumber givenTwice listOrReadingFault firstFault faultOf lowAboveHigh readOf headerOf passFault repeatFault addressesAt inPath _gives_ _orElse_
+computed =
+    record {
+      hop-0 = refl;
+      hop-2 = refl;
+      hop-6 = refl;
+      hop-7 = refl;
+      no-nodes = refl;
+      bytes-2 = refl;
+      alone = refl;
+      echo-off = refl;
+      no-path-bit = refl;
+      one-address = refl;
+      in-a-row = refl;
+    }

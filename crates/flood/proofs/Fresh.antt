@@ -1,0 +1,128 @@
+-- A message that origination takes, with the path bit, begins a flood: its bytes are bytes, it reads back, and its path is empty. Assumes nothing.
+use mathlib.Core.Path.{_≡_, refl, ap, sym, _∙_}
+use mathlib.Core.Bool.{Bool, true, false, cond}
+use mathlib.Core.List.{List, [], _∷_, _++_, append-nil}
+use Prim.Native.Nat.{ℕ, zero, suc, _/_, _%_, _+_, _≤_, _<_}
+use native.Mathlib.Omega.{arith}
+use lib.Dec.{eqb}
+use lib.ListN.{length}
+use Rattle.octets.specs.Numbers.{flag}
+use Rattle.octets.specs.Octets.{wordBytes}
+use Rattle.pdu.specs.declared.Destination.{Destination}
+use Rattle.pdu.specs.declared.Destination.the-variants.{Everyone, Address}
+use Rattle.pdu.specs.declared.Header.{Header}
+use Rattle.pdu.specs.declared.Reading.the-variants.{Pdu}
+use Rattle.pdu.specs.Header.{headerOf}
+use Rattle.pdu.specs.Sizes.{destinationFlag, pduLength}
+use Rattle.pdu.specs.Reading.{readOf}
+use Rattle.pdu.specs.Parts.{pathIn}
+use Rattle.pdu.specs.Writing.{fixedPart, destinationBytes, onlyIf, headerBytes, pathBytes, encode}
+use Rattle.pdu.proofs.Inversion.{shown}
+use Rattle.pdu.proofs.Within.{Bytes}
+use Rattle.origin.specs.declared.Settings.{Settings}
+use Rattle.origin.specs.Origination.{freshHeader, fresh}
+use Rattle.origin.proofs.Deciding.{Accepted, accepted}
+use Rattle.origin.proofs.Fresh.{flag-small}
+use Rattle.origin.proofs.ReadBack.{length-fresh, fresh-back}
+use Rattle.flood.specs.Air.{pathOf, hopOf, Originated}
+use Rattle.flood.proofs.Sent.{Sound}
+
+-- lists of bytes
+bytes-none : Bytes []
+bytes-none i = omega arith
+
+bytes-more : (byte : ℕ) (bytes : List ℕ) → byte < 256 → Bytes bytes → Bytes (byte ∷ bytes)
+bytes-more byte bytes h b zero = h
+bytes-more byte bytes h b (suc i) = b i
+
+bytes-joined : (front later : List ℕ) → Bytes front → Bytes later → Bytes (front ++ later)
+bytes-joined [] later b c = c
+bytes-joined (byte ∷ front) later b c = bytes-more byte (front ++ later) (b 0) (bytes-joined front later (λ i. b (suc i)) c)
+
+bytes-word : (number : ℕ) → number < 65536 → Bytes (wordBytes number)
+bytes-word number h = bytes-more (number / 256) (number % 256 ∷ []) (omega arith) (bytes-more (number % 256) [] (omega arith) bytes-none)
+
+bytes-four : (a b c d : ℕ) (later : List ℕ) → a < 256 → b < 256 → c < 256 → d < 256 → Bytes later → Bytes (a ∷ b ∷ c ∷ d ∷ later)
+bytes-four a b c d later ha hb hc hd h =
+    bytes-more a (b ∷ c ∷ d ∷ later) ha (bytes-more b (c ∷ d ∷ later) hb (bytes-more c (d ∷ later) hc (bytes-more d later hd h)))
+
+bytes-if : (called : Bool) (byte : ℕ) → byte < 256 → Bytes (onlyIf called (byte ∷ []))
+bytes-if true byte h = bytes-more byte [] h bytes-none
+bytes-if false byte h = bytes-none
+
+bytes-destination : (to : Destination) → ((a : ℕ) → to ≡ Address a → a < 65536) → Bytes (destinationBytes to)
+bytes-destination Everyone h = bytes-none
+bytes-destination (Address a) h = bytes-word a (h a refl)
+
+flag-destination : (to : Destination) → destinationFlag to ≤ 1
+flag-destination Everyone = omega arith
+flag-destination (Address a) = omega arith
+
+either-small : (reliable : Bool) (id : ℕ) → id < 256 → cond reliable id 0 < 256
+either-small true id h = h
+either-small false id h = omega arith
+
+module _ (settings : Settings) (payload : List ℕ) (room : ℕ) (message : Originated settings payload room) where
+  takes : Accepted settings payload room
+  takes = accepted settings payload room (message .taken)
+
+  fixed-small : Bytes (fixedPart (freshHeader settings (length payload)))
+  unfolding freshHeader
+  fixed-small =
+      bytes-four _ _ _ _ (wordBytes (settings .source))
+      (omega (arith, flag-small (settings .reliable), flag-small (settings .«time_stamp_request»), flag-small (settings .«with_path»), flag-destination (settings .destination)))
+      (omega (arith, takes .port)) (omega (arith, takes .hop, takes .payload-limit)) (omega arith) (bytes-word (settings .source) (message .source-fits))
+
+  fresh-small : Bytes (fresh settings payload)
+  unfolding fresh freshHeader encode headerBytes pathBytes
+  fresh-small =
+      let fixed = fixedPart (freshHeader settings (length payload)) in
+      let id = onlyIf (eqb (flag (settings .reliable)) 1) (cond (settings .reliable) (settings .«pdu_id») 0 ∷ []) in
+      let to = destinationBytes (settings .destination) in
+      let count = onlyIf (settings .«with_path») (0 ∷ []) in
+      bytes-joined (fixed ++ to ++ id ++ count ++ []) payload
+      (bytes-joined (fixed ++ to ++ id ++ count) []
+      (bytes-joined (fixed ++ to ++ id) count
+      (bytes-joined (fixed ++ to) id
+      (bytes-joined fixed to fixed-small (bytes-destination (settings .destination) (message .destination-fits)))
+      (bytes-if (eqb (flag (settings .reliable)) 1) _ (either-small (settings .reliable) (settings .«pdu_id») (message .id-fits))))
+      (bytes-if (settings .«with_path») 0 (omega arith))) bytes-none)
+      (message .payload-fits)
+
+  abbrev first : List ℕ
+  first = fresh settings payload
+
+  fresh-reads : readOf first ≡ Pdu (freshHeader settings (length payload))
+  fresh-reads = ap readOf (sym (append-nil first)) ∙ fresh-back settings payload room (message .taken) [] .reads
+
+  fresh-shows : freshHeader settings (length payload) ≡ headerOf first
+  fresh-shows = shown first _ fresh-reads .is
+
+  pub fresh-path : pathOf first ≡ []
+  fresh-path =
+      ap (λ (h : Header). pathIn h first) (sym fresh-shows) ∙ ap (pathIn (freshHeader settings (length payload))) (sym (append-nil first))
+      ∙ fresh-back settings payload room (message .taken) [] .no-path
+
+  -- the hop limit on the air is the hop setting
+  pub fresh-hop : hopOf first ≡ settings .«hop_limit»
+  unfolding freshHeader
+  fresh-hop = ap (λ (h : Header). h .«hop_limit») (sym fresh-shows)
+
+  pub fresh-destination : headerOf first .destination ≡ settings .destination
+  unfolding freshHeader
+  fresh-destination = ap (λ (h : Header). h .destination) (sym fresh-shows)
+
+  fresh-bit : headerOf first .«path_bit» ≡ true
+  unfolding freshHeader
+  fresh-bit = ap (λ (h : Header). h .«path_bit») (sym fresh-shows) ∙ message .with-path
+
+  pub fresh-sound : Sound first first
+  fresh-sound =
+      record {
+        small = fresh-small;
+        reads = fresh-reads ∙ ap Pdu fresh-shows;
+        has-path = fresh-bit;
+        alone = length-fresh settings payload room (message .taken) ∙ ap (λ (h : Header). pduLength h) fresh-shows;
+        longer = omega (arith, ap length fresh-path);
+        same-place = refl;
+      }

@@ -1,0 +1,13 @@
+pub mod Arrangements
+pub mod Bounded
+pub mod Demand
+pub mod Exact
+pub mod Examples
+pub mod Fresh
+pub mod Invariant
+pub mod Lists
+pub mod Network
+pub mod Reached
+pub mod Rounds
+pub mod Runs
+pub mod Sent

@@ -1,0 +1,3 @@
+pub mod Air
+pub mod Complete
+pub mod Flood

@@ -1,0 +1,134 @@
+// How many times one report can go out on the air at most.
+//
+// plan             prints a table for up to 12 repeating nodes
+// plan N H         answers for N repeating nodes and hop limit H
+// plan N H BYTES   gives the bytes on the air too, for a fresh PDU of that length
+mod argument;
+mod table;
+
+use argument::Argument;
+use argument::read_argument;
+use bound::Bound;
+use libc::STDERR_FILENO;
+use libc::STDOUT_FILENO;
+use table::print_table;
+
+fn main() {
+    let words = os::arg_count();
+    if words < 2 {
+        print_table();
+    } else if words == 3 {
+        answer(false);
+    } else if words == 4 {
+        answer(true);
+    } else {
+        complain(b"give no argument, N H, or N H BYTES");
+    }
+}
+
+// All arguments are read before anything is printed.
+fn answer(with_bytes: bool) {
+    let first = argument_at(1);
+    let Argument::Number(nodes) = first else {
+        return complain_of(b"N, the number of repeating nodes, ", first);
+    };
+    let second = argument_at(2);
+    let Argument::Number(hop_limit) = second else {
+        return complain_of(b"H, the hop limit, ", second);
+    };
+    if !with_bytes {
+        return print_transmissions(nodes, hop_limit);
+    }
+    let third = argument_at(3);
+    let Argument::Number(length) = third else {
+        return complain_of(b"BYTES, the fresh PDU's length, ", third);
+    };
+    print_transmissions(nodes, hop_limit);
+    print_bytes(nodes, hop_limit, length);
+}
+
+// An argument of more than 64 bytes is too long, whatever it says.
+fn argument_at(place: usize) -> Argument {
+    let mut text = [0u8; 64];
+    let n = os::arg(place, &mut text);
+    if os::errno() != 0 {
+        return Argument::TooLong;
+    }
+    read_argument(&text[..n])
+}
+
+fn print_transmissions(nodes: u64, hop_limit: u64) {
+    match bound::most_transmissions(nodes, hop_limit) {
+        Bound::Exactly(number) => {
+            say_network(nodes, hop_limit);
+            say(b"one report goes out at most ");
+            say_count(number, b" time");
+            say(b".\n");
+        }
+        Bound::TooLarge => {
+            say_network(nodes, hop_limit);
+            say(b"one report can go out more times than 64 bits hold.\n");
+        }
+        Bound::HopRefused => complain_hop_limit(),
+    }
+}
+
+// A hop limit that is refused was complained of by print_transmissions.
+fn print_bytes(nodes: u64, hop_limit: u64, length: u64) {
+    match bound::most_bytes(nodes, hop_limit, length) {
+        Bound::Exactly(number) => {
+            say(b"If it has ");
+            say_count(length, b" byte");
+            say(b" when fresh, that is at most ");
+            say_count(number, b" byte");
+            say(b" on the air.\n");
+        }
+        Bound::TooLarge => say(b"That can be more bytes on the air than 64 bits hold.\n"),
+        Bound::HopRefused => {}
+    }
+}
+
+fn say_network(nodes: u64, hop_limit: u64) {
+    say(b"Among ");
+    say_count(nodes, b" repeating node");
+    say(b", with hop limit ");
+    io::print_decimal(STDOUT_FILENO, hop_limit);
+    say(b", ");
+}
+
+fn say_count(number: u64, what: &[u8]) {
+    io::print_decimal(STDOUT_FILENO, number);
+    say(what);
+    if number != 1 {
+        say(b"s");
+    }
+}
+
+fn complain_hop_limit() {
+    io::write_all(
+        STDERR_FILENO,
+        b"plan: H, the hop limit, is above 7 and is refused with ",
+    );
+    io::print_decimal(STDERR_FILENO, bound::refusal(Bound::HopRefused));
+    io::write_all(STDERR_FILENO, b"\n");
+}
+
+fn complain_of(what: &[u8], read: Argument) {
+    io::write_all(STDERR_FILENO, b"plan: ");
+    io::write_all(STDERR_FILENO, what);
+    match read {
+        Argument::TooLong => io::write_all(STDERR_FILENO, b"is too long\n"),
+        _ => io::write_all(STDERR_FILENO, b"is not a decimal number\n"),
+    }
+    ;
+}
+
+fn complain(text: &[u8]) {
+    io::write_all(STDERR_FILENO, b"plan: ");
+    io::write_all(STDERR_FILENO, text);
+    io::write_all(STDERR_FILENO, b"\n");
+}
+
+fn say(text: &[u8]) {
+    io::write_all(STDOUT_FILENO, text);
+}
