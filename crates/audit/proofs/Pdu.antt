@@ -24,6 +24,8 @@ use Rattle.pdu.proofs.parts.path_has.Reads as parts-path-has-reads
 use Rattle.pdu.proofs.parts.path_has.Kinds as parts-path-has-kinds
 use Rattle.pdu.proofs.parts.payload.Reads as parts-payload-reads
 use Rattle.pdu.proofs.parts.payload.Kinds as parts-payload-kinds
+use Rattle.pdu.proofs.view.find_places.Reads as view-find-places-reads
+use Rattle.pdu.proofs.view.find_places.Kinds as view-find-places-kinds
 use Rattle.pdu.proofs.writing.write_again.Reads as writing-write-again-reads
 use Rattle.pdu.proofs.writing.write_again.Kinds as writing-write-again-kinds
 use Rattle.pdu.proofs.writing.put_header.Reads as writing-put-header-reads
@@ -61,6 +63,9 @@ parts-path-has = (λ κs a. tt, λ κs a x y s t p q. p ∙ sym q)
 
 pub parts-payload : Promised 1 parts-payload-kinds.ps parts-payload-kinds.r parts-payload-reads.Asked parts-payload-reads.Post (λ κs x. now x)
 parts-payload = (λ κs a. tt, λ κs a x y s t p q. p ∙ sym q)
+
+pub view-find-places : Promised 1 view-find-places-kinds.ps view-find-places-kinds.r view-find-places-reads.Asked view-find-places-reads.Post (λ κs x. x)
+view-find-places = (λ κs a. tt, λ κs a x y s t p q. p ∙ sym q)
 
 pub writing-write-again : PromisedWithOutput 2 writing-write-again-kinds.ps writing-write-again-kinds.r writing-write-again-reads.Asked writing-write-again-reads.Post (λ κs s. now (s .1 .0))
 writing-write-again = (λ κs a. tt, λ κs a x y s t p q. (p .0 ∙ sym (q .0), p .1 ∙ sym (q .1)))

@@ -1,5 +1,6 @@
 // A PDU: its header and its limits, reading it, its parts, and writing it again.
 pub mod parts;
+pub mod view;
 pub mod writing;
 
 ghost use mathlib.Core.Path.{_≡_};

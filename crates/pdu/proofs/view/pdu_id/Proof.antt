@@ -1,0 +1,16 @@
+use mathlib.Core.Path.{_≡_}
+use mir.Syntax.{w8}
+use denote.Ref.{now}
+use Rattle.pdu.specs.View.{headerIn}
+use Rattle.pdu.proofs.Thin.{number, thin-spec}
+use Rattle.pdu.proofs.view.pdu_id_at.Symbol as work
+use Rattle.pdu.proofs.view.pdu_id_at.Met.{met}
+use Rattle.pdu.proofs.view.pdu_id.Key.{name}
+use Rattle.pdu.proofs.view.pdu_id.Statement.{statement}
+use Rattle.pdu.proofs.view.pdu_id.Code as code
+
+pub pdu-id-spec : {M : Type 1} → statement M
+unfolding code.routine
+pdu-id-spec 𝓤 H 𝓜 𝓖 𝓡 =
+    thin-spec (number w8) (λ κs bytes at r. r ≡ headerIn (now bytes) at .«pdu_id») 𝓤 H 𝓜 𝓖 𝓡
+    code.env name work.name work.routine (code.unfolded 𝓤 H 𝓜 𝓡) code.calls-pdu·view·pdu-id-at (met 𝓤 H 𝓜 𝓖 𝓡)
