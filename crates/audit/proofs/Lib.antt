@@ -8,5 +8,6 @@ pub mod Text
 pub mod Job
 pub mod Run
 pub mod Bound
+pub mod Mant
 pub mod Demands
 pub mod Examples

@@ -1,0 +1,13 @@
+use mathlib.Core.Path.{refl}
+use borrow.Author.Needs.{needs}
+use Rattle.mant.proofs.values.destination_from_c.Statement.{statement}
+use Rattle.mant.proofs.values.destination_from_c.Tie as tie
+
+returns : tie.Need-returns
+returns c = rw (c .if1 .taken) refl
+
+returns-2 : tie.Need-returns-2
+returns-2 c = search needs
+
+pub destination-from-c-spec : {M : Type 1} → statement M
+destination-from-c-spec = tie.close (tie.spec returns returns-2)

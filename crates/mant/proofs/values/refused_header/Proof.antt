@@ -1,0 +1,9 @@
+use mathlib.Core.Path.{refl}
+use Rattle.mant.proofs.values.refused_header.Statement.{statement}
+use Rattle.mant.proofs.values.refused_header.Tie as tie
+
+returns : tie.Need-returns
+returns c = refl
+
+pub refused-header-spec : {M : Type 1} → statement M
+refused-header-spec = tie.close (tie.spec returns)

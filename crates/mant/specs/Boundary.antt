@@ -1,0 +1,178 @@
+-- The answers of the layer as the values that C sees, and what C gives as the layer's settings. What the values mean is defined below this crate.
+use Prim.Native.Nat.{ℕ}
+use mathlib.Core.Bool.{Bool, true, false, cond}
+use mathlib.Core.List.{List}
+use Rattle.pdu.specs.declared.Destination.{Destination}
+use Rattle.pdu.specs.declared.Destination.the-variants.{Everyone, Address}
+use Rattle.pdu.specs.declared.Header.{Header}
+use Rattle.pdu.specs.declared.Reading.{Reading}
+use Rattle.pdu.specs.declared.Reading.the-variants.{Pdu, Refused}
+use Rattle.pdu.specs.declared.Written.{Written}
+use Rattle.pdu.specs.Sizes.{fixedLength, payloadLimit, pathLimit, headerLimit, pduLimit, headerLength, pduLength}
+use Rattle.pdu.specs.Reading.{refusalNumber}
+use Rattle.pdu.specs.Parts.{pathIn, pathAddress, inPath}
+use Rattle.origin.specs.declared.Settings as origin
+use Rattle.node.specs.declared.Settings as node
+use Rattle.node.specs.declared.Answer.{Answer}
+use Rattle.batch.specs.declared.Cursor.{Cursor}
+use Rattle.batch.specs.declared.Stepped.{Stepped}
+use Rattle.batch.specs.declared.Stepped.the-variants.{TooLong, Ended, Answered}
+use Rattle.batch.specs.Walk.{batchLimit}
+use Rattle.bound.specs.declared.Bound.{Bound}
+use Rattle.bound.specs.declared.Bound.the-variants.{Exactly, TooLarge, HopRefused}
+use Rattle.mant.specs.declared.MantHeader.{MantHeader}
+use Rattle.mant.specs.declared.MantWritten.{MantWritten}
+use Rattle.mant.specs.declared.MantFresh.{MantFresh}
+use Rattle.mant.specs.declared.MantNode.{MantNode}
+use Rattle.mant.specs.declared.MantAnswer.{MantAnswer}
+use Rattle.mant.specs.declared.MantCursor.{MantCursor}
+use Rattle.mant.specs.declared.MantStep.{MantStep}
+use Rattle.mant.specs.declared.MantBound.{MantBound}
+use Rattle.mant.specs.declared.MantLimits.{MantLimits}
+
+-- a destination as a flag and an address, the address 0 where there is none ("Header, byte by byte")
+abbrev pub hasDestination : Destination → Bool
+hasDestination Everyone = false
+hasDestination (Address address) = true
+
+abbrev pub destinationAddress : Destination → ℕ
+destinationAddress Everyone = 0
+destinationAddress (Address address) = address
+
+-- and back; an address without the flag does not count
+abbrev pub destinationFromC : Bool → ℕ → Destination
+destinationFromC present address = cond present (Address address) Everyone
+
+-- the fields of a header that was read, number 0 ("Numbers answered"), with the lengths that follow from them ("Sizes")
+abbrev pub shownHeader : Header → MantHeader
+shownHeader header =
+    record {
+      number = 0;
+      protocol = header .protocol;
+      «time_stamp_request» = header .«time_stamp_request»;
+      «path_bit» = header .«path_bit»;
+      «has_destination» = hasDestination (header .destination);
+      port = header .port;
+      encrypted = header .encrypted;
+      reserved = header .reserved;
+      ack = header .ack;
+      «added_header» = header .«added_header»;
+      «hop_limit» = header .«hop_limit»;
+      «payload_length» = header .«payload_length»;
+      source = header .source;
+      destination = destinationAddress (header .destination);
+      «pdu_id» = header .«pdu_id»;
+      «path_count» = header .«path_count»;
+      «header_length» = headerLength header;
+      «pdu_length» = pduLength header;
+    }
+
+-- a refusal: its number alone, every field 0 or false ("Numbers answered": a length given with a refusal is 0)
+abbrev pub refusedHeader : ℕ → MantHeader
+refusedHeader number =
+    record {
+      number = number;
+      protocol = 0;
+      «time_stamp_request» = false;
+      «path_bit» = false;
+      «has_destination» = false;
+      port = 0;
+      encrypted = false;
+      reserved = 0;
+      ack = false;
+      «added_header» = false;
+      «hop_limit» = 0;
+      «payload_length» = 0;
+      source = 0;
+      destination = 0;
+      «pdu_id» = 0;
+      «path_count» = 0;
+      «header_length» = 0;
+      «pdu_length» = 0;
+    }
+
+-- what reading answers ("Numbers answered", 1 to 6)
+abbrev pub headerInC : Reading → MantHeader
+headerInC (Pdu header) = shownHeader header
+headerInC (Refused refusal) = refusedHeader (refusalNumber refusal)
+
+-- the path's address at a place, and whether an address is in the path, of what was read; a refusal shows no path
+abbrev pub pathAddressIn : Reading → List ℕ → ℕ → ℕ
+pathAddressIn (Pdu header) bytes i = pathAddress header bytes i
+pathAddressIn (Refused refusal) bytes i = 0
+
+abbrev pub pathHas : Reading → List ℕ → ℕ → Bool
+pathHas (Pdu header) bytes address = inPath address (pathIn header bytes)
+pathHas (Refused refusal) bytes address = false
+
+-- what writing answers, field by field
+abbrev pub writtenInC : Written → MantWritten
+writtenInC written = record { number = written .number; length = written .length }
+
+-- the settings of a fresh PDU, field by field ("Origination")
+abbrev pub freshFromC : MantFresh → origin.Settings
+freshFromC settings =
+    record {
+      source = settings .source;
+      destination = destinationFromC (settings .«has_destination») (settings .destination);
+      «hop_limit» = settings .«hop_limit»;
+      port = settings .port;
+      «time_stamp_request» = settings .«time_stamp_request»;
+      «with_path» = settings .«with_path»;
+      reliable = settings .reliable;
+      «pdu_id» = settings .«pdu_id»;
+    }
+
+-- the settings of a node, field by field ("One PDU at one node")
+abbrev pub nodeFromC : MantNode → node.Settings
+nodeFromC settings =
+    record {
+      own = settings .own;
+      echo = settings .echo;
+      repeating = settings .repeating;
+      «source_pass» = settings .«source_pass»;
+      «source_reject» = settings .«source_reject»;
+      «destination_pass» = settings .«destination_pass»;
+      «destination_reject» = settings .«destination_reject»;
+    }
+
+-- a node's answer, field by field
+abbrev pub answerInC : Answer → MantAnswer
+answerInC answer =
+    record {
+      delivery = answer .delivery;
+      repeat = answer .repeat;
+      «delivered_place» = answer .«delivered_place»;
+      «delivered_length» = answer .«delivered_length»;
+      «repeated_length» = answer .«repeated_length»;
+      taken = answer .taken;
+    }
+
+-- a cursor, field by field
+abbrev pub cursorFromC : MantCursor → Cursor
+cursorFromC cursor = record { place = cursor .place; ended = cursor .ended }
+
+abbrev pub cursorInC : Cursor → MantCursor
+cursorInC cursor = record { place = cursor .place; ended = cursor .ended }
+
+-- a number that comes alone, given twice
+abbrev pub numberAlone : ℕ → MantAnswer
+numberAlone number =
+    record { delivery = number; repeat = number; «delivered_place» = 0; «delivered_length» = 0; «repeated_length» = 0; taken = 0 }
+
+-- a step ("A batch"): kind 0 with an answer; 1 where the walk ends with no answer; 2 with 54 alone. After 1 and 2 the cursor stays and has ended
+abbrev pub stepInC : MantCursor → Stepped → MantStep
+stepInC cursor (Answered answer next) = record { kind = 0; answer = answerInC answer; next = cursorInC next }
+stepInC cursor Ended = record { kind = 1; answer = numberAlone 0; next = record { place = cursor .place; ended = true } }
+stepInC cursor TooLong = record { kind = 2; answer = numberAlone 54; next = record { place = cursor .place; ended = true } }
+
+-- a bound: the value, that it is too large, or number 10 ("Numbers answered"); the value is 0 where there is none
+abbrev pub boundInC : Bound → MantBound
+boundInC (Exactly value) = record { number = 0; «too_large» = false; value = value }
+boundInC TooLarge = record { number = 0; «too_large» = true; value = 0 }
+boundInC HopRefused = record { number = 10; «too_large» = false; value = 0 }
+
+-- "Sizes"; a list of 64 ranges has 128 values ("Numbers answered", 22)
+abbrev pub limitsInC : MantLimits
+limitsInC =
+    record { fixed = fixedLength; payload = payloadLimit; path = pathLimit; header = headerLimit; pdu = pduLimit; list = 128; batch = batchLimit }

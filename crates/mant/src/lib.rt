@@ -1,0 +1,289 @@
+// The functions exported to C, each a thin call of a proved function. Numbers, slices and structs by value; include/mant.h declares them.
+mod values;
+
+ghost use mathlib.Core.Path.{_≡_};
+ghost use lib.ListN.{length};
+ghost use Rattle.pdu.specs.Reading.{readOf};
+ghost use Rattle.pdu.specs.Writing.{writeAgain, writtenAgain};
+ghost use Rattle.origin.specs.Origination.{originated, originatedOutput};
+ghost use Rattle.lists.specs.Lists.{four, firstFault, holds};
+ghost use Rattle.node.specs.Decision.{listsOf};
+ghost use Rattle.node.specs.Answers.{answerOf, outputAfter};
+ghost use Rattle.batch.specs.Walk.{stepOf, stepOutput};
+ghost use Rattle.bound.specs.Bound.{bound, bytesBound};
+ghost use Rattle.bound.specs.Answer.{answer};
+ghost use Rattle.mant.specs.Boundary.{headerInC, pathAddressIn, pathHas, writtenInC, freshFromC, nodeFromC, answerInC, cursorFromC, stepInC, boundInC, limitsInC};
+use pdu::Reading;
+
+// What `mant_read` answers: 0 or 1 to 6, and of a PDU every field of its header in document 01's order, the header's length and the PDU's.
+// With a refusal all fields after the number are 0 and false.
+#[repr(C)]
+pub struct MantHeader {
+    pub number: u8,
+    pub protocol: u8,
+    pub time_stamp_request: bool,
+    pub path_bit: bool,
+    pub has_destination: bool,
+    pub port: u8,
+    pub encrypted: bool,
+    pub reserved: u8,
+    pub ack: bool,
+    pub added_header: bool,
+    pub hop_limit: u8,
+    pub payload_length: u16,
+    pub source: u16,
+    pub destination: u16,
+    pub pdu_id: u8,
+    pub path_count: u8,
+    pub header_length: usize,
+    pub pdu_length: usize,
+}
+
+// What writing answers: 0 and how many bytes were written, or the refusal's number and 0.
+#[repr(C)]
+pub struct MantWritten {
+    pub number: u8,
+    pub length: usize,
+}
+
+// What a caller asks of a fresh PDU. `destination` counts where `has_destination` is set. Hop limit and port are wider than their bits, so that
+// a number too large arrives whole and is refused.
+#[repr(C)]
+pub struct MantFresh {
+    pub source: u16,
+    pub has_destination: bool,
+    pub destination: u16,
+    pub hop_limit: u64,
+    pub port: u64,
+    pub time_stamp_request: bool,
+    pub with_path: bool,
+    pub reliable: bool,
+    pub pdu_id: u8,
+}
+
+// What a node is set to; each of the four lists is on or off.
+#[repr(C)]
+pub struct MantNode {
+    pub own: u16,
+    pub echo: bool,
+    pub repeating: bool,
+    pub source_pass: bool,
+    pub source_reject: bool,
+    pub destination_pass: bool,
+    pub destination_reject: bool,
+}
+
+// What a node answers for one PDU. Place and length of the delivered payload are 0 where nothing is delivered, `repeated_length` is 0 where
+// nothing is repeated, and `taken` is 0 where a list is at fault or no PDU can be read.
+#[repr(C)]
+pub struct MantAnswer {
+    pub delivery: u8,
+    pub repeat: u8,
+    pub delivered_place: usize,
+    pub delivered_length: usize,
+    pub repeated_length: usize,
+    pub taken: usize,
+}
+
+// Where a walk has come to. It begins with place 0 and not ended.
+#[repr(C)]
+pub struct MantCursor {
+    pub place: usize,
+    pub ended: bool,
+}
+
+// What one step of a walk finds. Kind 0: a PDU's answer and the cursor of the next. Kind 1: no more PDU. Kind 2: the batch is too long, both
+// numbers are 54. With kinds 1 and 2 the rest of the answer is 0 and the next cursor is the one given, ended.
+#[repr(C)]
+pub struct MantStep {
+    pub kind: u8,
+    pub answer: MantAnswer,
+    pub next: MantCursor,
+}
+
+// A bound: number 0 and the value; or 10 for a hop limit above 7; or that the value is too large for 64 bits. The value is 0 in the last two.
+#[repr(C)]
+pub struct MantBound {
+    pub number: u8,
+    pub too_large: bool,
+    pub value: u64,
+}
+
+// Document 01's sizes, in bytes; the path's in addresses, a list's in values.
+#[repr(C)]
+pub struct MantLimits {
+    pub fixed: usize,
+    pub payload: usize,
+    pub path: usize,
+    pub header: usize,
+    pub pdu: usize,
+    pub list: usize,
+    pub batch: usize,
+}
+
+// The header of the PDU at the start of `bytes`, or the number, 1 to 6, of why there is none. Bytes after the PDU are not looked at.
+#[no_mangle]
+pub extern "C" fn mant_read(bytes: &[u8]) -> MantHeader
+    ensures { λ r. ⌜ r ≡ headerInC (readOf (now (bytes .entry))) ⌝ }
+{
+    values::header_in_c(pdu::read(bytes))
+}
+
+// The address at place `i` of the path of the PDU at the start of `bytes`, the first at 0. 0 past the last one, and where there is no PDU.
+#[no_mangle]
+pub extern "C" fn mant_path_address(bytes: &[u8], i: usize) -> u16
+    ensures { λ r. ⌜ r ≡ pathAddressIn (readOf (now (bytes .entry))) (now (bytes .entry)) i ⌝ }
+{
+    let reading = pdu::read(bytes);
+    let Reading::Pdu(header) = reading else {
+        return 0;
+    };
+    pdu::parts::path_address(bytes, header, i)
+}
+
+// Whether an address is anywhere in the path of the PDU at the start of `bytes`. Without a path none is, nor where there is no PDU.
+#[no_mangle]
+pub extern "C" fn mant_path_has(bytes: &[u8], address: u16) -> bool
+    ensures { λ r. ⌜ r ≡ pathHas (readOf (now (bytes .entry))) (now (bytes .entry)) address ⌝ }
+{
+    let reading = pdu::read(bytes);
+    let Reading::Pdu(header) = reading else {
+        return false;
+    };
+    pdu::parts::path_has(bytes, header, address)
+}
+
+// Writes the PDU at the start of `bytes` again, from what reading shows of it, and answers 0 and its length. Answers 1 to 6 where there is no
+// PDU and 14 where the output is too short, with length 0 and the output as it was. Output past the PDU keeps its bytes.
+#[no_mangle]
+pub extern "C" fn mant_write_again(bytes: &[u8], output: &mut [u8]) -> MantWritten
+    ensures { λ r. ⌜ (r ≡ writtenInC (writeAgain (now (bytes .entry)) (length (now (output .entry))))) × (now (output .exit) ≡ writtenAgain (now (bytes .entry)) (now (output .entry))) ⌝ }
+{
+    values::written_in_c(pdu::writing::write_again(bytes, output))
+}
+
+// Writes a fresh PDU at the start of the output and answers 0 and its length, or 10 to 14 with length 0 and the output as it was. The PDU ID
+// counts for reliable service only. Output past the PDU keeps its bytes.
+#[no_mangle]
+pub extern "C" fn mant_originate(
+    settings: MantFresh,
+    payload: &[u8],
+    output: &mut [u8],
+) -> MantWritten
+    ensures { λ r. ⌜ (r ≡ writtenInC (originated (freshFromC settings) (now (payload .entry)) (length (now (output .entry))))) × (now (output .exit) ≡ originatedOutput (freshFromC settings) (now (payload .entry)) (now (output .entry))) ⌝ }
+{
+    values::written_in_c(origin::originate(values::fresh_from_c(settings), payload, output))
+}
+
+// The number of the first of the four lists that has a fault, 22, 21 or 20, and 0 where none has. An empty list has none.
+#[no_mangle]
+pub extern "C" fn mant_list_fault<'a>(
+    source_pass: &'a [u16],
+    source_reject: &'a [u16],
+    destination_pass: &'a [u16],
+    destination_reject: &'a [u16],
+) -> u8
+    ensures { λ r. ⌜ r ≡ firstFault (four (now («source_pass» .entry)) (now («source_reject» .entry)) (now («destination_pass» .entry)) (now («destination_reject» .entry))) ⌝ }
+{
+    lists::fault(
+        source_pass,
+        source_reject,
+        destination_pass,
+        destination_reject,
+    )
+}
+
+// Whether an address is in some range of the list, both ends included. An empty list holds none; a last value without a partner is no range.
+#[no_mangle]
+pub extern "C" fn mant_list_holds(list: &[u16], address: u16) -> bool
+    ensures { λ r. ⌜ r ≡ holds (now (list .entry)) address ⌝ }
+{
+    lists::holds(list, address)
+}
+
+// What a node answers for the PDU at the start of the received bytes. The repeated PDU is written at the start of the output where the repeat
+// number is 0, and the output keeps its bytes past it; with any other repeat number the output is left as it was.
+#[no_mangle]
+pub extern "C" fn mant_hear<'a>(
+    settings: MantNode,
+    source_pass: &'a [u16],
+    source_reject: &'a [u16],
+    destination_pass: &'a [u16],
+    destination_reject: &'a [u16],
+    received: &[u8],
+    output: &mut [u8],
+) -> MantAnswer
+    ensures { λ r. ⌜ (r ≡ answerInC (answerOf (nodeFromC settings) (listsOf (now («source_pass» .entry)) (now («source_reject» .entry)) (now («destination_pass» .entry)) (now («destination_reject» .entry))) (length (now (output .entry))) (now (received .entry)))) × (now (output .exit) ≡ outputAfter (nodeFromC settings) (listsOf (now («source_pass» .entry)) (now («source_reject» .entry)) (now («destination_pass» .entry)) (now («destination_reject» .entry))) (now (received .entry)) (now (output .entry))) ⌝ }
+{
+    values::answer_in_c(node::hear(
+        values::node_from_c(settings),
+        source_pass,
+        source_reject,
+        destination_pass,
+        destination_reject,
+        received,
+        output,
+    ))
+}
+
+// One step of the walk over a batch: the node's answer for the PDU at the cursor, and the cursor of the next. Any cursor gets an answer; one
+// past the batch's end, or of a walk that ended, gets kind 1. The output is changed as by `mant_hear`, and not at all with kinds 1 and 2.
+#[no_mangle]
+pub extern "C" fn mant_step<'a>(
+    settings: MantNode,
+    source_pass: &'a [u16],
+    source_reject: &'a [u16],
+    destination_pass: &'a [u16],
+    destination_reject: &'a [u16],
+    batch: &[u8],
+    cursor: MantCursor,
+    output: &mut [u8],
+) -> MantStep
+    ensures { λ r. ⌜ (r ≡ stepInC cursor (stepOf (nodeFromC settings) (listsOf (now («source_pass» .entry)) (now («source_reject» .entry)) (now («destination_pass» .entry)) (now («destination_reject» .entry))) (length (now (output .entry))) (now (batch .entry)) (cursorFromC cursor))) × (now (output .exit) ≡ stepOutput (nodeFromC settings) (listsOf (now («source_pass» .entry)) (now («source_reject» .entry)) (now («destination_pass» .entry)) (now («destination_reject» .entry))) (now (batch .entry)) (cursorFromC cursor) (now (output .entry))) ⌝ }
+{
+    let stepped = batch::step(
+        values::node_from_c(settings),
+        source_pass,
+        source_reject,
+        destination_pass,
+        destination_reject,
+        batch,
+        values::cursor_from_c(cursor),
+        output,
+    );
+    values::step_in_c(cursor, stepped)
+}
+
+// The most transmissions that one fresh message with that hop limit can cause among so many repeating nodes, its own counted. Number 10 for a
+// hop limit above 7.
+#[no_mangle]
+pub extern "C" fn mant_most_transmissions(nodes: u64, hop_limit: u64) -> MantBound
+    ensures { λ r. ⌜ r ≡ boundInC (answer «hop_limit» (bound nodes «hop_limit»)) ⌝ }
+{
+    values::bound_in_c(bound::most_transmissions(nodes, hop_limit))
+}
+
+// The most bytes that those transmissions have together, if the fresh message has `length` bytes. Number 10 for a hop limit above 7.
+#[no_mangle]
+pub extern "C" fn mant_most_bytes(nodes: u64, hop_limit: u64, length: u64) -> MantBound
+    ensures { λ r. ⌜ r ≡ boundInC (answer «hop_limit» (bytesBound nodes «hop_limit» length)) ⌝ }
+{
+    values::bound_in_c(bound::most_bytes(nodes, hop_limit, length))
+}
+
+// Document 01's sizes.
+#[no_mangle]
+pub extern "C" fn mant_limits() -> MantLimits
+    ensures { λ r. ⌜ r ≡ limitsInC ⌝ }
+{
+    let limits = pdu::Header::limits();
+    MantLimits {
+        fixed: limits.fixed,
+        payload: limits.payload,
+        path: limits.path,
+        header: limits.header,
+        pdu: limits.pdu,
+        list: 128,
+        batch: batch::Cursor::BATCH_LIMIT,
+    }
+}

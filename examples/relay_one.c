@@ -1,0 +1,55 @@
+/* One report from gauge 1000 to base 1600, relayed at node 2000. From the repository's root:
+
+       rt staticlib mant
+       gcc -std=c11 -Wall -Wextra -pedantic examples/relay_one.c -Iinclude target/staticlib/libmant.a -o /tmp/relay_one && /tmp/relay_one
+
+   prints examples/relay_one.expected. */
+#include <stdio.h>
+
+#include "mant.h"
+
+static void print_hex(const char *name, const uint8_t *bytes, size_t length)
+{
+    printf("%s, %zu bytes: ", name, length);
+    for (size_t i = 0; i < length; i++) {
+        printf("%02X", bytes[i]);
+    }
+    printf("\n");
+}
+
+static void print_number(const char *name, uint8_t number)
+{
+    printf("%s: %u, %s\n", name, number, mant_meaning(number));
+}
+
+int main(void)
+{
+    const uint8_t payload[] = {0x70, 0x01, 0x08, 0x12, 0x12, 0x03, 0x24, 0x13, 0x22, 0x02, 0x76};
+    uint8_t fresh[MANT_PDU_LIMIT];
+    uint8_t repeated[MANT_PDU_LIMIT];
+
+    MantFresh settings = {.source = 1000, .has_destination = true, .destination = 1600, .hop_limit = 263, .with_path = true};
+    MantWritten written = mant_originate(settings, payload, sizeof payload, fresh, sizeof fresh);
+    print_number("hop limit 263", written.number);
+
+    settings.hop_limit = 1;
+    written = mant_originate(settings, payload, sizeof payload, fresh, sizeof fresh);
+    print_number("hop limit 1", written.number);
+    print_hex("originated", fresh, written.length);
+
+    /* Four lists that are off and empty. */
+    const MantNode node = {.own = 2000, .echo = true, .repeating = true};
+    MantAnswer answer = mant_hear(node, NULL, 0, NULL, 0, NULL, 0, NULL, 0, fresh, written.length, repeated, sizeof repeated);
+    print_number("delivery at node 2000", answer.delivery);
+    print_number("repeat at node 2000", answer.repeat);
+    print_hex("repeated", repeated, answer.repeated_length);
+
+    MantHeader header = mant_read(repeated, answer.repeated_length);
+    printf("its hop limit: %u, its path: %u address, %u\n", header.hop_limit, header.path_count,
+           mant_path_address(repeated, answer.repeated_length, 0));
+
+    /* The node hears its own repeat. */
+    answer = mant_hear(node, NULL, 0, NULL, 0, NULL, 0, NULL, 0, repeated, answer.repeated_length, fresh, sizeof fresh);
+    print_number("repeat of the repeat", answer.repeat);
+    return 0;
+}

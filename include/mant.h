@@ -1,0 +1,320 @@
+/*
+ * mant.h: the MANT layer of ALERT2 for C, linked from libmant.a (rt staticlib mant).
+ *
+ * Every call answers for every input: nothing has to be checked before it. What each answers is proved of the code in the library, against the
+ * definitions in the crates' specs/ folders; this header only declares it. No call keeps anything between calls, allocates, or does input or output.
+ * The library needs memcpy and memset, and about 5 KB of stack.
+ *
+ * Slices. A slice is passed as a pointer and then a length, which counts elements: bytes, or uint16_t values of a list. Only so many elements
+ * are ever read or written. With length 0 the pointer may be anything, NULL too: it is not followed. With any other length it must point to that
+ * many elements, aligned for them. An output must share no memory with the other slices of the call. A bool holds 0 or 1, as C's does.
+ *
+ * Output. It changes only where a PDU is written (number 0), or, at a node, where the repeat number is 0. It then begins with that PDU, and keeps
+ * its bytes past the PDU's end. With every other number the output is left as it was. MANT_PDU_LIMIT bytes are room for every PDU.
+ *
+ * Numbers. Every refusal has one; mant_meaning gives its words.
+ *
+ *    0  done
+ *    1  fewer than 6 bytes
+ *    2  version not 0
+ *    3  protocol not 0 or 1
+ *    4  protocol 1 and no destination
+ *    5  a header field after byte 5 runs past the end
+ *    6  the payload runs past the end
+ *   10  hop setting above 7
+ *   11  port setting above 15
+ *   12  payload above 4,095
+ *   13  reliable service asked without a destination
+ *   14  writing: output shorter than the PDU
+ *   20  a list range with low above high
+ *   21  a list with an odd number of values
+ *   22  a list of more than 128 values
+ *   30  echo: own address in the path
+ *   31  the source pass list is on and does not hold the source
+ *   32  the source reject list is on and holds the source
+ *   33  the destination pass list is on and does not hold the destination
+ *   34  the destination reject list is on and holds the destination
+ *   35  not delivered: added header
+ *   36  not repeated: repeating off
+ *   37  not repeated: hop limit 0
+ *   38  not repeated: path has 255
+ *   39  not delivered: for another address
+ *   40  output shorter than the repeated PDU
+ *   41  not repeated: this node is the destination
+ *   50  job cut short                          (50 to 53 are given by the program relay only)
+ *   51  job flags, bit 6 or 7 set
+ *   52  job list count above 64
+ *   53  job bytes left over
+ *   54  batch above 16,384
+ */
+#ifndef MANT_H
+#define MANT_H
+
+#include <stdbool.h>
+#include <stddef.h>
+#include <stdint.h>
+
+#ifdef __cplusplus
+extern "C" {
+#endif
+
+enum MantNumber {
+    MANT_DONE = 0,
+    MANT_TOO_SHORT = 1,
+    MANT_WRONG_VERSION = 2,
+    MANT_UNKNOWN_PROTOCOL = 3,
+    MANT_NO_DESTINATION = 4,
+    MANT_HEADER_CUT = 5,
+    MANT_PAYLOAD_CUT = 6,
+    MANT_HOP_LIMIT_ABOVE_7 = 10,
+    MANT_PORT_ABOVE_15 = 11,
+    MANT_PAYLOAD_TOO_LONG = 12,
+    MANT_RELIABLE_WITHOUT_DESTINATION = 13,
+    MANT_OUTPUT_TOO_SHORT = 14,
+    MANT_LOW_ABOVE_HIGH = 20,
+    MANT_LIST_ODD = 21,
+    MANT_LIST_TOO_LONG = 22,
+    MANT_ECHO = 30,
+    MANT_SOURCE_NOT_PASSED = 31,
+    MANT_SOURCE_REJECTED = 32,
+    MANT_DESTINATION_NOT_PASSED = 33,
+    MANT_DESTINATION_REJECTED = 34,
+    MANT_ADDED_HEADER = 35,
+    MANT_REPEATING_OFF = 36,
+    MANT_HOP_LIMIT_0 = 37,
+    MANT_PATH_FULL = 38,
+    MANT_FOR_ANOTHER = 39,
+    MANT_REPEAT_OUTPUT_TOO_SHORT = 40,
+    MANT_FOR_THIS_NODE = 41,
+    MANT_JOB_CUT = 50,
+    MANT_JOB_FLAGS = 51,
+    MANT_JOB_LIST_COUNT = 52,
+    MANT_JOB_LEFT_OVER = 53,
+    MANT_BATCH_TOO_LONG = 54
+};
+
+/* What a number means, in words; "no such number" for any other. */
+static inline const char *mant_meaning(uint8_t number)
+{
+    switch (number) {
+    case MANT_DONE: return "done";
+    case MANT_TOO_SHORT: return "fewer than 6 bytes";
+    case MANT_WRONG_VERSION: return "version not 0";
+    case MANT_UNKNOWN_PROTOCOL: return "protocol not 0 or 1";
+    case MANT_NO_DESTINATION: return "protocol 1 and no destination";
+    case MANT_HEADER_CUT: return "a header field after byte 5 runs past the end";
+    case MANT_PAYLOAD_CUT: return "the payload runs past the end";
+    case MANT_HOP_LIMIT_ABOVE_7: return "hop setting above 7";
+    case MANT_PORT_ABOVE_15: return "port setting above 15";
+    case MANT_PAYLOAD_TOO_LONG: return "payload above 4,095";
+    case MANT_RELIABLE_WITHOUT_DESTINATION: return "reliable service asked without a destination";
+    case MANT_OUTPUT_TOO_SHORT: return "output shorter than the PDU";
+    case MANT_LOW_ABOVE_HIGH: return "a list range with low above high";
+    case MANT_LIST_ODD: return "a list with an odd number of values";
+    case MANT_LIST_TOO_LONG: return "a list of more than 128 values";
+    case MANT_ECHO: return "echo: own address in the path";
+    case MANT_SOURCE_NOT_PASSED: return "the source pass list does not hold the source";
+    case MANT_SOURCE_REJECTED: return "the source reject list holds the source";
+    case MANT_DESTINATION_NOT_PASSED: return "the destination pass list does not hold the destination";
+    case MANT_DESTINATION_REJECTED: return "the destination reject list holds the destination";
+    case MANT_ADDED_HEADER: return "not delivered: added header";
+    case MANT_REPEATING_OFF: return "not repeated: repeating off";
+    case MANT_HOP_LIMIT_0: return "not repeated: hop limit 0";
+    case MANT_PATH_FULL: return "not repeated: path has 255";
+    case MANT_FOR_ANOTHER: return "not delivered: for another address";
+    case MANT_REPEAT_OUTPUT_TOO_SHORT: return "output shorter than the repeated PDU";
+    case MANT_FOR_THIS_NODE: return "not repeated: this node is the destination";
+    case MANT_JOB_CUT: return "job cut short";
+    case MANT_JOB_FLAGS: return "job flags, bit 6 or 7 set";
+    case MANT_JOB_LIST_COUNT: return "job list count above 64";
+    case MANT_JOB_LEFT_OVER: return "job bytes left over";
+    case MANT_BATCH_TOO_LONG: return "batch above 16,384";
+    default: return "no such number";
+    }
+}
+
+/* Sizes in bytes; the path's in addresses, a list's in values. mant_limits answers the same numbers. */
+#define MANT_FIXED_LENGTH 6
+#define MANT_PAYLOAD_LIMIT 4095
+#define MANT_PATH_LIMIT 255
+#define MANT_HEADER_LIMIT 520
+#define MANT_PDU_LIMIT 4615
+#define MANT_LIST_LIMIT 128
+#define MANT_BATCH_LIMIT 16384
+
+/* The header of a PDU, in the order of its bits. A destination, PDU ID or path count that the PDU does not have is 0. With a number other than 0
+   every field after it is 0 or false. */
+typedef struct MantHeader {
+    uint8_t number;           /* 0, or 1 to 6 */
+    uint8_t protocol;         /* 0 best efforts, 1 reliable */
+    bool time_stamp_request;
+    bool path_bit;
+    bool has_destination;     /* without one the PDU is for everyone */
+    uint8_t port;
+    bool encrypted;
+    uint8_t reserved;
+    bool ack;
+    bool added_header;
+    uint8_t hop_limit;
+    uint16_t payload_length;
+    uint16_t source;
+    uint16_t destination;
+    uint8_t pdu_id;
+    uint8_t path_count;
+    size_t header_length;     /* the payload begins here */
+    size_t pdu_length;        /* header and payload; the next PDU of a batch begins here */
+} MantHeader;
+
+/* What writing answers: number 0 and how many bytes were written, or the refusal's number and length 0. */
+typedef struct MantWritten {
+    uint8_t number;
+    size_t length;
+} MantWritten;
+
+/* What is asked of a fresh PDU. Hop limit and port are wider than their bits, so that 263 arrives as 263 and is refused. */
+typedef struct MantFresh {
+    uint16_t source;
+    bool has_destination;     /* false: for everyone, and `destination` does not count */
+    uint16_t destination;
+    uint64_t hop_limit;       /* 0 to 7; 7 sets no limit */
+    uint64_t port;            /* 0 to 15 */
+    bool time_stamp_request;
+    bool with_path;           /* every node that repeats the PDU adds its address */
+    bool reliable;            /* needs a destination */
+    uint8_t pdu_id;           /* written for reliable service only */
+} MantFresh;
+
+/* What a node is set to. Each of its four lists is on or off; a pass list that is on and empty passes nothing. */
+typedef struct MantNode {
+    uint16_t own;
+    bool echo;                /* refuse a PDU whose path holds the own address */
+    bool repeating;
+    bool source_pass;
+    bool source_reject;
+    bool destination_pass;
+    bool destination_reject;
+} MantNode;
+
+/* What a node answers for one PDU. Places count from the PDU's first byte. */
+typedef struct MantAnswer {
+    uint8_t delivery;         /* 0: delivered; else why not */
+    uint8_t repeat;           /* 0: repeated; else why not */
+    size_t delivered_place;   /* where the payload lies in the received bytes; 0 where nothing is delivered */
+    size_t delivered_length;  /* 0 where nothing is delivered, and for an empty payload */
+    size_t repeated_length;   /* how many bytes were written to the output; 0 where nothing is repeated */
+    size_t taken;             /* how long the received PDU is; 0 where a list is at fault or no PDU can be read */
+} MantAnswer;
+
+/* Where a walk over a batch has come to. A walk begins with place 0 and not ended. */
+typedef struct MantCursor {
+    size_t place;
+    bool ended;
+} MantCursor;
+
+enum MantKind {
+    MANT_ANSWERED = 0,        /* the answer for the PDU at the cursor, and the cursor of the next */
+    MANT_ENDED = 1,           /* no more PDU; every field of the answer is 0 */
+    MANT_REFUSED = 2          /* the batch is above 16,384 bytes; both numbers are 54, the rest of the answer is 0 */
+};
+
+/* What one step of a walk finds. With kinds 1 and 2 `next` is the cursor given, ended. */
+typedef struct MantStep {
+    uint8_t kind;
+    MantAnswer answer;
+    MantCursor next;
+} MantStep;
+
+/* A bound. Number 10: the hop limit is above 7. Too large: 64 bits do not hold the value. In both the value is 0. */
+typedef struct MantBound {
+    uint8_t number;
+    bool too_large;
+    uint64_t value;
+} MantBound;
+
+typedef struct MantLimits {
+    size_t fixed;
+    size_t payload;
+    size_t path;
+    size_t header;
+    size_t pdu;
+    size_t list;
+    size_t batch;
+} MantLimits;
+
+/* The library is for x86-64: elsewhere these fail. */
+#ifdef __cplusplus
+#define MANT_SIZE(type, size) static_assert(sizeof(type) == (size), #type " is laid out otherwise in the library")
+#else
+#define MANT_SIZE(type, size) _Static_assert(sizeof(type) == (size), #type " is laid out otherwise in the library")
+#endif
+MANT_SIZE(MantHeader, 40);
+MANT_SIZE(MantWritten, 16);
+MANT_SIZE(MantFresh, 32);
+MANT_SIZE(MantNode, 8);
+MANT_SIZE(MantAnswer, 40);
+MANT_SIZE(MantCursor, 16);
+MANT_SIZE(MantStep, 64);
+MANT_SIZE(MantBound, 16);
+MANT_SIZE(MantLimits, 56);
+#undef MANT_SIZE
+
+/* The header of the PDU at the start of the bytes, or the number, 1 to 6, of why there is none there. Bytes after the PDU are not looked at. */
+MantHeader mant_read(const uint8_t *bytes, size_t bytes_length);
+
+/* The address at a place of the path of the PDU at the start of the bytes, the first at 0. Answers 0 past the last one and where there is no PDU;
+   an address can be 0 too, so ask mant_read for path_count. */
+uint16_t mant_path_address(const uint8_t *bytes, size_t bytes_length, size_t place);
+
+/* Whether an address is anywhere in the path of the PDU at the start of the bytes. Without a path none is, nor where there is no PDU. */
+bool mant_path_has(const uint8_t *bytes, size_t bytes_length, uint16_t address);
+
+/* Writes the PDU at the start of the bytes again, from what reading shows of it: the same bytes. Answers 1 to 6 where there is no PDU, 14 where
+   the output is too short. Leaves the output alone unless the number is 0. */
+MantWritten mant_write_again(const uint8_t *bytes, size_t bytes_length, uint8_t *output, size_t output_length);
+
+/* Writes a fresh PDU with this payload. Answers 10 to 14, the first that applies, where it can't. Leaves the output alone unless the number is 0. */
+MantWritten mant_originate(MantFresh settings, const uint8_t *payload, size_t payload_length, uint8_t *output, size_t output_length);
+
+/* What is wrong with the lists of a node: the number of the first list that has a fault, in this order, or 0. In each list 22, 21, then 20. A list
+   is low, high, low, high and so on, both ends included, in any order; overlaps are allowed. */
+uint8_t mant_list_fault(const uint16_t *source_pass, size_t source_pass_length, const uint16_t *source_reject, size_t source_reject_length,
+                        const uint16_t *destination_pass, size_t destination_pass_length, const uint16_t *destination_reject,
+                        size_t destination_reject_length);
+
+/* Whether an address is in some range of a list. An empty list holds none; a last value without a partner is no range. */
+bool mant_list_holds(const uint16_t *list, size_t list_length, uint16_t address);
+
+/* What a node answers for the PDU at the start of the received bytes: a number for delivery and one for repeating. Faults of the lists (20 to 22),
+   of reading (1 to 6), 30 to 34 and 40 are given as both. The lists are checked even where they are off. The delivered payload is
+   received[delivered_place] and the delivered_length - 1 bytes after it. The repeated PDU is written to the output where the repeat number is 0;
+   with any other the output is left alone. */
+MantAnswer mant_hear(MantNode settings, const uint16_t *source_pass, size_t source_pass_length, const uint16_t *source_reject,
+                     size_t source_reject_length, const uint16_t *destination_pass, size_t destination_pass_length,
+                     const uint16_t *destination_reject, size_t destination_reject_length, const uint8_t *received, size_t received_length,
+                     uint8_t *output, size_t output_length);
+
+/* One step of the walk over PDUs that lie back to back: what mant_hear answers for the PDU at the cursor, whose first byte is
+   batch[cursor.place], and the cursor of the next. After a list fault or a PDU that can't be read the next cursor has ended. Any cursor may be given;
+   one past the end, or one that has ended, gets MANT_ENDED. The output is changed as by mant_hear, and left alone with kinds 1 and 2.
+
+       for (MantStep s = mant_step(.., (MantCursor){0, false}, ..); s.kind == MANT_ANSWERED; s = mant_step(.., s.next, ..)) { .. } */
+MantStep mant_step(MantNode settings, const uint16_t *source_pass, size_t source_pass_length, const uint16_t *source_reject,
+                   size_t source_reject_length, const uint16_t *destination_pass, size_t destination_pass_length,
+                   const uint16_t *destination_reject, size_t destination_reject_length, const uint8_t *batch, size_t batch_length,
+                   MantCursor cursor, uint8_t *output, size_t output_length);
+
+/* The most transmissions that one fresh PDU with a path and this hop limit can cause among so many repeating nodes, its own counted. Echo is on at
+   each node, and no two have the same address. */
+MantBound mant_most_transmissions(uint64_t nodes, uint64_t hop_limit);
+
+/* The most bytes that those transmissions have together, where the fresh PDU has this length. */
+MantBound mant_most_bytes(uint64_t nodes, uint64_t hop_limit, uint64_t length);
+
+/* The sizes above, as the library has them. */
+MantLimits mant_limits(void);
+
+#ifdef __cplusplus
+}
+#endif
+
+#endif

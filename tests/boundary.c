@@ -1,0 +1,133 @@
+/* What C sees at the boundary: empty slices with NULL, the fields of every struct, the limits. From the repository's root, after rt staticlib mant:
+
+       gcc -std=c11 -Wall -Wextra -pedantic tests/boundary.c -Iinclude target/staticlib/libmant.a -o /tmp/boundary && /tmp/boundary
+
+   prints how many checks passed, and each that failed. */
+#include <stdio.h>
+#include <string.h>
+
+#include "mant.h"
+
+#define NO_LISTS NULL, 0, NULL, 0, NULL, 0, NULL, 0
+#define CHECK(fact) check(fact, #fact, __LINE__)
+
+static int passed, failed;
+
+static void check(bool holds, const char *fact, int line)
+{
+    if (holds) {
+        passed++;
+    } else {
+        failed++;
+        printf("line %d fails: %s\n", line, fact);
+    }
+}
+
+/* Document 002's example: source 1000, destination 1600, hop limit 1, an empty path. */
+static const uint8_t example[20] = {0x03, 0x00, 0x10, 0x0B, 0x03, 0xE8, 0x06, 0x40, 0x00, 0x70,
+                                    0x01, 0x08, 0x12, 0x12, 0x03, 0x24, 0x13, 0x22, 0x02, 0x76};
+static const MantNode node = {.own = 2000, .echo = true, .repeating = true};
+
+static void null_slices(void)
+{
+    const MantNode passing = {.own = 1, .source_pass = true};
+    const MantFresh fresh = {.source = 5};
+    const uint8_t shortest[6] = {0, 0, 0, 0, 0, 5};
+    uint8_t output[8] = {9, 9, 9, 9, 9, 9, 9, 9};
+    CHECK(mant_read(NULL, 0).number == MANT_TOO_SHORT);
+    CHECK(mant_path_address(NULL, 0, 0) == 0);
+    CHECK(!mant_path_has(NULL, 0, 0));
+    CHECK(mant_write_again(NULL, 0, NULL, 0).number == MANT_TOO_SHORT);
+    CHECK(mant_write_again(example, 20, NULL, 0).number == MANT_OUTPUT_TOO_SHORT);
+    CHECK(mant_originate(fresh, NULL, 0, NULL, 0).number == MANT_OUTPUT_TOO_SHORT);
+    CHECK(mant_originate(fresh, NULL, 0, output, 8).length == 6 && memcmp(output, shortest, 6) == 0 && output[6] == 9 && output[7] == 9);
+    CHECK(mant_list_fault(NO_LISTS) == 0);
+    CHECK(!mant_list_holds(NULL, 0, 0));
+    CHECK(mant_hear(node, NO_LISTS, NULL, 0, NULL, 0).repeat == MANT_TOO_SHORT);
+    CHECK(mant_hear(node, NO_LISTS, example, 20, NULL, 0).delivery == MANT_REPEAT_OUTPUT_TOO_SHORT);
+    CHECK(mant_hear(passing, NO_LISTS, example, 20, NULL, 0).delivery == MANT_SOURCE_NOT_PASSED);
+    CHECK(mant_step(node, NO_LISTS, NULL, 0, (MantCursor){0, false}, NULL, 0).kind == MANT_ENDED);
+}
+
+static void reading_and_writing(void)
+{
+    const uint8_t every[15] = {0x0F, 0xBF, 0xF0, 0x01, 1, 2, 3, 4, 5, 2, 6, 7, 8, 9, 10};
+    uint8_t output[16];
+    MantHeader h = mant_read(every, 15);
+    CHECK(h.number == 0 && h.protocol == 1 && h.time_stamp_request && h.path_bit && h.has_destination && h.port == 11);
+    CHECK(h.encrypted && h.reserved == 3 && h.ack && h.added_header && h.hop_limit == 7 && h.payload_length == 1);
+    CHECK(h.source == 258 && h.destination == 772 && h.pdu_id == 5 && h.path_count == 2 && h.header_length == 14 && h.pdu_length == 15);
+    CHECK(mant_path_address(every, 15, 1) == 2057 && mant_path_address(every, 15, 2) == 0);
+    CHECK(mant_path_has(every, 15, 1543) && !mant_path_has(every, 15, 2570));
+    memset(output, 77, 16);
+    MantWritten w = mant_write_again(every, 15, output, 16);
+    CHECK(w.number == 0 && w.length == 15 && memcmp(output, every, 15) == 0 && output[15] == 77);
+    h = mant_read(every, 14);
+    CHECK(h.number == MANT_PAYLOAD_CUT && h.protocol == 0 && !h.path_bit && !h.has_destination && h.port == 0);
+    CHECK(h.source == 0 && h.destination == 0 && h.path_count == 0 && h.header_length == 0 && h.pdu_length == 0);
+}
+
+static void origination(void)
+{
+    uint8_t payload[MANT_PAYLOAD_LIMIT + 1] = {1}, output[MANT_PDU_LIMIT];
+    const uint8_t expected[11] = {0x0F, 0xF0, 0x70, 0x01, 1, 2, 3, 4, 99, 0, 1};
+    MantFresh f = {.source = 258, .has_destination = true, .destination = 772, .hop_limit = 7, .port = 15};
+    f.time_stamp_request = f.with_path = f.reliable = true;
+    f.pdu_id = 99;
+    CHECK(mant_originate(f, payload, 1, output, 11).length == 11 && memcmp(output, expected, 11) == 0);
+    CHECK(mant_originate(f, payload, MANT_PAYLOAD_LIMIT, output, sizeof output).length == 4105);
+    CHECK(mant_originate(f, payload, 1, output, 10).number == MANT_OUTPUT_TOO_SHORT);
+    f.has_destination = false;
+    CHECK(mant_originate(f, payload, 1, output, 11).number == MANT_RELIABLE_WITHOUT_DESTINATION);
+    CHECK(mant_originate(f, payload, MANT_PAYLOAD_LIMIT + 1, output, sizeof output).number == MANT_PAYLOAD_TOO_LONG);
+    f.port = 272;
+    CHECK(mant_originate(f, payload, 1, output, 11).number == MANT_PORT_ABOVE_15);
+    f.hop_limit = UINT64_C(0x100000001);
+    CHECK(mant_originate(f, payload, 1, output, 11).number == MANT_HOP_LIMIT_ABOVE_7);
+}
+
+static void lists_and_walk(void)
+{
+    const uint16_t list[4] = {900, 1100, 5, 5}, wrong[2] = {2, 1};
+    static uint8_t batch[MANT_BATCH_LIMIT + 1];
+    const MantNode rejecting = {.own = 2000, .source_reject = true};
+    uint8_t output[MANT_PDU_LIMIT];
+    CHECK(mant_list_holds(list, 4, 1100) && !mant_list_holds(list, 4, 6) && !mant_list_holds(list, 3, 5));
+    CHECK(mant_list_fault(list, 4, list, 3, wrong, 2, NULL, 0) == MANT_LIST_ODD);
+    CHECK(mant_list_fault(list, 4, list, 4, NULL, 0, wrong, 2) == MANT_LOW_ABOVE_HIGH);
+    CHECK(mant_hear(rejecting, NULL, 0, list, 4, NULL, 0, NULL, 0, example, 20, output, sizeof output).repeat == MANT_SOURCE_REJECTED);
+    memcpy(batch, example, 20);
+    batch[25] = 5;
+    MantStep s = mant_step(node, NO_LISTS, batch, 26, (MantCursor){0, false}, output, sizeof output);
+    CHECK(s.kind == MANT_ANSWERED && s.answer.delivery == 39 && s.answer.repeat == 0 && s.answer.repeated_length == 22);
+    CHECK(s.answer.delivered_place == 0 && s.answer.delivered_length == 0 && s.answer.taken == 20 && s.next.place == 20 && !s.next.ended);
+    s = mant_step(node, NO_LISTS, batch, 26, s.next, output, sizeof output);
+    CHECK(s.answer.delivery == 0 && s.answer.repeat == 37 && s.answer.delivered_place == 6 && s.answer.delivered_length == 0 && s.next.place == 26);
+    s = mant_step(node, NO_LISTS, batch, 26, s.next, output, sizeof output);
+    CHECK(s.kind == MANT_ENDED && s.answer.delivery == 0 && s.next.place == 26 && s.next.ended);
+    s = mant_step(node, NO_LISTS, batch, sizeof batch, (MantCursor){3, false}, output, sizeof output);
+    CHECK(s.kind == MANT_REFUSED && s.answer.delivery == MANT_BATCH_TOO_LONG && s.answer.repeat == 54 && s.answer.taken == 0 && s.next.place == 3);
+}
+
+static void bounds_and_limits(void)
+{
+    MantLimits l = mant_limits();
+    MantBound b = mant_most_transmissions(3, 2);
+    CHECK(b.number == 0 && !b.too_large && b.value == 10);
+    CHECK(mant_most_transmissions(3, 7).value == 16 && mant_most_transmissions(0, 7).value == 1);
+    CHECK(mant_most_transmissions(3, 8).number == MANT_HOP_LIMIT_ABOVE_7 && mant_most_bytes(3, 263, 1).number == 10);
+    CHECK(mant_most_transmissions(UINT64_MAX, 2).too_large && mant_most_bytes(3, 1, 10).value == 46);
+    CHECK(l.fixed == MANT_FIXED_LENGTH && l.payload == MANT_PAYLOAD_LIMIT && l.path == MANT_PATH_LIMIT && l.header == MANT_HEADER_LIMIT);
+    CHECK(l.pdu == MANT_PDU_LIMIT && l.list == MANT_LIST_LIMIT && l.batch == MANT_BATCH_LIMIT);
+}
+
+int main(void)
+{
+    null_slices();
+    reading_and_writing();
+    origination();
+    lists_and_walk();
+    bounds_and_limits();
+    printf("%d passed, %d failed\n", passed, failed);
+    return failed != 0;
+}
