@@ -1,21 +1,28 @@
 -- The three demands, each from its parts.
 use Prim.Native.Nat.{ℕ, _≤_}
-use mathlib.Core.Bool.{cond}
+use mathlib.Core.Bool.{Bool, true, false, cond}
 use mathlib.Core.List.{List, [], _∷_, _++_}
 use mathlib.Core.Path.{_≡_, refl, ap, sym, _∙_}
+use lib.Dec.{ltb}
 use lib.ListN.{length}
+use borrow.Author.Tests.{ne-eqb}
+use Rattle.octets.specs.Octets.{over}
 use Rattle.pdu.specs.declared.Header.{Header}
-use Rattle.pdu.specs.declared.Reading.the-variants.{Pdu}
-use Rattle.pdu.specs.Sizes.{pduLimit}
+use Rattle.pdu.specs.declared.Reading.{Reading}
+use Rattle.pdu.specs.declared.Reading.the-variants.{Pdu, Refused}
+use Rattle.pdu.specs.declared.Written.{Written}
+use Rattle.pdu.specs.Sizes.{pduLimit, pduLength}
 use Rattle.pdu.specs.Reading.{readOf}
 use Rattle.pdu.specs.Parts.{pathIn, payloadIn}
-use Rattle.origin.specs.Origination.{originated, originatedOutput}
+use Rattle.pdu.specs.Writing.{encode, writtenOf, outputOf, writeAgain, writtenAgain}
+use Rattle.origin.specs.Origination.{originationNumber, originated, originatedOutput}
 use Rattle.node.specs.declared.Settings.{Settings}
 use Rattle.node.specs.Decision.{Lists, repeatFault, repeatNumber}
 use Rattle.node.specs.Repeat.{repeatedHeader, repeated}
+use Rattle.node.specs.Answers.{outputAfter}
 use Rattle.origin.proofs.ReadBack.{fresh-back}
 use Rattle.origin.proofs.Deciding.{hop-refused}
-use Rattle.pdu.proofs.Same.{written-same}
+use Rattle.pdu.proofs.Same.{written-same, shown-well-formed}
 use Rattle.pdu.proofs.Back.{read-encode, path-encode, payload-encode}
 use Rattle.node.proofs.Heard.{repeats}
 use Rattle.node.proofs.Repeating.{ready}
@@ -27,9 +34,28 @@ use Rattle.flood.proofs.Demand as demand
 use Rattle.flood.proofs.Exact as exact
 use Rattle.audit.specs.Demands.{AllBytes, Demand1, Demand2, Demand3}
 
+written-as-was : (reading : Reading) (bytes output : List ℕ) → (writtenOf reading (length output) .number ≡ 0 → ⊥) → outputOf reading bytes output ≡ output
+written-as-was (Refused refusal) bytes output ne = refl
+written-as-was (Pdu header) bytes output ne = go (ltb (length output) (pduLength header)) ne
+  where
+    go : (t : Bool) → (_≡_ {A = ℕ} (cond {A = Written} t (record { number = 14; length = 0 }) (record { number = 0; length = pduLength header }) .number) 0 → ⊥)
+        → cond t output (over (encode header (pathIn header bytes) (payloadIn header bytes)) output) ≡ output
+    go true n = refl
+    go false n = absurd (n refl)
+
+writing-as-was : (bytes output : List ℕ) → (writeAgain bytes (length output) .number ≡ 0 → ⊥) → writtenAgain bytes output ≡ output
+unfolding writeAgain writtenAgain
+writing-as-was bytes output ne = written-as-was (readOf bytes) bytes output ne
+
 pub total : Demand1
-unfolding originated originatedOutput
-total = record { hop-refused = λ settings payload output h. rw (← hop-refused settings payload (length output) h) (refl, refl) }
+unfolding originated originatedOutput outputAfter
+total =
+    record {
+      hop-refused = λ settings payload output h. rw (← hop-refused settings payload (length output) h) (refl, refl);
+      origination-untouched = λ settings payload output ne. rw (ne-eqb (originationNumber settings payload (length output)) 0 ne);
+      writing-untouched = λ bytes output ne. writing-as-was bytes output ne;
+      node-untouched = λ settings lists received output ne. rw (ne-eqb (repeatNumber settings lists (length output) received) 0 ne);
+    }
 
 same-header : (a b : Header) → Pdu a ≡ Pdu b → a ≡ b
 same-header a b e = cc
@@ -55,7 +81,10 @@ exactly =
     record {
       written-again = λ bytes header small e. written-same bytes header small e;
       reads-back = λ header path payload rest ok. (read-encode ok rest, path-encode ok rest, payload-encode ok rest);
-      fresh-reads-back = λ settings payload rest room e. fresh-back settings payload room e rest .reads;
+      fresh-reads-back = λ settings payload rest room e.
+          let back = fresh-back settings payload room e rest in
+          (back .reads, back .no-path, back .carries);
+      read-well-formed = λ bytes header small e. shown-well-formed bytes header small e;
       repeat-reads-back = λ settings lists room received header small e z. repeat-back settings lists room received header small e z;
       stepping-walks = λ settings lists room batch. walking.stepping-walks settings lists room batch;
     }

@@ -12,14 +12,14 @@ use Rattle.pdu.specs.declared.Reading.the-variants.{Pdu}
 use Rattle.pdu.specs.Sizes.{pathLimit, pduLimit, pduLength}
 use Rattle.pdu.specs.Reading.{readOf}
 use Rattle.pdu.specs.Parts.{pathIn, payloadIn}
-use Rattle.pdu.specs.Writing.{encode}
+use Rattle.pdu.specs.Writing.{encode, writeAgain, writtenAgain}
 use Rattle.pdu.proofs.Back.{WellFormed}
 use Rattle.origin.specs.declared.Settings as asked
 use Rattle.origin.specs.Origination.{freshHeader, fresh, originationNumber, originated, originatedOutput}
 use Rattle.node.specs.declared.Settings.{Settings}
 use Rattle.node.specs.Decision.{Lists, repeatNumber}
 use Rattle.node.specs.Repeat.{repeatedHeader, repeated}
-use Rattle.node.specs.Answers.{answerOf}
+use Rattle.node.specs.Answers.{outputAfter}
 use Rattle.batch.specs.Walk.{walk}
 use Rattle.batch.proofs.Walking.{steps}
 use Rattle.bound.specs.Bound.{terms, bound, bytesBound}
@@ -36,6 +36,12 @@ AllBytes bytes = (i : ℕ) → at bytes i < 256
 pub record Demand1 : Type 0 where
   pub hop-refused : (settings : asked.Settings) (payload output : List ℕ) → 7 < settings .«hop_limit»
       → (originated settings payload (length output) ≡ record { number = 10; length = 0 }) × (originatedOutput settings payload output ≡ output)
+  -- with a number other than 0 no output is touched: at origination, in writing again, at a node
+  pub origination-untouched : (settings : asked.Settings) (payload output : List ℕ) → (originationNumber settings payload (length output) ≡ 0 → ⊥)
+      → originatedOutput settings payload output ≡ output
+  pub writing-untouched : (bytes output : List ℕ) → (writeAgain bytes (length output) .number ≡ 0 → ⊥) → writtenAgain bytes output ≡ output
+  pub node-untouched : (settings : Settings) (lists : Lists) (received output : List ℕ) → (repeatNumber settings lists (length output) received ≡ 0 → ⊥)
+      → outputAfter settings lists received output ≡ output
 
 -- Demand 2, exact. The contracts say that reading, writing and the node's decision are the definitions; these say that the definitions fit together.
 pub record Demand2 : Type 0 where
@@ -48,7 +54,12 @@ pub record Demand2 : Type 0 where
       × (payloadIn header (encode header path payload ++ rest) ≡ payload)
   -- and so does what was originated, as it was set
   pub fresh-reads-back : (settings : asked.Settings) (payload rest : List ℕ) (room : ℕ) → originationNumber settings payload room ≡ 0
-      → readOf (fresh settings payload ++ rest) ≡ Pdu (freshHeader settings (length payload))
+      → (readOf (fresh settings payload ++ rest) ≡ Pdu (freshHeader settings (length payload)))
+      × (pathIn (freshHeader settings (length payload)) (fresh settings payload ++ rest) ≡ [])
+      × (payloadIn (freshHeader settings (length payload)) (fresh settings payload ++ rest) ≡ payload)
+  -- what was read is well-formed, so that the law above is about all of it
+  pub read-well-formed : (bytes : List ℕ) (header : Header) → AllBytes bytes → readOf bytes ≡ Pdu header
+      → WellFormed header (pathIn header bytes) (payloadIn header bytes)
   -- a repeat reads back as the received header with hop limit, count and path changed as said, the own address after the last path entry, and the
   -- same payload; it is never longer than a PDU may be
   pub repeat-reads-back : (settings : Settings) (lists : Lists) (room : ℕ) (received : List ℕ) (header : Header) → AllBytes received

@@ -13,7 +13,7 @@ const TOP: u64 = 18446744073709551615;
 
 // The number that the bytes write in decimal digits, and nothing but digits.
 // No bytes are not decimal; what 64 bits don't hold is too long. Zeros in front are taken.
-pub fn read_argument(text: &[u8]) -> Argument
+pub(crate) fn read_argument(text: &[u8]) -> Argument
     ensures { λ r. ⌜ r ≡ argumentOf (now (text .entry)) ⌝ }
 {
     if text.len() == 0 {
