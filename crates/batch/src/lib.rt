@@ -42,7 +42,7 @@ impl Cursor {
 }
 
 // One step of the walk: the node's answer for the PDU at the cursor, and the cursor of the next. Any cursor gets an answer; one past the batch's
-// end, or of a walk that ended, gets `Ended`. The output is changed as the node changes it, and not at all where no PDU is answered.
+// end, or of a walk that ended, gets `Ended`, unless the batch is over the size limit: that gets `TooLong` at every cursor. The output is changed as the node changes it, and not at all where no PDU is answered.
 pub fn step<'a>(
     settings: Settings,
     source_pass: &'a [u16],
