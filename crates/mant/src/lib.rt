@@ -227,7 +227,7 @@ pub extern "C" fn mant_hear<'a>(
 }
 
 // One step of the walk over a batch: the node's answer for the PDU at the cursor, and the cursor of the next. Any cursor gets an answer; one
-// past the batch's end, or of a walk that ended, gets kind 1. The output is changed as by `mant_hear`, and not at all with kinds 1 and 2.
+// past the batch's end, or of a walk that ended, gets kind 1, unless the batch is too long: that gets kind 2 at every cursor. The output is changed as by `mant_hear`, and not at all with kinds 1 and 2.
 #[no_mangle]
 pub extern "C" fn mant_step<'a>(
     settings: MantNode,
