@@ -1,0 +1,299 @@
+/* The MANT layer as one writes it plainly in C: read the header, check, copy. It answers as the library does, and is here to be measured beside it. The
+   structs are laid out as those of mant.h. */
+#include <stdbool.h>
+#include <stddef.h>
+#include <stdint.h>
+#include <string.h>
+
+typedef struct {
+    uint8_t number, protocol;
+    bool time_stamp_request, path_bit, has_destination;
+    uint8_t port;
+    bool encrypted;
+    uint8_t reserved;
+    bool ack, added_header;
+    uint8_t hop_limit;
+    uint16_t payload_length, source, destination;
+    uint8_t pdu_id, path_count;
+    size_t header_length, pdu_length;
+} Header;
+
+typedef struct {
+    uint8_t number;
+    size_t length;
+} Written;
+
+typedef struct {
+    uint16_t source;
+    bool has_destination;
+    uint16_t destination;
+    uint64_t hop_limit, port;
+    bool time_stamp_request, with_path, reliable;
+    uint8_t pdu_id;
+} Fresh;
+
+typedef struct {
+    uint16_t own;
+    bool echo, repeating, source_pass, source_reject, destination_pass, destination_reject;
+} Node;
+
+typedef struct {
+    uint8_t delivery, repeat;
+    size_t delivered_place, delivered_length, repeated_length, taken;
+} Answer;
+
+typedef struct {
+    const uint16_t *values;
+    size_t length;
+} List;
+
+static uint16_t word(const uint8_t *at)
+{
+    return (uint16_t)(at[0] << 8 | at[1]);
+}
+
+static void put_word(uint8_t *at, uint16_t value)
+{
+    at[0] = (uint8_t)(value >> 8);
+    at[1] = (uint8_t)value;
+}
+
+Header plain_read(const uint8_t *bytes, size_t length)
+{
+    const Header none = {0};
+    Header header = {0};
+    size_t at = 6;
+
+    if (length < 6) {
+        header.number = 1;
+        return header;
+    }
+    header.protocol = bytes[0] >> 3 & 7;
+    header.has_destination = bytes[0] & 1;
+    if (bytes[0] >> 6 != 0) {
+        header = none;
+        header.number = 2;
+        return header;
+    }
+    if (header.protocol > 1) {
+        header = none;
+        header.number = 3;
+        return header;
+    }
+    if (header.protocol == 1 && !header.has_destination) {
+        header = none;
+        header.number = 4;
+        return header;
+    }
+    header.time_stamp_request = bytes[0] >> 2 & 1;
+    header.path_bit = bytes[0] >> 1 & 1;
+    header.port = bytes[1] >> 4;
+    header.encrypted = bytes[1] >> 3 & 1;
+    header.reserved = bytes[1] >> 1 & 3;
+    header.ack = bytes[1] & 1;
+    header.added_header = bytes[2] >> 7;
+    header.hop_limit = bytes[2] >> 4 & 7;
+    header.payload_length = (uint16_t)((bytes[2] & 15) << 8 | bytes[3]);
+    header.source = word(bytes + 4);
+    if (header.has_destination) {
+        if (length - at < 2) {
+            goto cut;
+        }
+        header.destination = word(bytes + at);
+        at += 2;
+    }
+    if (header.protocol == 1) {
+        if (length - at < 1) {
+            goto cut;
+        }
+        header.pdu_id = bytes[at];
+        at += 1;
+    }
+    if (header.path_bit) {
+        if (length - at < 1) {
+            goto cut;
+        }
+        header.path_count = bytes[at];
+        at += 1;
+        if (length - at < 2 * (size_t)header.path_count) {
+            goto cut;
+        }
+        at += 2 * (size_t)header.path_count;
+    }
+    if (length - at < header.payload_length) {
+        header = none;
+        header.number = 6;
+        return header;
+    }
+    header.header_length = at;
+    header.pdu_length = at + header.payload_length;
+    return header;
+cut:
+    header = none;
+    header.number = 5;
+    return header;
+}
+
+Written plain_originate(Fresh settings, const uint8_t *payload, size_t payload_length, uint8_t *output, size_t output_length)
+{
+    size_t header_length = 6 + (settings.has_destination ? 2 : 0) + (settings.reliable ? 1 : 0) + (settings.with_path ? 1 : 0);
+    size_t at = 6;
+
+    if (settings.hop_limit > 7) {
+        return (Written){10, 0};
+    }
+    if (settings.port > 15) {
+        return (Written){11, 0};
+    }
+    if (payload_length > 4095) {
+        return (Written){12, 0};
+    }
+    if (settings.reliable && !settings.has_destination) {
+        return (Written){13, 0};
+    }
+    if (output_length < header_length + payload_length) {
+        return (Written){14, 0};
+    }
+    output[0] = (uint8_t)(settings.reliable << 3 | settings.time_stamp_request << 2 | settings.with_path << 1 | settings.has_destination);
+    output[1] = (uint8_t)(settings.port << 4);
+    output[2] = (uint8_t)(settings.hop_limit << 4 | payload_length >> 8);
+    output[3] = (uint8_t)payload_length;
+    put_word(output + 4, settings.source);
+    if (settings.has_destination) {
+        put_word(output + at, settings.destination);
+        at += 2;
+    }
+    if (settings.reliable) {
+        output[at++] = settings.pdu_id;
+    }
+    if (settings.with_path) {
+        output[at++] = 0;
+    }
+    if (payload_length > 0) {
+        memcpy(output + at, payload, payload_length);
+    }
+    return (Written){0, at + payload_length};
+}
+
+static uint8_t list_fault(List list)
+{
+    if (list.length > 128) {
+        return 22;
+    }
+    if (list.length % 2 != 0) {
+        return 21;
+    }
+    for (size_t i = 0; i < list.length; i += 2) {
+        if (list.values[i] > list.values[i + 1]) {
+            return 20;
+        }
+    }
+    return 0;
+}
+
+static bool list_holds(List list, uint16_t address)
+{
+    for (size_t i = 0; i + 1 < list.length; i += 2) {
+        if (list.values[i] <= address && address <= list.values[i + 1]) {
+            return true;
+        }
+    }
+    return false;
+}
+
+static Answer twice(uint8_t number, size_t taken)
+{
+    return (Answer){number, number, 0, 0, 0, taken};
+}
+
+Answer plain_hear(Node node, const List lists[4], const uint8_t *received, size_t length, uint8_t *output, size_t output_length)
+{
+    for (int i = 0; i < 4; i++) {
+        uint8_t fault = list_fault(lists[i]);
+        if (fault != 0) {
+            return twice(fault, 0);
+        }
+    }
+    Header header = plain_read(received, length);
+    if (header.number != 0) {
+        return twice(header.number, 0);
+    }
+    size_t path_end = header.header_length;
+    if (node.echo) {
+        for (size_t at = path_end - 2 * (size_t)header.path_count; at < path_end; at += 2) {
+            if (word(received + at) == node.own) {
+                return twice(30, header.pdu_length);
+            }
+        }
+    }
+    if (node.source_pass && !list_holds(lists[0], header.source)) {
+        return twice(31, header.pdu_length);
+    }
+    if (node.source_reject && list_holds(lists[1], header.source)) {
+        return twice(32, header.pdu_length);
+    }
+    if (header.has_destination) {
+        if (node.destination_pass && !list_holds(lists[2], header.destination)) {
+            return twice(33, header.pdu_length);
+        }
+        if (node.destination_reject && list_holds(lists[3], header.destination)) {
+            return twice(34, header.pdu_length);
+        }
+    }
+    Answer answer = {0, 0, 0, 0, 0, header.pdu_length};
+    if (header.has_destination && header.destination != node.own) {
+        answer.delivery = 39;
+    } else if (header.added_header) {
+        answer.delivery = 35;
+    } else {
+        answer.delivered_place = header.header_length;
+        answer.delivered_length = header.payload_length;
+    }
+    if (header.has_destination && header.destination == node.own) {
+        answer.repeat = 41;
+    } else if (!node.repeating) {
+        answer.repeat = 36;
+    } else if (header.hop_limit == 0) {
+        answer.repeat = 37;
+    } else if (header.path_count == 255) {
+        answer.repeat = 38;
+    } else {
+        size_t added = header.path_bit ? 2 : 0;
+        if (output_length < header.pdu_length + added) {
+            return twice(40, header.pdu_length);
+        }
+        memcpy(output, received, header.header_length);
+        if (header.hop_limit < 7) {
+            output[2] = (uint8_t)(output[2] - 16);
+        }
+        if (header.path_bit) {
+            output[path_end - 2 * (size_t)header.path_count - 1]++;
+            put_word(output + path_end, node.own);
+        }
+        memcpy(output + path_end + added, received + path_end, header.payload_length);
+        answer.repeated_length = header.pdu_length + added;
+    }
+    return answer;
+}
+
+/* The whole walk: how many PDUs were answered for, and where it ended. */
+size_t plain_walk(Node node, const List lists[4], const uint8_t *batch, size_t length, uint8_t *output, size_t output_length, size_t *end)
+{
+    size_t count = 0;
+    size_t at = 0;
+
+    *end = 0;
+    if (length > 16384) {
+        return 0;
+    }
+    while (at < length) {
+        Answer answer = plain_hear(node, lists, batch + at, length - at, output, output_length);
+        count++;
+        if (answer.taken == 0) {
+            break;
+        }
+        at += answer.taken;
+    }
+    *end = at;
+    return count;
+}

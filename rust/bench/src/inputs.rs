@@ -1,0 +1,85 @@
+//! What is measured on.
+
+use mant::raw;
+use reference::{Origination, Settings};
+
+/// The payload of 01's example.
+pub const PAYLOAD: [u8; 11] = [
+    0x70, 0x01, 0x08, 0x12, 0x12, 0x03, 0x24, 0x13, 0x22, 0x02, 0x76,
+];
+
+/// The example's settings of origination, for the reference.
+pub const ASKED: Origination = Origination {
+    reliable: false,
+    time_stamp_request: false,
+    path: true,
+    port: 0,
+    hop: 1,
+    source: 1000,
+    destination: Some(1600),
+    pdu_id: 0,
+};
+
+/// The same for the library.
+pub const FRESH: raw::Fresh = raw::Fresh {
+    source: 1000,
+    has_destination: true,
+    destination: 1600,
+    hop_limit: 1,
+    port: 0,
+    time_stamp_request: false,
+    with_path: true,
+    reliable: false,
+    pdu_id: 0,
+};
+
+/// Node 2000, echo and repeating on, for the library.
+pub const NODE: raw::Node = raw::Node {
+    own: 2000,
+    echo: true,
+    repeating: true,
+    source_pass: false,
+    source_reject: false,
+    destination_pass: false,
+    destination_reject: false,
+};
+
+/// The same for the reference.
+pub const SETTINGS: Settings = Settings {
+    own_address: 2000,
+    echo: true,
+    repeating: true,
+    source_pass_on: false,
+    source_reject_on: false,
+    destination_pass_on: false,
+    destination_reject_on: false,
+};
+
+/// A PDU like the example, with hop limit 1, a path of so many addresses and
+/// this payload.
+pub fn pdu(path: u8, payload: &[u8]) -> Vec<u8> {
+    let [high, low] = (payload.len() as u16).to_be_bytes();
+    let mut bytes = vec![0x03, 0x00, 0x10 | high, low, 0x03, 0xE8, 0x06, 0x40, path];
+    for place in 0..path {
+        bytes.extend((3000 + u16::from(place)).to_be_bytes());
+    }
+    bytes.extend(payload);
+    bytes
+}
+
+/// The example of 01.
+pub fn example() -> Vec<u8> {
+    pdu(0, &PAYLOAD)
+}
+
+/// A full batch, 16,384 bytes: 818 times the example and one of 24 bytes.
+pub fn batch_of_small() -> Vec<u8> {
+    let mut bytes = example().repeat(818);
+    bytes.extend(pdu(0, &[7; 15]));
+    bytes
+}
+
+/// A full batch of 4 PDUs of 4,096 bytes.
+pub fn batch_of_large() -> Vec<u8> {
+    pdu(0, &[7; 4_087]).repeat(4)
+}

@@ -1,0 +1,232 @@
+//! Measures the library beside the reference, a plain C version and memcpy,
+//! and prints a Markdown table of ns for one run.
+
+mod inputs;
+mod plain;
+#[cfg(test)]
+mod tests;
+mod timing;
+
+use inputs::{ASKED, FRESH, NODE, SETTINGS};
+use mant::raw;
+use reference::Lists;
+use std::hint::black_box;
+use timing::{measure, Measured, OFFSETS, ROUNDS};
+
+/// Four lists that are empty.
+const NO_LISTS: raw::Lists = [&[]; 4];
+
+/// The largest output that a case copies.
+const ROOM: usize = 16_384;
+
+fn main() {
+    check_plain();
+    println!(
+        "ns for one run, best / median of {ROUNDS} rounds at {} pairs of offsets within a page\n",
+        OFFSETS.len()
+    );
+    println!("| case | library | reference | plain C | memcpy | library : plain C | library : memcpy | reference : library |");
+    println!("|---|---:|---:|---:|---:|---:|---:|---:|");
+    let example = inputs::example();
+    row("read, example", reading(&example));
+    row("originate, example", originating(&inputs::PAYLOAD));
+    row("hear, example", hearing(&example));
+    row(
+        "hear, path of 6",
+        hearing(&inputs::pdu(6, &inputs::PAYLOAD)),
+    );
+    row(
+        "hear, payload of 4,095",
+        hearing(&inputs::pdu(0, &[7; 4_095])),
+    );
+    row(
+        "walk, full batch of 819 PDUs",
+        walking(&inputs::batch_of_small()),
+    );
+    row(
+        "walk, full batch of 4 PDUs",
+        walking(&inputs::batch_of_large()),
+    );
+    println!("\nmemcpy copies the PDU that is read, written or repeated, or every PDU of the batch, one by one. Ratios are of the best rounds.");
+}
+
+/// One line of the table.
+fn row(name: &str, measured: [Measured; 4]) {
+    let [library, reference, plain, copy] = measured;
+    let cell = |measured: Measured| format!("{:.1} / {:.1}", measured.best, measured.median);
+    println!(
+        "| {name} | {} | {} | {} | {} | {:.2} | {:.2} | {:.1} |",
+        cell(library),
+        cell(reference),
+        cell(plain),
+        cell(copy),
+        library.best / plain.best,
+        library.best / copy.best,
+        reference.best / library.best,
+    );
+}
+
+/// Copies so many bytes, the number not known to the compiler.
+fn copy(from: &[u8], to: &mut [u8], count: usize) {
+    let count = black_box(count).min(from.len()).min(to.len());
+    // SAFETY: both slices have so many bytes, and don't overlap.
+    unsafe { std::ptr::copy_nonoverlapping(from.as_ptr(), to.as_mut_ptr(), count) };
+}
+
+/// Reading; memcpy copies the PDU.
+fn reading(pdu: &[u8]) -> [Measured; 4] {
+    let length = pdu.len();
+    measure(
+        pdu,
+        ROOM,
+        [
+            &mut |input: &[u8], _: &mut [u8]| {
+                black_box(raw::read(input));
+            },
+            &mut |input: &[u8], _: &mut [u8]| drop(black_box(reference::read(input))),
+            &mut |input: &[u8], _: &mut [u8]| {
+                black_box(plain::read(input));
+            },
+            &mut |input: &[u8], output: &mut [u8]| copy(input, output, length),
+        ],
+    )
+}
+
+/// Origination; memcpy copies the bytes of the fresh PDU.
+fn originating(payload: &[u8]) -> [Measured; 4] {
+    let fresh = inputs::pdu(0, payload);
+    let length = fresh.len();
+    let part = payload.len();
+    // The payload stands at the end of the input, so that memcpy has as many
+    // bytes to copy as a fresh PDU has.
+    let start = length - part;
+    measure(
+        &fresh,
+        ROOM,
+        [
+            &mut |input: &[u8], output: &mut [u8]| {
+                black_box(raw::originate(black_box(FRESH), &input[start..], output));
+            },
+            &mut |input: &[u8], output: &mut [u8]| {
+                black_box(reference::originate(
+                    black_box(&ASKED),
+                    &input[start..],
+                    output,
+                ));
+            },
+            &mut |input: &[u8], output: &mut [u8]| {
+                black_box(plain::originate(black_box(FRESH), &input[start..], output));
+            },
+            &mut |input: &[u8], output: &mut [u8]| copy(input, output, length),
+        ],
+    )
+}
+
+/// One PDU at node 2000, repeated; memcpy copies the PDU.
+fn hearing(pdu: &[u8]) -> [Measured; 4] {
+    let length = pdu.len();
+    measure(
+        pdu,
+        ROOM,
+        [
+            &mut |input: &[u8], output: &mut [u8]| {
+                black_box(raw::hear(black_box(NODE), NO_LISTS, input, output));
+            },
+            &mut |input: &[u8], output: &mut [u8]| {
+                let settings = black_box(&SETTINGS);
+                black_box(reference::hear(settings, &Lists::EMPTY, input, output));
+            },
+            &mut |input: &[u8], output: &mut [u8]| {
+                black_box(plain::hear(black_box(NODE), NO_LISTS, input, output));
+            },
+            &mut |input: &[u8], output: &mut [u8]| copy(input, output, length),
+        ],
+    )
+}
+
+/// The walk over a batch, every PDU repeated; memcpy copies each PDU to
+/// the start of the output, as the walk does.
+fn walking(batch: &[u8]) -> [Measured; 4] {
+    let lengths = lengths(batch);
+    measure(
+        batch,
+        ROOM,
+        [
+            &mut |input: &[u8], output: &mut [u8]| {
+                black_box(library_walk(input, output));
+            },
+            &mut |input: &[u8], output: &mut [u8]| {
+                let settings = black_box(&SETTINGS);
+                drop(black_box(reference::walk(
+                    settings,
+                    &Lists::EMPTY,
+                    input,
+                    output,
+                )));
+            },
+            &mut |input: &[u8], output: &mut [u8]| {
+                black_box(plain::walk(black_box(NODE), NO_LISTS, input, output));
+            },
+            &mut |input: &[u8], output: &mut [u8]| {
+                let mut rest = input;
+                for length in black_box(&lengths) {
+                    copy(rest, output, *length);
+                    rest = &rest[*length..];
+                }
+            },
+        ],
+    )
+}
+
+/// How long each PDU of a batch is.
+fn lengths(batch: &[u8]) -> Vec<usize> {
+    let walked = reference::walk(&SETTINGS, &Lists::EMPTY, batch, &mut [0; ROOM]);
+    let steps = walked.map_or(vec![], |walked| walked.steps);
+    steps.iter().map(|step| step.answer.taken).collect()
+}
+
+/// The walk with the library: how many PDUs, and where it ended.
+fn library_walk(batch: &[u8], output: &mut [u8]) -> (usize, usize) {
+    let node = black_box(NODE);
+    let mut count = 0;
+    let mut cursor = raw::Cursor::default();
+    loop {
+        let step = raw::step(node, NO_LISTS, batch, cursor, output);
+        if step.kind != raw::ANSWERED {
+            return (count, cursor.place);
+        }
+        count += 1;
+        cursor = step.next;
+    }
+}
+
+/// The plain version answers as the library does on what is measured, and on
+/// every cut of it.
+fn check_plain() {
+    let (mut one, mut other) = ([0; 5_000], [0; 5_000]);
+    for pdu in [
+        inputs::example(),
+        inputs::pdu(6, &inputs::PAYLOAD),
+        inputs::pdu(255, &[1; 4_095]),
+        inputs::pdu(0, &[7; 4_095]),
+    ] {
+        for length in 0..=pdu.len() {
+            let cut = &pdu[..length];
+            assert_eq!(raw::read(cut), plain::read(cut));
+            let library = raw::hear(NODE, NO_LISTS, cut, &mut one);
+            assert_eq!(library, plain::hear(NODE, NO_LISTS, cut, &mut other));
+            assert_eq!(one, other);
+        }
+    }
+    for payload in [&inputs::PAYLOAD[..], &[], &[1; 4_095], &[1; 4_096]] {
+        let library = raw::originate(FRESH, payload, &mut one);
+        assert_eq!(library, plain::originate(FRESH, payload, &mut other));
+        assert_eq!(one, other);
+    }
+    for batch in [inputs::batch_of_small(), inputs::batch_of_large()] {
+        let library = library_walk(&batch, &mut one);
+        assert_eq!(library, plain::walk(NODE, NO_LISTS, &batch, &mut other));
+        assert_eq!(library.1, 16_384);
+        assert_eq!(one, other);
+    }
+}

@@ -1,0 +1,86 @@
+//! plain.c, called as the library is.
+
+use mant::raw::{Answer, Fresh, Header, Lists, Node, Written};
+
+#[repr(C)]
+struct List {
+    values: *const u16,
+    length: usize,
+}
+
+#[rustfmt::skip]
+extern "C" {
+    fn plain_read(bytes: *const u8, length: usize) -> Header;
+    fn plain_originate(settings: Fresh, payload: *const u8, payload_length: usize, output: *mut u8, output_length: usize) -> Written;
+    fn plain_hear(node: Node, lists: *const List, received: *const u8, length: usize, output: *mut u8, output_length: usize) -> Answer;
+    fn plain_walk(
+        node: Node, lists: *const List, batch: *const u8, length: usize, output: *mut u8, output_length: usize, end: *mut usize,
+    ) -> usize;
+}
+
+/// `plain_read`.
+#[inline]
+pub fn read(bytes: &[u8]) -> Header {
+    // SAFETY: here and below, pointers and lengths are those of live slices.
+    unsafe { plain_read(bytes.as_ptr(), bytes.len()) }
+}
+
+/// `plain_originate`.
+#[inline]
+pub fn originate(settings: Fresh, payload: &[u8], output: &mut [u8]) -> Written {
+    // SAFETY: as above.
+    unsafe {
+        plain_originate(
+            settings,
+            payload.as_ptr(),
+            payload.len(),
+            output.as_mut_ptr(),
+            output.len(),
+        )
+    }
+}
+
+/// `plain_hear`.
+#[inline]
+pub fn hear(node: Node, lists: Lists, received: &[u8], output: &mut [u8]) -> Answer {
+    let lists = of(lists);
+    // SAFETY: as above.
+    unsafe {
+        plain_hear(
+            node,
+            lists.as_ptr(),
+            received.as_ptr(),
+            received.len(),
+            output.as_mut_ptr(),
+            output.len(),
+        )
+    }
+}
+
+/// `plain_walk`: how many PDUs, and where the walk ended.
+#[inline]
+pub fn walk(node: Node, lists: Lists, batch: &[u8], output: &mut [u8]) -> (usize, usize) {
+    let lists = of(lists);
+    let mut end = 0;
+    // SAFETY: as above.
+    let count = unsafe {
+        plain_walk(
+            node,
+            lists.as_ptr(),
+            batch.as_ptr(),
+            batch.len(),
+            output.as_mut_ptr(),
+            output.len(),
+            &mut end,
+        )
+    };
+    (count, end)
+}
+
+#[inline]
+fn of(lists: Lists) -> [List; 4] {
+    lists.map(|list| List {
+        values: list.as_ptr(),
+        length: list.len(),
+    })
+}

@@ -1,0 +1,78 @@
+//! The plain C version is measured as an equal, so it must answer as the
+//! reference does.
+
+use crate::plain;
+use generator::{four_lists, origination, output, payload_to_send, received, room, Random};
+use mant::raw;
+
+const INPUTS: usize = 20_000;
+
+#[test]
+fn plain_reads_as_the_library_does() {
+    let mut random = Random::from_seed(1);
+    for _ in 0..INPUTS {
+        let bytes = received(&mut random);
+        assert_eq!(plain::read(&bytes), raw::read(&bytes));
+    }
+}
+
+#[test]
+fn plain_originates_as_the_reference_does() {
+    let mut random = Random::from_seed(2);
+    for _ in 0..INPUTS {
+        let asked = origination(&mut random);
+        let payload = payload_to_send(&mut random);
+        let room = room(&mut random, payload.len() + 9);
+        let mut one = output(&mut random, room);
+        let mut other = one.clone();
+        let fresh = raw::Fresh {
+            source: asked.source,
+            has_destination: asked.destination.is_some(),
+            destination: asked.destination.unwrap_or(7),
+            hop_limit: asked.hop,
+            port: asked.port,
+            time_stamp_request: asked.time_stamp_request,
+            with_path: asked.path,
+            reliable: asked.reliable,
+            pdu_id: asked.pdu_id,
+        };
+        let written = plain::originate(fresh, &payload, &mut one);
+        let wanted = reference::originate(&asked, &payload, &mut other);
+        assert_eq!((written.number, written.length), wanted);
+        assert_eq!(one, other);
+    }
+}
+
+#[test]
+fn plain_hears_as_the_reference_does() {
+    let mut random = Random::from_seed(3);
+    for _ in 0..INPUTS {
+        let settings = generator::settings(&mut random);
+        let four = four_lists(&mut random);
+        let bytes = received(&mut random);
+        let room = room(&mut random, bytes.len() + 2);
+        let mut one = output(&mut random, room);
+        let mut other = one.clone();
+        let node = raw::Node {
+            own: settings.own_address,
+            echo: settings.echo,
+            repeating: settings.repeating,
+            source_pass: settings.source_pass_on,
+            source_reject: settings.source_reject_on,
+            destination_pass: settings.destination_pass_on,
+            destination_reject: settings.destination_reject_on,
+        };
+        let four = four.lists();
+        let answer = plain::hear(node, four.in_order(), &bytes, &mut one);
+        let wanted = reference::hear(&settings, &four, &bytes, &mut other);
+        assert_eq!(
+            (answer.delivery, answer.repeat),
+            (wanted.delivery, wanted.repeat)
+        );
+        let delivered = (answer.delivered_place, answer.delivered_length);
+        assert_eq!(delivered, wanted.delivered);
+        let lengths = (answer.repeated_length, answer.taken);
+        assert_eq!(lengths, (wanted.repeated_length, wanted.taken));
+        assert_eq!(one, other);
+    }
+}

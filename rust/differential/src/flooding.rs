@@ -1,0 +1,226 @@
+//! Floods: one fresh PDU with a path among nodes with echo on (01, "Compared
+//! by hand", last line), run with the library. A node hears a transmission at
+//! most once. Each answer is compared with the reference's.
+
+use crate::same::{answer, fresh, hex, lists, node as library_node, wrapped};
+use crate::Compared;
+use generator::{address, good_four_lists, settings, FourLists, Random};
+use mant::{most_bytes, most_transmissions};
+use reference::{hear, Origination, Settings, MOST_PDU};
+use std::collections::{HashSet, VecDeque};
+
+/// A node of the network.
+struct Node {
+    settings: Settings,
+    lists: FourLists,
+}
+
+/// How the next reception is chosen from those that wait.
+#[derive(Clone, Copy)]
+enum Order {
+    Newest,
+    Oldest,
+    Any,
+}
+
+/// A run of the network.
+struct Flood {
+    nodes: Vec<Node>,
+    order: Order,
+    /// Some receptions are missed.
+    lossy: bool,
+    /// What went out, in order.
+    sent: Vec<Vec<u8>>,
+    /// Receptions that wait: the node and the transmission, by place.
+    waiting: VecDeque<(usize, usize)>,
+    most: u64,
+}
+
+/// Refuses with the words where the condition doesn't hold.
+fn hold(condition: bool, words: &str) -> Compared {
+    if condition {
+        Ok(())
+    } else {
+        Err(String::from(words))
+    }
+}
+
+/// A flood never passes the bound, never sends the same path twice, and where
+/// all nodes repeat and hear everything it reaches the bound.
+pub fn compare(random: &mut Random) -> Compared {
+    let open = random.flag();
+    let count = random.between(0, 6);
+    let nodes = network(random, count, open);
+    let hop = random.below(8) as u64;
+    let fresh = fresh_pdu(random, &nodes, hop, open)?;
+    let shown = format!("fresh PDU {}, {count} nodes, open {open}", hex(&fresh));
+    run(random, nodes, hop, open, fresh).map_err(|words| format!("{words}; {shown}"))
+}
+
+/// Runs one flood and checks what went out.
+fn run(random: &mut Random, nodes: Vec<Node>, hop: u64, open: bool, fresh: Vec<u8>) -> Compared {
+    let (count, length) = (nodes.len() as u64, fresh.len() as u64);
+    let most = of(most_transmissions(count, hop))?;
+    let most_bytes = of(most_bytes(count, hop, length))?;
+    let mut flood = Flood {
+        nodes,
+        order: random.pick(&[Order::Newest, Order::Oldest, Order::Any]),
+        lossy: !open && random.flag(),
+        sent: vec![],
+        waiting: VecDeque::new(),
+        most,
+    };
+    flood.run(random, fresh)?;
+    check_paths(&flood.sent)?;
+    let bytes: u64 = flood.sent.iter().map(|pdu| pdu.len() as u64).sum();
+    hold(bytes <= most_bytes, "the bytes bound was passed")?;
+    if open {
+        hold(flood.sent.len() as u64 == most, "bound not reached")?;
+        hold(bytes == most_bytes, "bytes bound not reached")?;
+    }
+    Ok(())
+}
+
+/// A bound that is there.
+fn of(bound: Result<Option<u64>, mant::Refusal>) -> Result<u64, String> {
+    let bound = bound.map_err(|refusal| refusal.to_string())?;
+    bound.ok_or(String::from("no bound"))
+}
+
+/// Nodes with echo on and addresses of their own; in an open network all
+/// repeat and no list is on.
+fn network(random: &mut Random, count: usize, open: bool) -> Vec<Node> {
+    let mut nodes: Vec<Node> = vec![];
+    while nodes.len() < count {
+        let own_address = address(random);
+        if !has(&nodes, own_address) {
+            nodes.push(node(random, own_address, open));
+        }
+    }
+    nodes
+}
+
+/// Is one of the nodes at the address?
+fn has(nodes: &[Node], address: u16) -> bool {
+    nodes
+        .iter()
+        .any(|node| node.settings.own_address == address)
+}
+
+/// One node.
+fn node(random: &mut Random, own_address: u16, open: bool) -> Node {
+    let chosen = match open || random.flag() {
+        true => Settings {
+            repeating: true,
+            ..Settings::default()
+        },
+        false => settings(random),
+    };
+    Node {
+        settings: Settings {
+            own_address,
+            echo: true,
+            ..chosen
+        },
+        lists: good_four_lists(random),
+    }
+}
+
+/// A fresh PDU with the path bit, from any address, a node's too; in an open
+/// network it is for none of the nodes.
+fn fresh_pdu(random: &mut Random, nodes: &[Node], hop: u64, open: bool) -> Result<Vec<u8>, String> {
+    let wanted = random.flag().then(|| address(random));
+    let destination = wanted.filter(|address| !(open && has(nodes, *address)));
+    let asked = Origination {
+        reliable: destination.is_some() && random.flag(),
+        time_stamp_request: random.flag(),
+        path: true,
+        port: random.below(16) as u64,
+        hop,
+        source: address(random),
+        destination,
+        pdu_id: random.byte(),
+    };
+    let payload_length = random.below(12);
+    let mut out = [0; MOST_PDU];
+    let payload = random.bytes(payload_length);
+    let written = mant::raw::originate(fresh(&asked, 0), &payload, &mut out);
+    hold(written.number == 0, "the fresh PDU was refused")?;
+    Ok(out[..written.length].to_vec())
+}
+
+impl Flood {
+    /// Runs until no reception waits, or the bound is passed.
+    fn run(&mut self, random: &mut Random, fresh: Vec<u8>) -> Compared {
+        self.send(fresh)?;
+        while let Some((node, transmission)) = self.next(random) {
+            if self.lossy && random.one_in(4) {
+                continue;
+            }
+            if let Some(repeated) = self.heard(node, transmission)? {
+                self.send(repeated)?;
+            }
+        }
+        Ok(())
+    }
+
+    /// A transmission, which each node may hear once.
+    fn send(&mut self, pdu: Vec<u8>) -> Compared {
+        let transmission = self.sent.len();
+        self.sent.push(pdu);
+        let nodes = 0..self.nodes.len();
+        self.waiting.extend(nodes.map(|node| (node, transmission)));
+        let within = self.sent.len() as u64 <= self.most;
+        hold(within, "the bound was passed")
+    }
+
+    /// The next reception.
+    fn next(&mut self, random: &mut Random) -> Option<(usize, usize)> {
+        match self.order {
+            Order::Newest => self.waiting.pop_back(),
+            Order::Oldest => self.waiting.pop_front(),
+            Order::Any => {
+                let place = random.below(self.waiting.len().max(1));
+                self.waiting.swap_remove_back(place)
+            }
+        }
+    }
+
+    /// What a node sends on after hearing a transmission, if it does.
+    fn heard(&self, node: usize, transmission: usize) -> Result<Option<Vec<u8>>, String> {
+        let Node {
+            settings,
+            lists: four,
+        } = &self.nodes[node];
+        let (four, received) = (four.lists(), &self.sent[transmission]);
+        let (mut out, mut other) = ([0; 64], [0; 64]);
+        let heard = mant::hear(&library_node(settings), &lists(&four), received, &mut out);
+        let wanted = answer(&hear(settings, &four, received, &mut other));
+        if heard != wrapped(&wanted) || out != other {
+            return Err(format!(
+                "library {heard:?} {}, reference {wanted:?} {}; input {}, {settings:?}, {four:?}",
+                hex(&out),
+                hex(&other),
+                hex(received)
+            ));
+        }
+        Ok(heard.repeat.ok().map(|length| out[..length].to_vec()))
+    }
+}
+
+/// No path goes out twice, and none has an address twice.
+fn check_paths(sent: &[Vec<u8>]) -> Compared {
+    let mut paths = HashSet::new();
+    for pdu in sent {
+        let header = mant::read(pdu).map_err(|refusal| refusal.to_string())?;
+        let count = header.path_count.ok_or("sent without a path")?;
+        let places = 0..usize::from(count);
+        let path: Vec<u16> = places
+            .filter_map(|place| mant::path_address(pdu, place))
+            .collect();
+        let addresses: HashSet<&u16> = path.iter().collect();
+        hold(addresses.len() == path.len(), "an address twice in a path")?;
+        hold(paths.insert(path), "the same path sent twice")?;
+    }
+    Ok(())
+}

@@ -1,0 +1,63 @@
+//! One PDU at one node.
+
+use crate::output::Output;
+use crate::same::{answer, lists, node, wrapped, Input};
+use crate::Compared;
+use generator::{four_lists, good_four_lists, received, room, settings, Random};
+use mant::raw;
+use reference::{hear, read, Header, Settings};
+
+/// Compares on any settings, lists, received bytes and rooms.
+pub fn compare(random: &mut Random) -> Compared {
+    let four = match random.one_in(4) {
+        true => four_lists(random),
+        false => good_four_lists(random),
+    };
+    let bytes = received(random);
+    let shown = read(&bytes).ok();
+    let drawn = settings(random);
+    let settings = meeting(random, drawn, shown.as_ref());
+    let length = shown.as_ref().map_or(0, |header| {
+        header.pdu_length() + 2 * usize::from(header.path.is_some())
+    });
+    let room = room(random, length);
+    let input = Input {
+        bytes: &bytes,
+        rest: &(settings, &four, room),
+    };
+    let mut library = Output::of(random, room);
+    let mut reference = library.clone();
+    let mut wrapper = library.clone();
+    let four = four.lists();
+    let answered = raw::hear(node(&settings), four.in_order(), &bytes, library.room());
+    let wanted = answer(&hear(&settings, &four, &bytes, reference.room()));
+    input.same("answer", answered, wanted)?;
+    input.same_bytes("output", library.all(), reference.all())?;
+    let safe = mant::hear(&node(&settings), &lists(&four), &bytes, wrapper.room());
+    input.same_bytes("wrapped output", wrapper.all(), reference.all())?;
+    if let (Ok(place), Some(header)) = (&safe.delivery, &shown) {
+        let delivered = &bytes[place.clone()];
+        input.same_bytes("delivered", delivered, header.payload(&bytes))?;
+    }
+    input.same("wrapped answer", safe, wrapped(&wanted))
+}
+
+/// The settings with an own address that often meets the PDU's.
+fn meeting(random: &mut Random, settings: Settings, shown: Option<&Header>) -> Settings {
+    let Some(header) = shown else {
+        return settings;
+    };
+    let path = header.path.as_deref().unwrap_or(&[]);
+    let own_address = match random.below(8) {
+        0 => header.source,
+        1 => header.destination.unwrap_or(settings.own_address),
+        2 => path.first().copied().unwrap_or(settings.own_address),
+        3 if !path.is_empty() => path[random.below(path.len())],
+        4 => path.last().copied().unwrap_or(settings.own_address),
+        _ => settings.own_address,
+    };
+    Settings {
+        own_address,
+        ..settings
+    }
+}

@@ -1,0 +1,43 @@
+//! The lists.
+
+use crate::same::{lists, Input};
+use crate::Compared;
+use generator::{address, bad_list, four_lists, good_list, FourLists, Random};
+use reference::{holds, list_fault};
+
+/// Compares the fault of four lists, and what each of them holds.
+pub fn compare(random: &mut Random) -> Compared {
+    let four = match random.flag() {
+        true => four_lists(random),
+        false => FourLists(std::array::from_fn(|_| match random.flag() {
+            true => good_list(random),
+            false => bad_list(random),
+        })),
+    };
+    let input = Input {
+        bytes: &[],
+        rest: &four,
+    };
+    let wanted = list_fault(&four.lists());
+    let library = mant::raw::list_fault(four.lists().in_order());
+    input.same("list fault", library, wanted)?;
+    let wrapped = mant::list_fault(&lists(&four.lists()));
+    let number = wrapped.map_or_else(mant::Refusal::number, |()| 0);
+    input.same("wrapped list fault", number, wanted)?;
+    for list in &four.0 {
+        let near = list.get(random.below(list.len().max(1))).copied();
+        let near = near.unwrap_or(0);
+        for address in [
+            address(random),
+            random.word(),
+            near,
+            near.wrapping_add(1),
+            near.wrapping_sub(1),
+        ] {
+            let library = mant::list_holds(list, address);
+            let what = format!("list holds {address}");
+            input.same(&what, library, holds(list, address))?;
+        }
+    }
+    Ok(())
+}

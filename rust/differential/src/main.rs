@@ -1,0 +1,127 @@
+//! Compares the library, through its C boundary, with the reference on
+//! generated inputs: every number, field, delivered part and output byte.
+//!
+//! `differential [seed [count [first]]]`: the seed of the inputs (1), how many
+//! (200,000), and the first (0), so that one input can be run alone.
+
+mod bounding;
+mod flooding;
+mod hearing;
+mod listing;
+mod originating;
+mod output;
+mod reading;
+mod same;
+mod walking;
+
+use generator::Random;
+use std::panic::{catch_unwind, AssertUnwindSafe};
+use std::process::ExitCode;
+use std::time::Instant;
+
+/// What a comparison answers: nothing, or what differs and the input in hex.
+type Compared = Result<(), String>;
+
+/// After so many differences the run stops.
+const MOST_DIFFERENCES: u64 = 10;
+
+/// A kind of input: its name, its share of a hundred, and its comparison.
+type Kind = (&'static str, usize, fn(&mut Random) -> Compared);
+
+/// The kinds of input.
+const KINDS: [Kind; 7] = [
+    ("reading and writing again", 28, reading::compare),
+    ("origination", 13, originating::compare),
+    ("lists", 6, listing::compare),
+    ("one PDU at one node", 38, hearing::compare),
+    ("batches", 9, walking::compare),
+    ("bounds", 5, bounding::compare),
+    ("floods", 1, flooding::compare),
+];
+
+/// What the arguments ask for.
+struct Asked {
+    seed: u64,
+    count: u64,
+    first: u64,
+}
+
+fn main() -> ExitCode {
+    match asked() {
+        Ok(asked) if compare_all(&asked) == 0 => ExitCode::SUCCESS,
+        Ok(_) => ExitCode::FAILURE,
+        Err(words) => {
+            eprintln!("differential: {words}");
+            ExitCode::FAILURE
+        }
+    }
+}
+
+/// Reads the arguments.
+fn asked() -> Result<Asked, String> {
+    let mut numbers = [1, 200_000, 0];
+    let mut arguments = std::env::args().skip(1);
+    for (number, argument) in numbers.iter_mut().zip(arguments.by_ref()) {
+        *number = argument
+            .parse()
+            .map_err(|_| format!("`{argument}` is not a number; [seed [count [first]]]"))?;
+    }
+    if arguments.next().is_some() {
+        return Err(String::from("at most [seed [count [first]]]"));
+    }
+    let [seed, count, first] = numbers;
+    Ok(Asked { seed, count, first })
+}
+
+/// Compares on all inputs and gives how many differ.
+fn compare_all(asked: &Asked) -> u64 {
+    let started = Instant::now();
+    println!("seed {}", asked.seed);
+    let mut counts = [0_u64; KINDS.len()];
+    let (mut done, mut differ) = (0, 0);
+    while done < asked.count && differ < MOST_DIFFERENCES {
+        let case = asked.first.wrapping_add(done);
+        let mut random = Random::for_case(asked.seed, case);
+        let kind = kind(&mut random);
+        counts[kind] += 1;
+        if let Err(words) = compare_one(kind, &mut random) {
+            differ += 1;
+            let again = format!("differential {} 1 {case}", asked.seed);
+            println!("{}: {words}\nagain with `{again}`", KINDS[kind].0);
+        }
+        done += 1;
+        show_progress(done, asked.count);
+    }
+    for (count, kind) in counts.iter().zip(KINDS) {
+        println!("{count:>9} of {}", kind.0);
+    }
+    println!("{:.1} s", started.elapsed().as_secs_f64());
+    println!("differential: {done} inputs, {differ} differ");
+    differ
+}
+
+/// Compares on one input; a panic is a difference like another.
+fn compare_one(kind: usize, random: &mut Random) -> Compared {
+    let run = AssertUnwindSafe(|| KINDS[kind].2(random));
+    catch_unwind(run).unwrap_or_else(|_| Err(String::from("it panicked")))
+}
+
+/// The kind of an input, by the shares.
+fn kind(random: &mut Random) -> usize {
+    let mut drawn = random.below(KINDS.iter().map(|kind| kind.1).sum());
+    for (place, kind) in KINDS.iter().enumerate() {
+        if drawn < kind.1 {
+            return place;
+        }
+        drawn -= kind.1;
+    }
+    0
+}
+
+/// A line at every twentieth of the way.
+fn show_progress(done: u64, count: u64) {
+    let step = (count / 20).max(1);
+    if done.is_multiple_of(step) {
+        eprintln!("{done} of {count}");
+    }
+}

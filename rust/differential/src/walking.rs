@@ -1,0 +1,174 @@
+//! Batches, stepped by the library against the reference's walk.
+
+use crate::output::Output;
+use crate::same::{answer, lists, node, wrapped, Input};
+use crate::Compared;
+use generator::{batch, four_lists, good_four_lists, settings, FourLists, Random};
+use mant::{raw, Cursor};
+use reference::numbers::BATCH_SIZE;
+use reference::{hear, walk, Settings, Step, MOST_BATCH, MOST_PDU};
+
+/// A node and its batch.
+#[derive(Debug)]
+struct Case<'a> {
+    settings: Settings,
+    four: &'a FourLists,
+    batch: &'a [u8],
+}
+
+impl Case<'_> {
+    /// The library's step.
+    fn step(&self, cursor: Cursor, output: &mut Output) -> raw::Step {
+        let four = self.four.lists().in_order();
+        raw::step(
+            node(&self.settings),
+            four,
+            self.batch,
+            cursor,
+            output.room(),
+        )
+    }
+}
+
+/// Compares a whole walk, and steps from any cursor.
+pub fn compare(random: &mut Random) -> Compared {
+    let four = match random.one_in(4) {
+        true => four_lists(random),
+        false => good_four_lists(random),
+    };
+    let batch = batch(random);
+    let case = Case {
+        settings: settings(random),
+        four: &four,
+        batch: &batch,
+    };
+    let small = random.between(0, 60);
+    let room = random.pick(&[0, 6, 20, small, 200, 1_000, MOST_PDU, MOST_PDU, 5_000]);
+    let input = Input {
+        bytes: &batch,
+        rest: &(case.settings, &four, room),
+    };
+    let output = Output::of(random, room);
+    compare_walk(&case, &input, &output)?;
+    for _ in 0..4 {
+        compare_any(random, &case, &input, &output)?;
+    }
+    Ok(())
+}
+
+/// The whole walk; the library's output after each step is compared.
+fn compare_walk(case: &Case, input: &Input, output: &Output) -> Compared {
+    let (mut library, mut reference) = (output.clone(), output.clone());
+    let mut replayed = output.clone();
+    let four = case.four.lists();
+    let walked = match walk(&case.settings, &four, case.batch, reference.room()) {
+        Ok(walked) => walked,
+        Err(number) => return compare_refused(case, input, output, number),
+    };
+    let mut cursor = Cursor::default();
+    for (place, met) in walked.steps.iter().enumerate() {
+        let next = walked.steps.get(place + 1).map(|next| next.offset);
+        let wanted = raw::Step {
+            kind: raw::ANSWERED,
+            answer: answer(&met.answer),
+            next: Cursor {
+                place: next.unwrap_or(walked.end),
+                ended: met.answer.taken == 0,
+            },
+        };
+        input.same("offset", cursor.place, met.offset)?;
+        compare_wrapped(case, input, cursor, &library, &wanted)?;
+        let step = case.step(cursor, &mut library);
+        input.same("step", step, wanted)?;
+        replay(met, &mut replayed);
+        input.same_bytes("output of a step", library.all(), replayed.all())?;
+        cursor = step.next;
+    }
+    input.same("end of the walk", cursor.place, walked.end)?;
+    let last = case.step(cursor, &mut library);
+    input.same("last step", last, ended(raw::ENDED, 0, cursor))?;
+    input.same_bytes("output of the walk", library.all(), reference.all())
+}
+
+/// What the reference repeated, at the start of the room.
+fn replay(met: &Step, output: &mut Output) {
+    output.room()[..met.repeated.len()].copy_from_slice(&met.repeated);
+}
+
+/// The wrapper's step on an output of its own says the same.
+fn compare_wrapped(
+    case: &Case,
+    input: &Input,
+    cursor: Cursor,
+    output: &Output,
+    wanted: &raw::Step,
+) -> Compared {
+    let mut output = output.clone();
+    let step = mant::step(
+        &node(&case.settings),
+        &lists(&case.four.lists()),
+        case.batch,
+        cursor,
+        output.room(),
+    );
+    let wanted = mant::Step::Answered(wrapped(&wanted.answer), wanted.next);
+    input.same("wrapped step", step, wanted)
+}
+
+/// A batch above the limit: 54 and nothing else.
+fn compare_refused(case: &Case, input: &Input, output: &Output, number: u8) -> Compared {
+    input.same("refusal", number, BATCH_SIZE)?;
+    let mut library = output.clone();
+    let step = case.step(Cursor::default(), &mut library);
+    let wanted = ended(raw::REFUSED, number, Cursor::default());
+    input.same("refused step", step, wanted)?;
+    input.same_bytes("output on refusal", library.all(), output.all())
+}
+
+/// A step that answers for no PDU.
+fn ended(kind: u8, number: u8, cursor: Cursor) -> raw::Step {
+    raw::Step {
+        kind,
+        answer: raw::Answer {
+            delivery: number,
+            repeat: number,
+            ..raw::Answer::default()
+        },
+        next: Cursor {
+            ended: true,
+            ..cursor
+        },
+    }
+}
+
+/// A step from any cursor: inside, at or past the end, ended or not.
+fn compare_any(random: &mut Random, case: &Case, input: &Input, output: &Output) -> Compared {
+    let length = case.batch.len();
+    let inside = random.below(length + 1);
+    let past = length.saturating_add(random.below(10));
+    let huge = random.draw() as usize;
+    let cursor = Cursor {
+        place: random.pick(&[inside, inside, inside, length, past, huge, usize::MAX]),
+        ended: random.one_in(4),
+    };
+    let (mut library, mut reference) = (output.clone(), output.clone());
+    let step = case.step(cursor, &mut library);
+    let wanted = if length > MOST_BATCH {
+        ended(raw::REFUSED, BATCH_SIZE, cursor)
+    } else if cursor.ended || cursor.place >= length {
+        ended(raw::ENDED, 0, cursor)
+    } else {
+        let rest = &case.batch[cursor.place..];
+        let heard = hear(&case.settings, &case.four.lists(), rest, reference.room());
+        raw::Step {
+            kind: raw::ANSWERED,
+            answer: answer(&heard),
+            next: Cursor {
+                place: cursor.place + heard.taken,
+                ended: heard.taken == 0,
+            },
+        }
+    };
+    input.same(&format!("step from {cursor:?}"), step, wanted)?;
+    input.same_bytes("output of any step", library.all(), reference.all())
+}

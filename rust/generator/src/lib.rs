@@ -1,0 +1,24 @@
+//! Seeded inputs for everything that document 01 describes: PDUs, damaged
+//! and cut ones, settings, lists, outputs, batches and jobs.
+//!
+//! Everything is drawn from one [`Random`], so the same seed gives the same
+//! inputs. PDUs are laid out here by arithmetic of their own, not by the
+//! reference's writing.
+
+mod batch;
+mod job;
+mod lists;
+mod output;
+mod random;
+mod received;
+mod settings;
+mod shape;
+
+pub use batch::batch;
+pub use job::{damaged_job, job, random_job, DamagedJob, JobParts};
+pub use lists::{bad_list, four_lists, good_four_lists, good_list, FourLists};
+pub use output::{output, room};
+pub use random::{splitmix64, Random};
+pub use received::{cut, damaged, random_bytes, received};
+pub use settings::{origination, payload_to_send, settings};
+pub use shape::{address, shape, Shape};

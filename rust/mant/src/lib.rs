@@ -1,0 +1,236 @@
+//! The MANT layer of ALERT2: the C library libmant.a with Rust types.
+//!
+//! Every function answers for every input and allocates nothing. An output is
+//! changed only where a PDU is written to it, and keeps its bytes past the
+//! PDU's end. [`raw`] gives the library's structs as they are.
+
+pub mod raw;
+mod refusal;
+
+pub use raw::{Cursor, Limits, Node};
+pub use refusal::Refusal;
+use std::ops::Range;
+
+/// The header of a PDU.
+#[derive(Clone, Debug, PartialEq, Eq)]
+pub struct Header {
+    /// 0 best efforts, 1 reliable.
+    pub protocol: u8,
+    /// The time stamp request bit.
+    pub time_stamp_request: bool,
+    /// 0 to 15.
+    pub port: u8,
+    /// The encrypted bit.
+    pub encrypted: bool,
+    /// The two reserved bits, 0 to 3.
+    pub reserved: u8,
+    /// The ACK bit.
+    pub ack: bool,
+    /// The added header bit.
+    pub added_header: bool,
+    /// 0 to 7.
+    pub hop_limit: u8,
+    /// Source address.
+    pub source: u16,
+    /// Destination address; without one the PDU is for everyone.
+    pub destination: Option<u16>,
+    /// PDU ID, for reliable service.
+    pub pdu_id: Option<u8>,
+    /// How many addresses the path has, if there is a path.
+    pub path_count: Option<u8>,
+    /// The payload lies here in the bytes.
+    pub payload: Range<usize>,
+}
+
+/// What is asked of a fresh PDU. Hop limit and port are wider than their bits,
+/// so that 263 arrives as 263 and is refused.
+#[derive(Clone, Copy, Debug, Default, PartialEq, Eq)]
+pub struct Fresh {
+    /// Source address.
+    pub source: u16,
+    /// Destination address; without one the PDU is for everyone.
+    pub destination: Option<u16>,
+    /// 0 to 7; 7 sets no limit.
+    pub hop_limit: u64,
+    /// 0 to 15.
+    pub port: u64,
+    /// The time stamp request bit.
+    pub time_stamp_request: bool,
+    /// Every node that repeats the PDU adds its address.
+    pub with_path: bool,
+    /// Reliable service, which needs a destination.
+    pub reliable: bool,
+    /// Written for reliable service only.
+    pub pdu_id: u8,
+}
+
+/// The four lists of a node, each low, high, low, high and so on, both ends
+/// included.
+#[derive(Clone, Copy, Debug, Default, PartialEq, Eq)]
+pub struct Lists<'a> {
+    /// Sources that pass.
+    pub source_pass: &'a [u16],
+    /// Sources that are rejected.
+    pub source_reject: &'a [u16],
+    /// Destinations that pass.
+    pub destination_pass: &'a [u16],
+    /// Destinations that are rejected.
+    pub destination_reject: &'a [u16],
+}
+
+impl<'a> Lists<'a> {
+    /// In the order of the library.
+    fn in_order(&self) -> raw::Lists<'a> {
+        [
+            self.source_pass,
+            self.source_reject,
+            self.destination_pass,
+            self.destination_reject,
+        ]
+    }
+}
+
+/// What a node answers for one PDU.
+#[derive(Clone, Debug, PartialEq, Eq)]
+pub struct Answer {
+    /// Where the delivered payload lies, counted from the PDU's first byte.
+    pub delivery: Result<Range<usize>, Refusal>,
+    /// How many bytes of the repeated PDU were written to the output.
+    pub repeat: Result<usize, Refusal>,
+    /// How long the received PDU is; 0 where a list is at fault or no PDU can
+    /// be read.
+    pub taken: usize,
+}
+
+/// What one step of a walk over a batch finds.
+#[derive(Clone, Debug, PartialEq, Eq)]
+pub enum Step {
+    /// The answer for the PDU at the cursor, and the cursor of the next.
+    Answered(Answer, Cursor),
+    /// No more PDU.
+    Ended,
+    /// The batch is above 16,384 bytes.
+    Refused(Refusal),
+}
+
+/// The header of the PDU at the start of the bytes. Bytes after the PDU are
+/// not looked at.
+pub fn read(bytes: &[u8]) -> Result<Header, Refusal> {
+    let header = raw::read(bytes);
+    Refusal::check(header.number)?;
+    Ok(Header {
+        protocol: header.protocol,
+        time_stamp_request: header.time_stamp_request,
+        port: header.port,
+        encrypted: header.encrypted,
+        reserved: header.reserved,
+        ack: header.ack,
+        added_header: header.added_header,
+        hop_limit: header.hop_limit,
+        source: header.source,
+        destination: header.has_destination.then_some(header.destination),
+        pdu_id: (header.protocol == 1).then_some(header.pdu_id),
+        path_count: header.path_bit.then_some(header.path_count),
+        payload: header.header_length..header.pdu_length,
+    })
+}
+
+/// The address at a place of the path of the PDU at the start of the bytes,
+/// the first at 0. None past the last one and where there is no PDU.
+pub fn path_address(bytes: &[u8], place: usize) -> Option<u16> {
+    let count = usize::from(raw::read(bytes).path_count);
+    (place < count).then(|| raw::path_address(bytes, place))
+}
+
+/// Whether an address is anywhere in the path of the PDU at the start of the
+/// bytes.
+pub fn path_has(bytes: &[u8], address: u16) -> bool {
+    raw::path_has(bytes, address)
+}
+
+/// Writes the PDU at the start of the bytes again and gives its length.
+pub fn write_again(bytes: &[u8], output: &mut [u8]) -> Result<usize, Refusal> {
+    length(raw::write_again(bytes, output))
+}
+
+/// Writes a fresh PDU with this payload and gives its length.
+pub fn originate(fresh: &Fresh, payload: &[u8], output: &mut [u8]) -> Result<usize, Refusal> {
+    let settings = raw::Fresh {
+        source: fresh.source,
+        has_destination: fresh.destination.is_some(),
+        destination: fresh.destination.unwrap_or(0),
+        hop_limit: fresh.hop_limit,
+        port: fresh.port,
+        time_stamp_request: fresh.time_stamp_request,
+        with_path: fresh.with_path,
+        reliable: fresh.reliable,
+        pdu_id: fresh.pdu_id,
+    };
+    length(raw::originate(settings, payload, output))
+}
+
+/// The first fault of the lists, in their order: in each 22, 21, then 20.
+pub fn list_fault(lists: &Lists) -> Result<(), Refusal> {
+    Refusal::check(raw::list_fault(lists.in_order()))
+}
+
+/// Whether an address is in some range of a list.
+pub fn list_holds(list: &[u16], address: u16) -> bool {
+    raw::list_holds(list, address)
+}
+
+/// What a node answers for the PDU at the start of the received bytes.
+pub fn hear(node: &Node, lists: &Lists, received: &[u8], output: &mut [u8]) -> Answer {
+    Answer::of(raw::hear(*node, lists.in_order(), received, output))
+}
+
+/// One step of the walk over PDUs that lie back to back. A walk begins with
+/// `Cursor::default()`.
+pub fn step(node: &Node, lists: &Lists, batch: &[u8], cursor: Cursor, output: &mut [u8]) -> Step {
+    let step = raw::step(*node, lists.in_order(), batch, cursor, output);
+    match step.kind {
+        raw::ANSWERED => Step::Answered(Answer::of(step.answer), step.next),
+        raw::ENDED => Step::Ended,
+        _ => Step::Refused(Refusal::BatchTooLong),
+    }
+}
+
+/// The most transmissions that one fresh PDU with a path and this hop limit
+/// can cause among so many repeating nodes. None: 64 bits do not hold it.
+pub fn most_transmissions(nodes: u64, hop_limit: u64) -> Result<Option<u64>, Refusal> {
+    bound(raw::most_transmissions(nodes, hop_limit))
+}
+
+/// The most bytes that those transmissions have together, where the fresh PDU
+/// has this length. None: 64 bits do not hold it.
+pub fn most_bytes(nodes: u64, hop_limit: u64, length: u64) -> Result<Option<u64>, Refusal> {
+    bound(raw::most_bytes(nodes, hop_limit, length))
+}
+
+/// The sizes, as the library has them.
+pub fn limits() -> Limits {
+    raw::limits()
+}
+
+impl Answer {
+    fn of(answer: raw::Answer) -> Answer {
+        let place = answer.delivered_place;
+        Answer {
+            delivery: Refusal::check(answer.delivery)
+                .map(|()| place..place + answer.delivered_length),
+            repeat: Refusal::check(answer.repeat).map(|()| answer.repeated_length),
+            taken: answer.taken,
+        }
+    }
+}
+
+fn length(written: raw::Written) -> Result<usize, Refusal> {
+    Refusal::check(written.number).map(|()| written.length)
+}
+
+fn bound(bound: raw::Bound) -> Result<Option<u64>, Refusal> {
+    Refusal::check(bound.number).map(|()| (!bound.too_large).then_some(bound.value))
+}
+
+#[cfg(test)]
+mod tests;

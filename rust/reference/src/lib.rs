@@ -1,0 +1,26 @@
+//! A plain reading of document 01, written from its text alone.
+//!
+//! Nothing here is fast or clever. Each module cites the section of 01 that
+//! it reads, and uses the names of 01. It shares nothing with the library it
+//! is compared with.
+
+mod batch;
+mod flood;
+mod header;
+mod job;
+mod lists;
+mod node;
+pub mod numbers;
+mod octets;
+mod origin;
+mod writing;
+
+pub use batch::{walk, Step, Walk, MOST_BATCH};
+pub use flood::{bound, bytes_bound, longest_path};
+pub use header::{read, Header, FIXED_LENGTH, MOST_PATH, MOST_PAYLOAD, MOST_PDU};
+pub use job::{read_job, relay, Job};
+pub use lists::{holds, list_fault, Lists, MOST_RANGES, MOST_VALUES};
+pub use node::{hear, Answer, Settings};
+pub use numbers::{described, meaning};
+pub use origin::{originate, Origination};
+pub use writing::{write, write_again};

@@ -1,0 +1,185 @@
+//! 01, "One PDU at one node"; numbers 30 to 41.
+
+use crate::header::{read, Header, MOST_PATH};
+use crate::lists::{holds, list_fault, Lists};
+use crate::numbers::{
+    ADDED_HEADER, DESTINATION_PASS, DESTINATION_REJECT, DONE, ECHO, FOR_ANOTHER, HOP_LIMIT_0,
+    IS_DESTINATION, PATH_FULL, REPEATING_OFF, REPEAT_SHORT, SOURCE_PASS, SOURCE_REJECT,
+};
+use crate::writing::write;
+
+/// A node's settings, but for what the lists hold.
+#[derive(Clone, Copy, Debug, Default, PartialEq, Eq)]
+pub struct Settings {
+    /// Own address.
+    pub own_address: u16,
+    /// Echo on.
+    pub echo: bool,
+    /// Repeating on.
+    pub repeating: bool,
+    /// Source pass list on.
+    pub source_pass_on: bool,
+    /// Source reject list on.
+    pub source_reject_on: bool,
+    /// Destination pass list on.
+    pub destination_pass_on: bool,
+    /// Destination reject list on.
+    pub destination_reject_on: bool,
+}
+
+/// What a node answers to one PDU.
+#[derive(Clone, Copy, Debug, PartialEq, Eq)]
+pub struct Answer {
+    /// The number for delivery.
+    pub delivery: u8,
+    /// The number for repeating.
+    pub repeat: u8,
+    /// The delivered payload as a part of the received bytes: its place and
+    /// its length, both 0 where nothing is delivered.
+    pub delivered: (usize, usize),
+    /// The length of the repeated PDU in the output, 0 where there is none.
+    pub repeated_length: usize,
+    /// How many received bytes the PDU takes, 0 where it can't be read or a
+    /// list is at fault.
+    pub taken: usize,
+}
+
+impl Answer {
+    /// A number "given twice".
+    fn twice(number: u8, taken: usize) -> Answer {
+        Answer {
+            delivery: number,
+            repeat: number,
+            delivered: (0, 0),
+            repeated_length: 0,
+            taken,
+        }
+    }
+}
+
+/// One PDU at one node, in the order of 01. The output changes only where the
+/// repeat number is 0, and only as far as the repeated PDU goes.
+pub fn hear(settings: &Settings, lists: &Lists, received: &[u8], out: &mut [u8]) -> Answer {
+    let fault = list_fault(lists);
+    if fault != DONE {
+        return Answer::twice(fault, 0);
+    }
+    let header = match read(received) {
+        Ok(header) => header,
+        Err(number) => return Answer::twice(number, 0),
+    };
+    let taken = header.pdu_length();
+    if is_echo(settings, &header) {
+        return Answer::twice(ECHO, taken);
+    }
+    let refusal = refused_by_lists(settings, lists, &header);
+    if refusal != DONE {
+        return Answer::twice(refusal, taken);
+    }
+    deliver_and_repeat(settings, &header, received, out)
+}
+
+/// Step 3: echo on, path bit set, own address anywhere in the path.
+fn is_echo(settings: &Settings, header: &Header) -> bool {
+    let in_path = |path: &Vec<u16>| path.contains(&settings.own_address);
+    settings.echo && header.path.as_ref().is_some_and(in_path)
+}
+
+/// Step 4: the PDU's source, never the node's own address, in the source
+/// lists; then its destination, if it has one, in the destination lists.
+fn refused_by_lists(settings: &Settings, lists: &Lists, header: &Header) -> u8 {
+    if settings.source_pass_on && !holds(lists.source_pass, header.source) {
+        return SOURCE_PASS;
+    }
+    if settings.source_reject_on && holds(lists.source_reject, header.source) {
+        return SOURCE_REJECT;
+    }
+    let Some(destination) = header.destination else {
+        return DONE;
+    };
+    if settings.destination_pass_on && !holds(lists.destination_pass, destination) {
+        return DESTINATION_PASS;
+    }
+    if settings.destination_reject_on && holds(lists.destination_reject, destination) {
+        return DESTINATION_REJECT;
+    }
+    DONE
+}
+
+/// Steps 5 and 6.
+fn deliver_and_repeat(
+    settings: &Settings,
+    header: &Header,
+    received: &[u8],
+    out: &mut [u8],
+) -> Answer {
+    let taken = header.pdu_length();
+    let delivery = delivery_number(settings, header);
+    let repeat = repeat_number(settings, header);
+    let mut repeated_length = 0;
+    if repeat == DONE {
+        let repeated = repeated_header(settings, header);
+        let (number, length) = write(&repeated, header.payload(received), out);
+        if number != DONE {
+            return Answer::twice(REPEAT_SHORT, taken);
+        }
+        repeated_length = length;
+    }
+    let delivered = if delivery == DONE {
+        (header.length(), header.payload_length)
+    } else {
+        (0, 0)
+    };
+    Answer {
+        delivery,
+        repeat,
+        delivered,
+        repeated_length,
+        taken,
+    }
+}
+
+/// Step 5. A PDU without a destination is for everyone.
+fn delivery_number(settings: &Settings, header: &Header) -> u8 {
+    let for_another = |destination| destination != settings.own_address;
+    if header.destination.is_some_and(for_another) {
+        FOR_ANOTHER
+    } else if header.added_header {
+        ADDED_HEADER
+    } else {
+        DONE
+    }
+}
+
+/// Step 6, but for the room in the output.
+fn repeat_number(settings: &Settings, header: &Header) -> u8 {
+    if header.destination == Some(settings.own_address) {
+        IS_DESTINATION
+    } else if !settings.repeating {
+        REPEATING_OFF
+    } else if header.hop_limit == 0 {
+        HOP_LIMIT_0
+    } else if path_count(header) == MOST_PATH {
+        PATH_FULL
+    } else {
+        DONE
+    }
+}
+
+/// The path count, 0 without a path.
+fn path_count(header: &Header) -> usize {
+    header.path.as_ref().map_or(0, Vec::len)
+}
+
+/// "The received one, with hop limits 1 to 6 lowered by one and 7 kept. With
+/// the path bit, the own address goes in after the last path entry."
+fn repeated_header(settings: &Settings, header: &Header) -> Header {
+    let mut repeated = header.clone();
+    if (1..=6).contains(&header.hop_limit) {
+        repeated.hop_limit -= 1;
+    }
+    if let Some(path) = &mut repeated.path {
+        path.push(settings.own_address);
+    }
+    repeated
+}
