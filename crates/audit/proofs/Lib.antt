@@ -1,5 +1,6 @@
 pub mod Octets
 pub mod Pdu
+pub mod View
 pub mod Origin
 pub mod Lists
 pub mod Node

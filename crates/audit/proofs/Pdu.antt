@@ -18,14 +18,14 @@ use Rattle.pdu.proofs.refusal_number.Reads as refusal-number-reads
 use Rattle.pdu.proofs.refusal_number.Kinds as refusal-number-kinds
 use Rattle.pdu.proofs.reading_number.Reads as reading-number-reads
 use Rattle.pdu.proofs.reading_number.Kinds as reading-number-kinds
+use Rattle.pdu.proofs.header_of.Reads as header-of-reads
+use Rattle.pdu.proofs.header_of.Kinds as header-of-kinds
 use Rattle.pdu.proofs.parts.path_address.Reads as parts-path-address-reads
 use Rattle.pdu.proofs.parts.path_address.Kinds as parts-path-address-kinds
 use Rattle.pdu.proofs.parts.path_has.Reads as parts-path-has-reads
 use Rattle.pdu.proofs.parts.path_has.Kinds as parts-path-has-kinds
 use Rattle.pdu.proofs.parts.payload.Reads as parts-payload-reads
 use Rattle.pdu.proofs.parts.payload.Kinds as parts-payload-kinds
-use Rattle.pdu.proofs.view.find_places.Reads as view-find-places-reads
-use Rattle.pdu.proofs.view.find_places.Kinds as view-find-places-kinds
 use Rattle.pdu.proofs.writing.write_again.Reads as writing-write-again-reads
 use Rattle.pdu.proofs.writing.write_again.Kinds as writing-write-again-kinds
 use Rattle.pdu.proofs.writing.put_header.Reads as writing-put-header-reads
@@ -55,6 +55,9 @@ refusal-number = (λ κs a. tt, λ κs a x y s t p q. p ∙ sym q)
 pub reading-number : Promised 0 reading-number-kinds.ps reading-number-kinds.r reading-number-reads.Asked reading-number-reads.Post (λ κs x. x)
 reading-number = (λ κs a. tt, λ κs a x y s t p q. p ∙ sym q)
 
+pub header-of : Promised 1 header-of-kinds.ps header-of-kinds.r header-of-reads.Asked header-of-reads.Post (λ κs x. x)
+header-of = (λ κs a. tt, λ κs a x y s t p q. p ∙ sym q)
+
 pub parts-path-address : Promised 1 parts-path-address-kinds.ps parts-path-address-kinds.r parts-path-address-reads.Asked parts-path-address-reads.Post (λ κs x. x)
 parts-path-address = (λ κs a. tt, λ κs a x y s t p q. p ∙ sym q)
 
@@ -63,9 +66,6 @@ parts-path-has = (λ κs a. tt, λ κs a x y s t p q. p ∙ sym q)
 
 pub parts-payload : Promised 1 parts-payload-kinds.ps parts-payload-kinds.r parts-payload-reads.Asked parts-payload-reads.Post (λ κs x. now x)
 parts-payload = (λ κs a. tt, λ κs a x y s t p q. p ∙ sym q)
-
-pub view-find-places : Promised 1 view-find-places-kinds.ps view-find-places-kinds.r view-find-places-reads.Asked view-find-places-reads.Post (λ κs x. x)
-view-find-places = (λ κs a. tt, λ κs a x y s t p q. p ∙ sym q)
 
 pub writing-write-again : PromisedWithOutput 2 writing-write-again-kinds.ps writing-write-again-kinds.r writing-write-again-reads.Asked writing-write-again-reads.Post (λ κs s. now (s .1 .0))
 writing-write-again = (λ κs a. tt, λ κs a x y s t p q. (p .0 ∙ sym (q .0), p .1 ∙ sym (q .1)))

@@ -6,7 +6,3 @@ pub mod Encoding
 pub mod Within
 pub mod Back
 pub mod Same
-pub mod Viewing
-pub mod Thin
-pub mod ThinNumber
-pub mod Opened

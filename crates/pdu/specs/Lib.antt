@@ -3,4 +3,3 @@ pub mod Sizes
 pub mod Reading
 pub mod Parts
 pub mod Writing
-pub mod View

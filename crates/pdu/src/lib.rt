@@ -1,6 +1,5 @@
 // A PDU: its header and its limits, reading it, its parts, and writing it again.
 pub mod parts;
-pub mod view;
 pub mod writing;
 
 ghost use mathlib.Core.Path.{_≡_};
@@ -206,7 +205,8 @@ pub fn reading_number(reading: Reading) -> u8
     }
 }
 
-fn header_of(bytes: &[u8]) -> Header
+// The header that bytes show at their places in the table, whether or not they can be read; a byte that is not there counts as 0.
+pub fn header_of(bytes: &[u8]) -> Header
     ensures { λ r. ⌜ r ≡ headerOf (now (bytes .entry)) ⌝ }
 {
     let byte0 = octets::byte(bytes, 0);

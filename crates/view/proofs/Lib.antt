@@ -1,0 +1,4 @@
+pub mod Viewing
+pub mod Thin
+pub mod ThinNumber
+pub mod Opened

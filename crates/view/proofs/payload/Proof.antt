@@ -1,0 +1,15 @@
+use mathlib.Core.Path.{_≡_}
+use denote.Ref.{now}
+use Rattle.view.specs.View.{payloadAt}
+use Rattle.view.proofs.Thin.{part, thin-spec}
+use Rattle.view.proofs.payload_at.Symbol as work
+use Rattle.view.proofs.payload_at.Met.{met}
+use Rattle.view.proofs.payload.Key.{name}
+use Rattle.view.proofs.payload.Statement.{statement}
+use Rattle.view.proofs.payload.Code as code
+
+pub payload-spec : {M : Type 1} → statement M
+unfolding code.routine
+payload-spec 𝓤 H 𝓜 𝓖 𝓡 =
+    thin-spec part (λ κs bytes at r. now r ≡ payloadAt (now bytes) at) 𝓤 H 𝓜 𝓖 𝓡
+    code.env name work.name work.routine (code.unfolded 𝓤 H 𝓜 𝓡) code.calls-view·payload-at (met 𝓤 H 𝓜 𝓖 𝓡)

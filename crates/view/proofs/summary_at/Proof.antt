@@ -1,0 +1,12 @@
+use borrow.Author.Needs.{needs}
+use Rattle.view.proofs.summary_at.Statement.{statement}
+use Rattle.view.proofs.summary_at.Tie as tie
+
+header-at-requires : tie.Need-header-at-requires
+header-at-requires c κs = search needs
+
+returns : tie.Need-returns
+returns c = rw (c .header-at .ensures .0)
+
+pub summary-at-spec : {M : Type 1} → statement M
+summary-at-spec = tie.close (tie.spec header-at-requires returns)

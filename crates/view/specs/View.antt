@@ -1,0 +1,48 @@
+-- Document 01, "Numbers answered", its last sentence: the received PDU is held as one thing that carries the caller's bytes with it, and its fields are asked of that.
+-- Each definition is over bytes and places, whichever they are: a view may be put together by hand too.
+use Prim.Native.Nat.{ℕ, _-_}
+use mathlib.Core.Bool.{cond}
+use mathlib.Core.List.{List, []}
+use mathlib.Core.Path.{_≡_}
+use lib.Dec.{eqb}
+use lib.ListN.{take, drop}
+use Rattle.pdu.specs.declared.Header.{Header}
+use Rattle.pdu.specs.declared.Reading.{Reading}
+use Rattle.pdu.specs.declared.Reading.the-variants.{Pdu, Refused}
+use Rattle.view.specs.declared.Places.{Places}
+use Rattle.view.specs.declared.Summary.{Summary}
+use Rattle.pdu.specs.Header.{headerOf}
+use Rattle.pdu.specs.Sizes.{headerLength, pduLength}
+use Rattle.pdu.specs.Reading.{refusalNumber}
+
+-- where a reading finds the payload's first byte and the PDU's end; both 0 after a refusal ("a length given with a refusal is 0")
+abbrev pub placesOf : Reading → Places
+placesOf (Pdu header) = record { number = 0; payload = headerLength header; end = pduLength header }
+placesOf (Refused refusal) = record { number = refusalNumber refusal; payload = 0; end = 0 }
+
+-- the bytes that a header is read from ("Numbers answered": 0 is done); none after a refusal, so that a field is then 0, not set, for everyone
+abbrev pub shownIn : List ℕ → Places → List ℕ
+shownIn bytes places = cond (eqb (places .number) 0) bytes []
+
+-- the header ("Header, byte by byte"); the path is that of this header in the bytes
+abbrev pub headerIn : List ℕ → Places → Header
+headerIn bytes places = headerOf (shownIn bytes places)
+
+-- the bytes from a place to another, as far as they are there
+abbrev pub part : List ℕ → ℕ → ℕ → List ℕ
+part bytes place end = take (end - place) (drop place bytes)
+
+-- the payload ("One PDU at one node", 5: "shown as that part of the received bytes")
+abbrev pub payloadAt : List ℕ → Places → List ℕ
+payloadAt bytes places = part bytes (places .payload) (places .end)
+
+-- what is asked of a view most, as one value: number, length and header
+abbrev pub summaryAt : List ℕ → Places → Summary
+summaryAt bytes places = record { number = places .number; size = places .end; header = headerIn bytes places }
+
+-- two headers, field by field: equality said so that a proof takes one field from it
+abbrev pub agree : Header → Header → Type 0
+agree one other =
+    (one .protocol ≡ other .protocol) × (one .«time_stamp_request» ≡ other .«time_stamp_request») × (one .«path_bit» ≡ other .«path_bit») × (one .port ≡ other .port) × (one .encrypted ≡ other .encrypted)
+    × (one .reserved ≡ other .reserved) × (one .ack ≡ other .ack) × (one .«added_header» ≡ other .«added_header») × (one .«hop_limit» ≡ other .«hop_limit») × (one .«payload_length» ≡ other .«payload_length»)
+    × (one .source ≡ other .source) × (one .destination ≡ other .destination) × (one .«pdu_id» ≡ other .«pdu_id») × (one .«path_count» ≡ other .«path_count»)

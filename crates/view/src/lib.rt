@@ -1,0 +1,361 @@
+// A received PDU held as one thing: the caller's bytes, and the places in them that reading found.
+// A function over the view only takes it apart. The work is done below, by a function on slice and places.
+use pdu::Destination;
+use pdu::Header;
+use pdu::Reading;
+ghost use mathlib.Core.Path.{_≡_};
+ghost use Rattle.pdu.specs.Reading.{readOf};
+ghost use Rattle.pdu.specs.Parts.{pathIn, pathAddress, inPath};
+ghost use Rattle.view.specs.View.{placesOf, shownIn, headerIn, part, payloadAt, summaryAt, agree};
+
+// What reading found: its number, the offset of the payload's first byte, and the offset of the byte after the PDU.
+// After a refusal both offsets are 0.
+pub struct Places {
+    pub number: u8,
+    pub payload: usize,
+    pub end: usize,
+}
+
+// A received PDU. One put together by hand, of any bytes and places, is answered for as well.
+pub struct Pdu<'a> {
+    pub bytes: &'a [u8],
+    pub at: Places,
+}
+
+// What a view says, by value: the number of reading, the PDU's length, and its header.
+pub struct Summary {
+    pub number: u8,
+    pub size: usize,
+    pub header: Header,
+}
+
+// The view of the PDU at the start of `bytes`. Any bytes have one: `number` tells a refusal, after which no field is set.
+pub fn open<'a>(bytes: &'a [u8]) -> Pdu<'a>
+    ensures { λ r. ⌜ (r .bytes ≡ bytes .entry) × (r .at ≡ placesOf (readOf (now (bytes .entry)))) ⌝ }
+{
+    let at = find_places(bytes);
+    Pdu { bytes, at }
+}
+
+// What the view of `bytes` says, for a caller that holds no view. After a refusal its number, length 0 and a header with no field set.
+pub fn summary_of(bytes: &[u8]) -> Summary
+    ensures { λ r. ⌜ r ≡ summaryAt (now (bytes .entry)) (placesOf (readOf (now (bytes .entry)))) ⌝ }
+{
+    summarize(open(bytes))
+}
+
+// The view's fields as one value.
+pub fn summarize<'a>(pdu: Pdu<'a>) -> Summary
+    ensures { λ r. ⌜ r ≡ summaryAt (now (pdu .entry .bytes)) (pdu .entry .at) ⌝ }
+{
+    summary_at(pdu.bytes, pdu.at)
+}
+
+// The number of reading: 0, or that of the refusal, 1 to 6.
+pub fn number<'a>(pdu: Pdu<'a>) -> u8
+    ensures { λ r. ⌜ r ≡ pdu .entry .at .number ⌝ }
+{
+    number_at(pdu.bytes, pdu.at)
+}
+
+// The PDU's length in bytes, header and payload. 0 after a refusal.
+pub fn size<'a>(pdu: Pdu<'a>) -> usize
+    ensures { λ r. ⌜ r ≡ pdu .entry .at .end ⌝ }
+{
+    size_at(pdu.bytes, pdu.at)
+}
+
+// The protocol: 0 best efforts, 1 reliable. 0 after a refusal.
+pub fn protocol<'a>(pdu: Pdu<'a>) -> u8
+    ensures { λ r. ⌜ r ≡ headerIn (now (pdu .entry .bytes)) (pdu .entry .at) .protocol ⌝ }
+{
+    protocol_at(pdu.bytes, pdu.at)
+}
+
+// Whether a time stamp is asked for. Not after a refusal.
+pub fn time_stamp_request<'a>(pdu: Pdu<'a>) -> bool
+    ensures { λ r. ⌜ r ≡ headerIn (now (pdu .entry .bytes)) (pdu .entry .at) .«time_stamp_request» ⌝ }
+{
+    time_stamp_request_at(pdu.bytes, pdu.at)
+}
+
+// Whether the PDU has a path, which may be empty. Not after a refusal.
+pub fn path_bit<'a>(pdu: Pdu<'a>) -> bool
+    ensures { λ r. ⌜ r ≡ headerIn (now (pdu .entry .bytes)) (pdu .entry .at) .«path_bit» ⌝ }
+{
+    path_bit_at(pdu.bytes, pdu.at)
+}
+
+// The port, 0 to 15. 0 after a refusal.
+pub fn port<'a>(pdu: Pdu<'a>) -> u8
+    ensures { λ r. ⌜ r ≡ headerIn (now (pdu .entry .bytes)) (pdu .entry .at) .port ⌝ }
+{
+    port_at(pdu.bytes, pdu.at)
+}
+
+// Whether the payload is encrypted. Not after a refusal.
+pub fn encrypted<'a>(pdu: Pdu<'a>) -> bool
+    ensures { λ r. ⌜ r ≡ headerIn (now (pdu .entry .bytes)) (pdu .entry .at) .encrypted ⌝ }
+{
+    encrypted_at(pdu.bytes, pdu.at)
+}
+
+// The two reserved bits, which may hold anything. 0 after a refusal.
+pub fn reserved<'a>(pdu: Pdu<'a>) -> u8
+    ensures { λ r. ⌜ r ≡ headerIn (now (pdu .entry .bytes)) (pdu .entry .at) .reserved ⌝ }
+{
+    reserved_at(pdu.bytes, pdu.at)
+}
+
+// Whether the ACK bit is set. Not after a refusal.
+pub fn ack<'a>(pdu: Pdu<'a>) -> bool
+    ensures { λ r. ⌜ r ≡ headerIn (now (pdu .entry .bytes)) (pdu .entry .at) .ack ⌝ }
+{
+    ack_at(pdu.bytes, pdu.at)
+}
+
+// Whether the payload begins with an added header. Not after a refusal.
+pub fn added_header<'a>(pdu: Pdu<'a>) -> bool
+    ensures { λ r. ⌜ r ≡ headerIn (now (pdu .entry .bytes)) (pdu .entry .at) .«added_header» ⌝ }
+{
+    added_header_at(pdu.bytes, pdu.at)
+}
+
+// The hop limit, 0 to 7. 0 after a refusal.
+pub fn hop_limit<'a>(pdu: Pdu<'a>) -> u8
+    ensures { λ r. ⌜ r ≡ headerIn (now (pdu .entry .bytes)) (pdu .entry .at) .«hop_limit» ⌝ }
+{
+    hop_limit_at(pdu.bytes, pdu.at)
+}
+
+// The payload length that the header states. 0 after a refusal.
+pub fn payload_length<'a>(pdu: Pdu<'a>) -> u16
+    ensures { λ r. ⌜ r ≡ headerIn (now (pdu .entry .bytes)) (pdu .entry .at) .«payload_length» ⌝ }
+{
+    payload_length_at(pdu.bytes, pdu.at)
+}
+
+// The source address. 0 after a refusal.
+pub fn source<'a>(pdu: Pdu<'a>) -> u16
+    ensures { λ r. ⌜ r ≡ headerIn (now (pdu .entry .bytes)) (pdu .entry .at) .source ⌝ }
+{
+    source_at(pdu.bytes, pdu.at)
+}
+
+// Who the PDU is for: the destination address, or everyone where it has none. Everyone after a refusal.
+pub fn destination<'a>(pdu: Pdu<'a>) -> Destination
+    ensures { λ r. ⌜ r ≡ headerIn (now (pdu .entry .bytes)) (pdu .entry .at) .destination ⌝ }
+{
+    destination_at(pdu.bytes, pdu.at)
+}
+
+// The PDU ID; 0 where the PDU has none, and after a refusal.
+pub fn pdu_id<'a>(pdu: Pdu<'a>) -> u8
+    ensures { λ r. ⌜ r ≡ headerIn (now (pdu .entry .bytes)) (pdu .entry .at) .«pdu_id» ⌝ }
+{
+    pdu_id_at(pdu.bytes, pdu.at)
+}
+
+// How many addresses the path has; 0 without the path bit, and after a refusal.
+pub fn path_count<'a>(pdu: Pdu<'a>) -> u8
+    ensures { λ r. ⌜ r ≡ headerIn (now (pdu .entry .bytes)) (pdu .entry .at) .«path_count» ⌝ }
+{
+    path_count_at(pdu.bytes, pdu.at)
+}
+
+// The path's address at place `i`, the first at 0; 0 past the last one, and after a refusal.
+pub fn path_address<'a>(pdu: Pdu<'a>, i: usize) -> u16
+    ensures { λ r. ⌜ r ≡ pathAddress (headerIn (now (pdu .entry .bytes)) (pdu .entry .at)) (now (pdu .entry .bytes)) i ⌝ }
+{
+    path_address_at(pdu.bytes, pdu.at, i)
+}
+
+// Whether an address is anywhere in the path. In an empty path, and after a refusal, none is.
+pub fn path_has<'a>(pdu: Pdu<'a>, address: u16) -> bool
+    ensures { λ r. ⌜ r ≡ inPath address (pathIn (headerIn (now (pdu .entry .bytes)) (pdu .entry .at)) (now (pdu .entry .bytes))) ⌝ }
+{
+    path_has_at(pdu.bytes, pdu.at, address)
+}
+
+// The payload, as that part of the caller's bytes. Empty where it is, and after a refusal.
+pub fn payload<'a>(pdu: Pdu<'a>) -> &'a [u8]
+    ensures { λ r. ⌜ now r ≡ payloadAt (now (pdu .entry .bytes)) (pdu .entry .at) ⌝ }
+{
+    payload_at(pdu.bytes, pdu.at)
+}
+
+// Where the parts of the PDU at the start of `bytes` are. Any bytes get an answer; a refusal's has its number and offsets 0.
+pub fn find_places(bytes: &[u8]) -> Places
+    ensures { λ r. ⌜ r ≡ placesOf (readOf (now (bytes .entry))) ⌝ }
+{
+    let reading = pdu::read(bytes);
+    match reading {
+        Reading::Pdu(header) => Places {
+            number: 0,
+            payload: header.header_length(),
+            end: header.pdu_length(),
+        },
+        Reading::Refused(refusal) => Places {
+            number: pdu::refusal_number(refusal),
+            payload: 0,
+            end: 0,
+        },
+    }
+}
+
+// What the header is read from. Nothing after a refusal, so that no field of bytes that are no PDU is ever shown.
+fn shown(bytes: &[u8], places: Places) -> &[u8]
+    ensures { λ r. ⌜ now r ≡ shownIn (now (bytes .entry)) places ⌝ }
+{
+    if places.number == 0 {
+        return bytes;
+    }
+    &bytes[0..0]
+}
+
+// Said field by field too, so that each function below follows from its own line.
+fn header_at(bytes: &[u8], places: Places) -> Header
+    ensures { λ r. ⌜ (r ≡ headerIn (now (bytes .entry)) places) × agree r (headerIn (now (bytes .entry)) places) ⌝ }
+{
+    pdu::header_of(shown(bytes, places))
+}
+
+fn summary_at(bytes: &[u8], places: Places) -> Summary
+    ensures { λ r. ⌜ r ≡ summaryAt (now (bytes .entry)) places ⌝ }
+{
+    Summary {
+        number: places.number,
+        size: places.end,
+        header: header_at(bytes, places),
+    }
+}
+
+fn number_at(bytes: &[u8], places: Places) -> u8
+    ensures { λ r. ⌜ r ≡ places .number ⌝ }
+{
+    places.number
+}
+
+fn size_at(bytes: &[u8], places: Places) -> usize
+    ensures { λ r. ⌜ r ≡ places .end ⌝ }
+{
+    places.end
+}
+
+fn protocol_at(bytes: &[u8], places: Places) -> u8
+    ensures { λ r. ⌜ r ≡ headerIn (now (bytes .entry)) places .protocol ⌝ }
+{
+    header_at(bytes, places).protocol
+}
+
+fn time_stamp_request_at(bytes: &[u8], places: Places) -> bool
+    ensures { λ r. ⌜ r ≡ headerIn (now (bytes .entry)) places .«time_stamp_request» ⌝ }
+{
+    header_at(bytes, places).time_stamp_request
+}
+
+fn path_bit_at(bytes: &[u8], places: Places) -> bool
+    ensures { λ r. ⌜ r ≡ headerIn (now (bytes .entry)) places .«path_bit» ⌝ }
+{
+    header_at(bytes, places).path_bit
+}
+
+fn port_at(bytes: &[u8], places: Places) -> u8
+    ensures { λ r. ⌜ r ≡ headerIn (now (bytes .entry)) places .port ⌝ }
+{
+    header_at(bytes, places).port
+}
+
+fn encrypted_at(bytes: &[u8], places: Places) -> bool
+    ensures { λ r. ⌜ r ≡ headerIn (now (bytes .entry)) places .encrypted ⌝ }
+{
+    header_at(bytes, places).encrypted
+}
+
+fn reserved_at(bytes: &[u8], places: Places) -> u8
+    ensures { λ r. ⌜ r ≡ headerIn (now (bytes .entry)) places .reserved ⌝ }
+{
+    header_at(bytes, places).reserved
+}
+
+fn ack_at(bytes: &[u8], places: Places) -> bool
+    ensures { λ r. ⌜ r ≡ headerIn (now (bytes .entry)) places .ack ⌝ }
+{
+    header_at(bytes, places).ack
+}
+
+fn added_header_at(bytes: &[u8], places: Places) -> bool
+    ensures { λ r. ⌜ r ≡ headerIn (now (bytes .entry)) places .«added_header» ⌝ }
+{
+    header_at(bytes, places).added_header
+}
+
+fn hop_limit_at(bytes: &[u8], places: Places) -> u8
+    ensures { λ r. ⌜ r ≡ headerIn (now (bytes .entry)) places .«hop_limit» ⌝ }
+{
+    header_at(bytes, places).hop_limit
+}
+
+fn payload_length_at(bytes: &[u8], places: Places) -> u16
+    ensures { λ r. ⌜ r ≡ headerIn (now (bytes .entry)) places .«payload_length» ⌝ }
+{
+    header_at(bytes, places).payload_length
+}
+
+fn source_at(bytes: &[u8], places: Places) -> u16
+    ensures { λ r. ⌜ r ≡ headerIn (now (bytes .entry)) places .source ⌝ }
+{
+    header_at(bytes, places).source
+}
+
+fn destination_at(bytes: &[u8], places: Places) -> Destination
+    ensures { λ r. ⌜ r ≡ headerIn (now (bytes .entry)) places .destination ⌝ }
+{
+    header_at(bytes, places).destination
+}
+
+fn pdu_id_at(bytes: &[u8], places: Places) -> u8
+    ensures { λ r. ⌜ r ≡ headerIn (now (bytes .entry)) places .«pdu_id» ⌝ }
+{
+    header_at(bytes, places).pdu_id
+}
+
+fn path_count_at(bytes: &[u8], places: Places) -> u8
+    ensures { λ r. ⌜ r ≡ headerIn (now (bytes .entry)) places .«path_count» ⌝ }
+{
+    header_at(bytes, places).path_count
+}
+
+fn path_address_at(bytes: &[u8], places: Places, i: usize) -> u16
+    ensures { λ r. ⌜ r ≡ pathAddress (headerIn (now (bytes .entry)) places) (now (bytes .entry)) i ⌝ }
+{
+    pdu::parts::path_address(bytes, header_at(bytes, places), i)
+}
+
+fn path_has_at(bytes: &[u8], places: Places, address: u16) -> bool
+    ensures { λ r. ⌜ r ≡ inPath address (pathIn (headerIn (now (bytes .entry)) places) (now (bytes .entry))) ⌝ }
+{
+    pdu::parts::path_has(bytes, header_at(bytes, places), address)
+}
+
+fn payload_at(bytes: &[u8], places: Places) -> &[u8]
+    ensures { λ r. ⌜ now r ≡ payloadAt (now (bytes .entry)) places ⌝ }
+{
+    part_of(bytes, places.payload, places.end)
+}
+
+// The bytes from `start` to `end`, as far as they are there; none where `end` comes first.
+fn part_of(bytes: &[u8], start: usize, end: usize) -> &[u8]
+    ensures { λ r. ⌜ now r ≡ part (now (bytes .entry)) start end ⌝ }
+{
+    if bytes.len() < start {
+        return &bytes[0..0];
+    }
+    if end < start {
+        return &bytes[0..0];
+    }
+    if bytes.len() < end {
+        return &bytes[start..];
+    }
+    &bytes[start..end]
+}
