@@ -12,16 +12,14 @@ use Rattle.pdu.specs.declared.Reading.the-variants.{Pdu}
 use Rattle.pdu.specs.Sizes.{pathLimit, pduLimit, pduLength}
 use Rattle.pdu.specs.Reading.{readOf}
 use Rattle.pdu.specs.Parts.{pathIn, payloadIn}
-use Rattle.pdu.specs.Writing.{encode, writeAgain, writtenAgain}
-use Rattle.pdu.proofs.Back.{WellFormed}
+use Rattle.pdu.specs.Writing.{encode, writeAgain, writtenAgain, WellFormed}
 use Rattle.origin.specs.declared.Settings as asked
 use Rattle.origin.specs.Origination.{freshHeader, fresh, originationNumber, originated, originatedOutput}
 use Rattle.node.specs.declared.Settings.{Settings}
 use Rattle.node.specs.Decision.{Lists, repeatNumber}
 use Rattle.node.specs.Repeat.{repeatedHeader, repeated}
 use Rattle.node.specs.Answers.{outputAfter}
-use Rattle.batch.specs.Walk.{walk}
-use Rattle.batch.proofs.Walking.{steps}
+use Rattle.batch.specs.Walk.{walk, steps}
 use Rattle.bound.specs.Bound.{terms, bound, bytesBound}
 use Rattle.flood.specs.Flood.{Reception, Bounded}
 use Rattle.flood.specs.Complete.{Complete}

@@ -16,23 +16,13 @@ use Rattle.node.specs.Answers.{answerOf}
 use Rattle.batch.specs.declared.Cursor.{Cursor}
 use Rattle.batch.specs.declared.Stepped.{Stepped}
 use Rattle.batch.specs.declared.Stepped.the-variants.{TooLong, Ended, Answered}
-use Rattle.batch.specs.Walk.{batchLimit, isTooLong, isDone, nextCursor, stepOf, Walk, endingAt, before, walkFrom, walk}
+use Rattle.batch.specs.Walk.{batchLimit, isTooLong, isDone, nextCursor, stepOf, Walk, endingAt, before, walkFrom, walk, continued, steps}
 use Rattle.batch.proofs.Stepping.{taken-within}
 
 abbrev pub nothing : ℕ → Walk
 nothing offset = endingAt 0 offset
 
-abbrev pub continued : Stepped → ℕ → (Cursor → Walk) → Walk
-continued TooLong offset later = endingAt 54 offset
-continued Ended offset later = nothing offset
-continued (Answered answer next) offset later = before offset answer (later next)
-
 module _ (settings : Settings) (lists : Lists) (room : ℕ) (batch : List ℕ) where
-  -- what so many steps from a cursor on give
-  unfoldable pub steps : ℕ → Cursor → Walk
-  steps zero cursor = nothing (cursor .place)
-  steps (suc n) cursor = continued (stepOf settings lists room batch cursor) (cursor .place) (λ next. steps n next)
-
   abbrev pub answer : ℕ → Answer
   answer offset = answerOf settings lists room (drop offset batch)
 
@@ -71,30 +61,30 @@ module _ (settings : Settings) (lists : Lists) (room : ℕ) (batch : List ℕ) w
     unfolding stepOf
     step-answered offset e = rw (le-ltb batchLimit (length batch) short, e)
 
-    stopped : (n offset : ℕ) → steps n (record { place = offset; ended = true }) ≡ nothing offset
+    stopped : (n offset : ℕ) → steps settings lists room batch n (record { place = offset; ended = true }) ≡ nothing offset
     unfolding steps
     stopped zero offset = refl
     stopped (suc n) offset =
-        ap (λ (s : Stepped). continued s offset (λ later. steps n later)) (step-ended (record { place = offset; ended = true }) refl)
+        ap (λ (s : Stepped). continued s offset (λ later. steps settings lists room batch n later)) (step-ended (record { place = offset; ended = true }) refl)
 
-    pub steps-walk : (n offset : ℕ) → steps n (running offset) ≡ walkFrom n settings lists room batch offset
+    pub steps-walk : (n offset : ℕ) → steps settings lists room batch n (running offset) ≡ walkFrom n settings lists room batch offset
     unfolding steps
     steps-walk zero offset = sym (walk-none offset)
     steps-walk (suc n) offset = at-end (leb (length batch) offset) refl (steps-walk n (next offset))
       where
-        after : (t : Bool) → eqb (listOrReadingFault lists (drop offset batch)) 0 ≡ t → steps n (running (next offset)) ≡ walkFrom n settings lists room batch (next offset)
-            → steps n (nextCursor lists batch offset) ≡ cond t (walkFrom n settings lists room batch (next offset)) (nothing offset)
-        after true e below = ap (λ (b : Bool). steps n (record { place = next offset; ended = not b })) e ∙ below
+        after : (t : Bool) → eqb (listOrReadingFault lists (drop offset batch)) 0 ≡ t → steps settings lists room batch n (running (next offset)) ≡ walkFrom n settings lists room batch (next offset)
+            → steps settings lists room batch n (nextCursor lists batch offset) ≡ cond t (walkFrom n settings lists room batch (next offset)) (nothing offset)
+        after true e below = ap (λ (b : Bool). steps settings lists room batch n (record { place = next offset; ended = not b })) e ∙ below
         after false e below =
-            ap (λ (b : Bool). steps n (record { place = next offset; ended = not b })) e
-            ∙ ap (λ (o : ℕ). steps n (record { place = o; ended = true })) (not-taken offset e) ∙ stopped n offset
+            ap (λ (b : Bool). steps settings lists room batch n (record { place = next offset; ended = not b })) e
+            ∙ ap (λ (o : ℕ). steps settings lists room batch n (record { place = o; ended = true })) (not-taken offset e) ∙ stopped n offset
 
-        at-end : (t : Bool) → leb (length batch) offset ≡ t → steps n (running (next offset)) ≡ walkFrom n settings lists room batch (next offset)
-            → continued (stepOf settings lists room batch (running offset)) offset (λ later. steps n later) ≡ walkFrom (suc n) settings lists room batch offset
+        at-end : (t : Bool) → leb (length batch) offset ≡ t → steps settings lists room batch n (running (next offset)) ≡ walkFrom n settings lists room batch (next offset)
+            → continued (stepOf settings lists room batch (running offset)) offset (λ later. steps settings lists room batch n later) ≡ walkFrom (suc n) settings lists room batch offset
         at-end true e below =
-            ap (λ (s : Stepped). continued s offset (λ later. steps n later)) (step-ended (running offset) e) ∙ sym (walk-end (suc n) offset e)
+            ap (λ (s : Stepped). continued s offset (λ later. steps settings lists room batch n later)) (step-ended (running offset) e) ∙ sym (walk-end (suc n) offset e)
         at-end false e below =
-            ap (λ (s : Stepped). continued s offset (λ later. steps n later)) (step-answered offset e)
+            ap (λ (s : Stepped). continued s offset (λ later. steps settings lists room batch n later)) (step-answered offset e)
             ∙ ap (before offset (answer offset)) (after (eqb (listOrReadingFault lists (drop offset batch)) 0) refl below) ∙ sym (walk-more n offset e)
 
   -- the n-th answer is the node's answer for the bytes at the n-th offset
@@ -157,15 +147,15 @@ module _ (settings : Settings) (lists : Lists) (room : ℕ) (batch : List ℕ) w
       at-end false e below = rw (walk-more n offset e) (after (eqb (listOrReadingFault lists (drop offset batch)) 0) refl below)
 
   -- stepping from the start, with as many steps as the batch has bytes, gives exactly the walk
-  refused : isTooLong batch ≡ true → (n : ℕ) → 0 < n → steps n (running 0) ≡ endingAt 54 0
+  refused : isTooLong batch ≡ true → (n : ℕ) → 0 < n → steps settings lists room batch n (running 0) ≡ endingAt 54 0
   unfolding steps stepOf
   refused e zero p = absurd (omega arith)
   refused e (suc n) p = simp e
 
-  pub stepping-walks : steps (length batch) (running 0) ≡ walk settings lists room batch
+  pub stepping-walks : steps settings lists room batch (length batch) (running 0) ≡ walk settings lists room batch
   unfolding walk
   stepping-walks = go (isTooLong batch) refl
     where
-      go : (t : Bool) → isTooLong batch ≡ t → steps (length batch) (running 0) ≡ cond t (endingAt 54 0) (walkFrom (length batch) settings lists room batch 0)
+      go : (t : Bool) → isTooLong batch ≡ t → steps settings lists room batch (length batch) (running 0) ≡ cond t (endingAt 54 0) (walkFrom (length batch) settings lists room batch 0)
       go true e = refused e (length batch) (omega (arith, ltb-true batchLimit (length batch) e))
       go false e = steps-walk (ltb-false batchLimit (length batch) e) (length batch) 0

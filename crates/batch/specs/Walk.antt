@@ -77,3 +77,15 @@ walkFrom (suc turns) settings lists room batch offset =
 -- the walk of a batch; a PDU takes at least 6 bytes, so there are fewer of them than bytes
 unfoldable pub walk : Settings → Lists → ℕ → List ℕ → Walk
 walk settings lists room batch = cond (isTooLong batch) (endingAt 54 0) (walkFrom (length batch) settings lists room batch 0)
+
+-- a walk from one step's answer on: the rest of it is what the next cursor gives
+abbrev pub continued : Stepped → ℕ → (Cursor → Walk) → Walk
+continued TooLong offset later = endingAt 54 offset
+continued Ended offset later = endingAt 0 offset
+continued (Answered answer next) offset later = before offset answer (later next)
+
+-- what so many steps from a cursor on give
+unfoldable pub steps : Settings → Lists → ℕ → List ℕ → ℕ → Cursor → Walk
+steps settings lists room batch zero cursor = endingAt 0 (cursor .place)
+steps settings lists room batch (suc turns) cursor =
+    continued (stepOf settings lists room batch cursor) (cursor .place) (λ next. steps settings lists room batch turns next)

@@ -16,11 +16,11 @@ use Rattle.pdu.specs.Header.{hopLimit, pathCountPlace, pathCountIn, headerOf}
 use Rattle.pdu.specs.Sizes.{pathLimit, pduLimit, pathStart, headerLength, pduLength}
 use Rattle.pdu.specs.Reading.{readOf}
 use Rattle.pdu.specs.Parts.{pathIn, payloadIn}
-use Rattle.pdu.specs.Writing.{fixedPart, destinationBytes, onlyIf, headerBytes, pathBytes, encode}
+use Rattle.pdu.specs.Writing.{fixedPart, destinationBytes, onlyIf, headerBytes, pathBytes, encode, WellFormed}
 use Rattle.pdu.proofs.Inversion.{Shown, shown}
 use Rattle.pdu.proofs.Encoding.{length-onlyIf, length-header, length-pathIn}
 use Rattle.pdu.proofs.Within.{Bytes}
-use Rattle.pdu.proofs.Back.{WellFormed, read-encode, path-encode, payload-encode}
+use Rattle.pdu.proofs.Back.{read-encode, path-encode, payload-encode}
 use Rattle.pdu.proofs.Same.{written-same, shown-well-formed}
 use Rattle.node.specs.Repeat.{lowered, loweredByte, loweredHeader, repeated, repeatedLength, repeatedHeader}
 use Rattle.node.proofs.Repeating.{Ready, count-byte, count-place, length-repeated, ready-count, ready-small}

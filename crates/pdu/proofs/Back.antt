@@ -19,22 +19,9 @@ use Rattle.pdu.specs.Header.{isSet, version, protocol, timeStampBit, pat
 use Rattle.pdu.specs.Sizes.{destinationFlag, pathEntries, pathStart, headerLength, pduLength}
 use Rattle.pdu.specs.Reading.{readOf}
 use Rattle.pdu.specs.Parts.{addressesAt, pathIn, payloadIn}
-use Rattle.pdu.specs.Writing.{fixedPart, destinationBytes, onlyIf, headerBytes, pathBytes, encode}
+use Rattle.pdu.specs.Writing.{fixedPart, destinationBytes, onlyIf, headerBytes, pathBytes, encode, WellFormed}
 use Rattle.pdu.proofs.Inversion.{Whole, read-whole}
 use Rattle.pdu.proofs.Encoding.{length-destination, length-onlyIf, length-header, length-path}
-
--- a header, a path and a payload that can stand in one PDU
-pub record WellFormed (header : Header) (path payload : List ℕ) : Type 0 where
-  pub known : header .protocol ≤ 1
-  pub addressed : header .protocol ≤ destinationFlag (header .destination)
-  pub port : header .port < 16
-  pub reserved : header .reserved < 4
-  pub hop : header .«hop_limit» < 8
-  pub payload-short : header .«payload_length» < 4096
-  pub payload-long : length payload ≡ header .«payload_length»
-  pub no-id : header .protocol ≡ 0 → header .«pdu_id» ≡ 0
-  pub no-count : header .«path_bit» ≡ false → header .«path_count» ≡ 0
-  pub path-long : length path ≡ header .«path_count»
 
 -- a bit from a test, and back
 flag-le : (bit : Bool) → flag bit ≤ 1

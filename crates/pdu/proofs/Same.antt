@@ -19,13 +19,13 @@ use Rattle.pdu.specs.Header.{isSet, version, protocol, timeStampBit, pat
 use Rattle.pdu.specs.Sizes.{fixedLength, destinationFlag, pathEntries, pathStart, headerLength, pduLength}
 use Rattle.pdu.specs.Reading.{readOf}
 use Rattle.pdu.specs.Parts.{addressesAt, pathIn, payloadIn}
-use Rattle.pdu.specs.Writing.{fixedPart, destinationBytes, onlyIf, headerBytes, pathBytes, encode}
+use Rattle.pdu.specs.Writing.{fixedPart, destinationBytes, onlyIf, headerBytes, pathBytes, encode, WellFormed}
 use Rattle.pdu.proofs.Showing.{flag-isSet, destination-flag, entries-shown}
 use Rattle.pdu.proofs.Paths.{length-addresses}
 use Rattle.pdu.proofs.Inversion.{Whole, shown}
 use Rattle.pdu.proofs.Encoding.{within}
 use Rattle.pdu.proofs.Within.{Bytes, shown-within}
-use Rattle.pdu.proofs.Back.{WellFormed, read-encode}
+use Rattle.pdu.proofs.Back.{read-encode}
 
 -- bytes 0, 1 and 2, put together again from their fields
 byte-0 : (byte address : ℕ) → version byte ≡ 0

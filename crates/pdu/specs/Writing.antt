@@ -1,7 +1,8 @@
 -- A PDU's bytes from its header, path and payload (document 01, "Header, byte by byte"), and a PDU written again ("Numbers answered", 1 to 6, then 14).
-use Prim.Native.Nat.{ℕ, _+_, _*_, _/_, _%_}
-use mathlib.Core.Bool.{Bool, cond, _&&_}
+use Prim.Native.Nat.{ℕ, _+_, _*_, _/_, _%_, _≤_, _<_}
+use mathlib.Core.Bool.{Bool, false, cond, _&&_}
 use mathlib.Core.List.{List, [], _∷_, _++_}
+use mathlib.Core.Path.{_≡_}
 use lib.Dec.{eqb, ltb, leb}
 use lib.ListN.{length}
 use Rattle.octets.specs.Numbers.{flag}
@@ -75,3 +76,17 @@ writeAgain bytes room = writtenOf (readOf bytes) room
 
 unfoldable pub writtenAgain : List ℕ → List ℕ → List ℕ
 writtenAgain bytes output = outputOf (readOf bytes) bytes output
+
+-- a header, a path and a payload that can stand in one PDU: each field within its bits, a PDU ID and a path only where the table has them (the
+-- same table, and numbers 3 and 4)
+pub record WellFormed (header : Header) (path payload : List ℕ) : Type 0 where
+  pub known : header .protocol ≤ 1
+  pub addressed : header .protocol ≤ destinationFlag (header .destination)
+  pub port : header .port < 16
+  pub reserved : header .reserved < 4
+  pub hop : header .«hop_limit» < 8
+  pub payload-short : header .«payload_length» < 4096
+  pub payload-long : length payload ≡ header .«payload_length»
+  pub no-id : header .protocol ≡ 0 → header .«pdu_id» ≡ 0
+  pub no-count : header .«path_bit» ≡ false → header .«path_count» ≡ 0
+  pub path-long : length path ≡ header .«path_count»
