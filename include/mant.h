@@ -295,7 +295,7 @@ MantAnswer mant_hear(MantNode settings, const uint16_t *source_pass, size_t sour
 
 /* One step of the walk over PDUs that lie back to back: what mant_hear answers for the PDU at the cursor, whose first byte is
    batch[cursor.place], and the cursor of the next. After a list fault or a PDU that can't be read the next cursor has ended. Any cursor may be given;
-   one past the end, or one that has ended, gets MANT_ENDED. A batch over the size limit gets MANT_TOO_LONG at every cursor, so go on only while
+   one past the end, or one that has ended, gets MANT_ENDED. A batch over the size limit gets MANT_REFUSED at every cursor, so go on only while
    the kind is MANT_ANSWERED. The output is changed as by mant_hear, and left alone with kinds 1 and 2.
 
        for (MantStep s = mant_step(.., (MantCursor){0, false}, ..); s.kind == MANT_ANSWERED; s = mant_step(.., s.next, ..)) { .. } */

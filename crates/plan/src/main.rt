@@ -117,7 +117,7 @@ fn complain_of(what: &[u8], read: Argument) {
     io::write_all(STDERR_FILENO, b"plan: ");
     io::write_all(STDERR_FILENO, what);
     match read {
-        Argument::TooLong => io::write_all(STDERR_FILENO, b"is too long\n"),
+        Argument::TooLong => io::write_all(STDERR_FILENO, b"is more than 64 bits hold\n"),
         _ => io::write_all(STDERR_FILENO, b"is not a decimal number\n"),
     }
     ;
