@@ -12,7 +12,7 @@ use lib.Seq.{length-take-le}
 use borrow.Author.Tests.{leb-true, le-leb}
 use Rattle.octets.specs.Numbers.{flag}
 use Rattle.octets.specs.Octets.{wordAt, wordBytes, over, placed, placeAfter}
-use Rattle.octets.proofs.Placing.{Begins, first, more, is-after, placed-more, placed-start, length-over, nothing-after, nothing-placed, not-placed}
+use Rattle.octets.proofs.Placing.{Begins, first, more, room-after, is-after, placed-more, placed-start, length-over, nothing-after, nothing-placed, not-placed}
 use Rattle.pdu.specs.declared.Destination.{Destination}
 use Rattle.pdu.specs.declared.Destination.the-variants.{Everyone, Address}
 use Rattle.pdu.specs.declared.Header.{Header}
@@ -129,6 +129,22 @@ module _ (header : Header) (output : List ℕ) where
     pub header-begins : (now : List ℕ) (place : ℕ) → pathStart header ≤ length output → place ≡ placeAfter output 0 (headerPart header)
         → now ≡ placed output 0 (headerPart header) → Begins output now (headerBytes header) place
     header-begins now place room ep en = first (headerBytes header) output now place (omega (arith, length-header header)) (rw (part-is ok) at ep) (rw (part-is ok) at en)
+
+    -- the room for each part behind the fixed one
+    module _ (room : pathStart header ≤ length output) (o1 : List ℕ) (p1 : ℕ)
+        (e1 : (p1 ≡ placeAfter output 0 (fixedPart header)) × (o1 ≡ placed output 0 (fixedPart header))) where
+      pub destination-room : p1 + (2 * destinationFlag (header .destination) + flag (eqb (header .protocol) 1) + flag (header .«path_bit»)) ≤ length o1
+      destination-room = room-after output 0 (fixedPart header) _ p1 o1 (omega arith) (e1 .0) (e1 .1)
+
+      module _ (o2 : List ℕ) (p2 : ℕ) (e2 : (p2 ≡ placeAfter o1 p1 (destinationBytes (header .destination))) × (o2 ≡ placed o1 p1 (destinationBytes (header .destination)))) where
+        pub pdu-id-room : p2 + (flag (eqb (header .protocol) 1) + flag (header .«path_bit»)) ≤ length o2
+        pdu-id-room = room-after o1 p1 (destinationBytes (header .destination)) _ p2 o2 (omega (arith, length-destination (header .destination), destination-room)) (e2 .0) (e2 .1)
+
+        pub path-count-room : (o3 : List ℕ) (p3 : ℕ)
+            → (p3 ≡ placeAfter o2 p2 (onlyIf (eqb (header .protocol) 1) (header .«pdu_id» ∷ []))) × (o3 ≡ placed o2 p2 (onlyIf (eqb (header .protocol) 1) (header .«pdu_id» ∷ [])))
+            → p3 + flag (header .«path_bit») ≤ length o3
+        path-count-room o3 p3 e3 =
+            room-after o2 p2 (onlyIf (eqb (header .protocol) 1) (header .«pdu_id» ∷ [])) _ p3 o3 (omega (arith, length-onlyIf (eqb (header .protocol) 1) (header .«pdu_id»), pdu-id-room)) (e3 .0) (e3 .1)
 
     pub header-put : (o1 o2 o3 o4 : List ℕ) (p1 p2 p3 p4 : ℕ) → pathStart header ≤ length output
         → (p1 ≡ placeAfter output 0 (fixedPart header)) × (o1 ≡ placed output 0 (fixedPart header))

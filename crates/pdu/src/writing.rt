@@ -6,10 +6,10 @@ use super::Written;
 ghost use mathlib.Core.Path.{_≡_};
 ghost use mathlib.Core.Bool.{true};
 ghost use mathlib.Core.List.{[], _∷_};
-ghost use Prim.Native.Nat.{_+_, _*_, _/_, _≤_};
+ghost use Prim.Native.Nat.{_+_, _*_, _/_, _<_, _≤_};
 ghost use lib.ListN.{length};
 ghost use Rattle.octets.specs.Numbers.{flag};
-ghost use Rattle.octets.specs.Octets.{placed, placeAfter};
+ghost use Rattle.octets.specs.Octets.{wordBytes, placed, placeAfter};
 ghost use Rattle.pdu.specs.declared.Reading.the-variants.{Pdu};
 ghost use Rattle.pdu.specs.Sizes.{destinationFlag, pathEntries};
 ghost use Rattle.pdu.specs.Reading.{readOf};
@@ -130,23 +130,41 @@ fn byte_2(added_header: bool, hop_limit: u8, payload_length: u16) -> u8
 }
 
 fn put_destination(output: &mut [u8], place: usize, destination: Destination) -> usize
+    requires { ⌜ place + 2 * destinationFlag destination ≤ length (now output) ⌝ }
     ensures { λ r. ⌜ (r ≡ placeAfter (now (output .entry)) place (destinationBytes destination)) × (now (output .exit) ≡ placed (now (output .entry)) place (destinationBytes destination)) ⌝ }
 {
     match destination {
         Destination::Everyone => place,
-        Destination::Address(address) => octets::put_word(output, place, address),
+        Destination::Address(address) => put_address(output, place, address),
     }
 }
 
+fn put_address(output: &mut [u8], place: usize, address: u16) -> usize
+    requires { ⌜ place + 2 ≤ length (now output) ⌝ }
+    ensures { λ r. ⌜ (r ≡ placeAfter (now (output .entry)) place (wordBytes address)) × (now (output .exit) ≡ placed (now (output .entry)) place (wordBytes address)) ⌝ }
+{
+    let low_place = put_byte(output, place, octets::high(address));
+    put_byte(output, low_place, octets::low(address))
+}
+
 fn put_if(output: &mut [u8], place: usize, called: bool, byte: u8) -> usize
+    requires { ⌜ place + flag called ≤ length (now output) ⌝ }
     ensures { λ r. ⌜ (r ≡ placeAfter (now (output .entry)) place (onlyIf called (byte ∷ []))) × (now (output .exit) ≡ placed (now (output .entry)) place (onlyIf called (byte ∷ []))) ⌝ }
 {
     if called {
-        let part = [byte];
-        octets::put(output, place, &part)
+        put_byte(output, place, byte)
     } else {
         place
     }
+}
+
+// Puts a byte at a place that is in the output: the room for the header was looked at once, for all its parts.
+fn put_byte(output: &mut [u8], place: usize, byte: u8) -> usize
+    requires { ⌜ place < length (now output) ⌝ }
+    ensures { λ r. ⌜ (r ≡ placeAfter (now (output .entry)) place (byte ∷ [])) × (now (output .exit) ≡ placed (now (output .entry)) place (byte ∷ [])) ⌝ }
+{
+    output[place] = byte;
+    place + 1
 }
 
 fn put_path(output: &mut [u8], place: usize, bytes: &[u8], header: Header) -> usize

@@ -1,4 +1,7 @@
+use mathlib.Core.Path.{ap}
+use Rattle.pdu.specs.Sizes.{destinationFlag}
 use Rattle.octets.proofs.Placing.{nothing-after, nothing-placed}
+use native.Mathlib.Omega.{arith}
 use borrow.Author.Needs.{needs}
 use Rattle.pdu.proofs.writing.put_destination.Statement.{statement}
 use Rattle.pdu.proofs.writing.put_destination.Tie as tie
@@ -9,8 +12,8 @@ enum-told c = search needs
 enum-known-destination : tie.Need-enum-known-destination
 enum-known-destination c = search needs
 
-put-word-requires : tie.Need-put-word-requires
-put-word-requires c κs = search needs
+put-address-requires : tie.Need-put-address-requires
+put-address-requires c κs = omega (arith, c .before .before .before .before .before .pre, ap destinationFlag (c .before .before .destination .given .1))
 
 returns : tie.Need-returns
 returns c = rw (c .enum-told .given .1) (nothing-after _ _, nothing-placed _ _)
@@ -19,9 +22,9 @@ same-length : tie.Need-same-length
 same-length c = search needs
 
 returns-2 : tie.Need-returns-2
-returns-2 c = rw (c .before .before .before .before .before .destination .given .1) (c .before .before .put-word .ensures)
+returns-2 c = rw (c .before .before .before .before .before .destination .given .1) (c .before .before .put-address .ensures)
 
 pub put-destination-spec : {M : Type 1} → statement M
 put-destination-spec =
     tie.close
-    (tie.spec enum-told enum-known-destination put-word-requires returns same-length returns-2)
+    (tie.spec enum-told enum-known-destination put-address-requires returns same-length returns-2)

@@ -1,7 +1,10 @@
+use Prim.Native.Nat.{_≤_}
 use borrow.Author.Tests.{not-true, not-false}
 use mathlib.Core.Path.{sym, _∙_}
 use denote.Ref.{now}
-use Rattle.pdu.proofs.Encoding.{too-wide, no-room, header-put}
+use lib.ListN.{length}
+use Rattle.pdu.specs.Sizes.{pathStart}
+use Rattle.pdu.proofs.Encoding.{too-wide, no-room, destination-room, pdu-id-room, path-count-room, header-put}
 use native.Mathlib.Omega.{arith}
 use borrow.Author.Needs.{needs}
 use Rattle.pdu.proofs.writing.put_header.Statement.{statement}
@@ -23,13 +26,13 @@ put-fixed-requires : tie.Need-put-fixed-requires
 put-fixed-requires c κs = sym (c .before .before .before .before .within-bits .ensures) ∙ not-false _ (c .before .before .before .if1 .left)
 
 put-destination-requires : tie.Need-put-destination-requires
-put-destination-requires c κs = search needs
+put-destination-requires c κs = let f = c .before .before .before in let a = f .before .before .before .before .before .before .before .args in let room : pathStart (a .header) ≤ length (now (a .output)) = omega (arith, f .before .before .before .path-start .ensures .0) in let fits = sym (f .before .before .before .before .before .within-bits .ensures) ∙ not-false _ (f .before .before .before .before .if1 .left) in omega (arith, destination-room (a .header) (now (a .output)) fits room _ _ (f .put-fixed .ensures))
 
 put-if-requires : tie.Need-put-if-requires
-put-if-requires c κs = search needs
+put-if-requires c κs = let f = c .before .before .before .before .before .before .before .before in let a = f .before .before .before .before .before .before .before .args in let room : pathStart (a .header) ≤ length (now (a .output)) = omega (arith, f .before .before .before .path-start .ensures .0) in let fits = sym (f .before .before .before .before .before .within-bits .ensures) ∙ not-false _ (f .before .before .before .before .if1 .left) in omega (arith, pdu-id-room (a .header) (now (a .output)) fits room _ _ (f .put-fixed .ensures) _ _ (c .before .before .before .before .put-destination .ensures))
 
 put-if-requires-2 : tie.Need-put-if-requires-2
-put-if-requires-2 c κs = search needs
+put-if-requires-2 c κs = let f = c .before .before .before .before .before .before .before .before .before .before .before .before in let a = f .before .before .before .before .before .before .before .args in let room : pathStart (a .header) ≤ length (now (a .output)) = omega (arith, f .before .before .before .path-start .ensures .0) in let fits = sym (f .before .before .before .before .before .within-bits .ensures) ∙ not-false _ (f .before .before .before .before .if1 .left) in path-count-room (a .header) (now (a .output)) fits room _ _ (f .put-fixed .ensures) _ _ (c .before .before .before .before .before .before .before .before .put-destination .ensures) _ _ (c .before .before .before .put-if .ensures)
 
 same-length : tie.Need-same-length
 same-length c = search needs
