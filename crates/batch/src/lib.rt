@@ -30,7 +30,7 @@ pub struct Numbers {
 impl Cursor {
     pub const BATCH_LIMIT: usize = 16384;
 
-    // The cursor at a batch's first byte.
+    // The cursor at a batch's first byte. Document 01, "A batch".
     pub fn start() -> Cursor
         ensures { λ r. ⌜ r ≡ record { place = 0; ended = false } ⌝ }
     {
@@ -43,6 +43,7 @@ impl Cursor {
 
 // One step of the walk: the node's answer for the PDU at the cursor, and the cursor of the next. Any cursor gets an answer; one past the batch's
 // end, or of a walk that ended, gets `Ended`, unless the batch is over the size limit: that gets `TooLong` at every cursor. The output is changed as the node changes it, and not at all where no PDU is answered.
+// Document 01, "A batch".
 pub fn step<'a>(
     settings: Settings,
     source_pass: &'a [u16],
@@ -82,6 +83,7 @@ pub fn step<'a>(
 }
 
 // The two numbers that go with a step: the answer's; 54 twice for a batch that is too long; 0 twice where no PDU is answered.
+// Document 01, "A batch", and "Numbers answered", 54.
 pub fn numbers_of(stepped: Stepped) -> Numbers
     ensures { λ r. ⌜ r ≡ numbersOf stepped ⌝ }
 {

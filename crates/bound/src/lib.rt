@@ -15,7 +15,7 @@ const TOP: u64 = 18446744073709551615;
 
 // The most transmissions that one fresh message with that hop limit can cause among so many
 // repeating nodes, its own counted: 1 + N + N (N - 1) + ..
-// A hop limit above 7 is refused. Any numbers are answered within 21 turns of a loop.
+// A hop limit above 7 is refused. Any numbers are answered within 21 turns of a loop. Document 01, "Checked by hand", the bound of demand 3.
 pub fn most_transmissions(nodes: u64, hop_limit: u64) -> Bound
     ensures { λ r. ⌜ r ≡ answer «hop_limit» (bound nodes «hop_limit») ⌝ }
 {
@@ -23,14 +23,14 @@ pub fn most_transmissions(nodes: u64, hop_limit: u64) -> Bound
 }
 
 // The most bytes that those transmissions have together, if the fresh message has `length` bytes:
-// each entry of a path adds 2. Answered and refused as by most_transmissions.
+// each entry of a path adds 2. Answered and refused as by most_transmissions. Document 01, "One PDU at one node", by how much a PDU grows.
 pub fn most_bytes(nodes: u64, hop_limit: u64, length: u64) -> Bound
     ensures { λ r. ⌜ r ≡ answer «hop_limit» (bytesBound nodes «hop_limit» length) ⌝ }
 {
     at_hop_limit(nodes, hop_limit, length, 2)
 }
 
-// The number that goes with an answer: 10 for a hop limit that is refused, else 0.
+// The number that goes with an answer: 10 for a hop limit that is refused, else 0. Document 01, "Numbers answered", 10.
 pub fn refusal(bound: Bound) -> u64
     ensures { λ r. ⌜ r ≡ refusalNumber bound ⌝ }
 {

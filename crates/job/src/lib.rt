@@ -70,6 +70,7 @@ fn ranges_number(bytes: &[u8], start: usize, count: usize) -> u8
 // The list section at a place: its count byte, then that many ranges.
 // 50 where the count or a range is cut short, 52 for more than 64 ranges, 20 for a range whose low is above its high; the first of these that is met
 // from left to right. A count of 0 is an empty list, and a place past the end is a section cut short.
+// Document 01, "The program `relay`", a list section.
 pub fn list_at(bytes: &[u8], place: usize) -> Taken
     ensures { λ r. ⌜ r ≡ listAt (now (bytes .entry)) place ⌝ }
 {
@@ -93,6 +94,7 @@ pub fn list_at(bytes: &[u8], place: usize) -> Taken
 
 // The batch section at a place: its length in 2 bytes, then that many bytes.
 // 50 where the length is cut short, 54 for a length above 16,384, then 50 where the batch itself is cut short. What follows it is not looked at.
+// Document 01, "The program `relay`", the batch after its length.
 pub fn batch_at(bytes: &[u8], place: usize) -> Taken
     ensures { λ r. ⌜ r ≡ batchAt (now (bytes .entry)) place ⌝ }
 {
@@ -174,7 +176,7 @@ fn sections(bytes: &[u8]) -> Reading
 
 // The job in the bytes, or the number of the first fault met from left to right.
 // 50 where the bytes end too soon, 51 for flags with bit 6 or 7 set, then what `list_at` gives for each list and `batch_at` for the batch; 53, for
-// bytes after the batch, comes last.
+// bytes after the batch, comes last. Document 01, "The program `relay`", the job and the first fault met.
 pub fn read(bytes: &[u8]) -> Reading
     ensures { λ r. ⌜ r ≡ jobOf (now (bytes .entry)) ⌝ }
 {
@@ -195,6 +197,7 @@ fn is_odd(x: u8) -> bool
 
 impl Job {
     // What the job's own address and flags set a node to. Flags above 63, which no job that was read has, count by their lower six bits.
+    // Document 01, "The program `relay`", the flags.
     pub fn settings(self) -> node::Settings
         ensures { λ r. ⌜ r ≡ settingsOf self ⌝ }
     {
@@ -226,6 +229,7 @@ fn value_at(bytes: &[u8], section: Section, i: usize) -> u16
 
 // The values of a list section, low, high, low, high and so on, at the start of the array; 0 behind them.
 // Bytes past the end count as 0. Of a section of more than 64 ranges, which no job that was read has, the first 64 are shown.
+// Document 01, "The program `relay`", a list section.
 pub fn values(bytes: &[u8], section: Section) -> [u16; 128]
     ensures { λ r. ⌜ r ≡ padded (valuesIn (now (bytes .entry)) section) ⌝ }
 {
@@ -239,6 +243,7 @@ pub fn values(bytes: &[u8], section: Section) -> [u16; 128]
 }
 
 // The job's batch, as that part of the bytes. Where the bytes are not those that the job was read from, only what is there.
+// Document 01, "The program `relay`", the batch.
 pub fn batch(bytes: &[u8], job: Job) -> &[u8]
     ensures { λ r. ⌜ now r ≡ batchIn (now (bytes .entry)) job ⌝ }
 {

@@ -26,7 +26,7 @@ fn nth<'a>(
 
 // The number of the first list that has a fault, and 0 where none has.
 // In each list 22 (more than 128 values) comes before 21 (an odd number of them), and that before 20 (a low above its high).
-// An empty list has no fault. Lists that are off are looked at like the others.
+// An empty list has no fault. Lists that are off are looked at like the others. Document 01, "One PDU at one node", 1.
 pub fn fault<'a>(
     source_pass: &'a [u16],
     source_reject: &'a [u16],
@@ -66,6 +66,7 @@ pub fn fault<'a>(
 
 // Whether an address is in some range of the list, both ends included.
 // An empty list holds none, and so does a range whose low is above its high. A last value without a partner is no range.
+// Document 01, "One PDU at one node", what a list is.
 pub fn holds(list: &[u16], address: u16) -> bool
     ensures { λ r. ⌜ r ≡ holds (now (list .entry)) address ⌝ }
 {

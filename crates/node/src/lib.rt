@@ -178,7 +178,7 @@ fn path_is_full(header: Header) -> bool
 
 // What the node answers for the PDU at the start of `received`: document 01's order, lists first, then reading, echo, the lists' tests, delivery and
 // repeating. Any settings, lists, bytes and output get an answer. The output changes only where the repeat number is 0, and then only the bytes of
-// the repeated PDU at its start.
+// the repeated PDU at its start. Document 01, "One PDU at one node", 1 to 6, and its last paragraph for the bytes of the repeat.
 pub fn hear<'a>(
     settings: Settings,
     source_pass: &'a [u16],
@@ -273,7 +273,7 @@ fn answered(header: Header, delivery: u8, repeat: u8, length: usize) -> Answer
 }
 
 // The delivered payload, as that part of the received bytes that the answer names; empty where nothing is delivered. Of an answer that is not this
-// node's for these bytes, what the bytes hold at that place, as far as they go.
+// node's for these bytes, what the bytes hold at that place, as far as they go. Document 01, "One PDU at one node", 5.
 pub fn delivered(received: &[u8], answer: Answer) -> &[u8]
     ensures { λ r. ⌜ now r ≡ take (answer .«delivered_length») (drop (answer .«delivered_place») (now (received .entry))) ⌝ }
 {

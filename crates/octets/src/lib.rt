@@ -3,7 +3,7 @@ ghost use mathlib.Core.Path.{_≡_};
 ghost use Prim.Native.Nat.{_/_, _%_, _<_};
 ghost use Rattle.octets.specs.Octets.{at, wordAt, wordBytes, placed, placeAfter};
 
-// Byte `i`, and 0 past the end.
+// Byte `i`, and 0 past the end. Document 01, "Header, byte by byte": fields are asked for by byte.
 pub fn byte(bytes: &[u8], i: usize) -> u8
     ensures { λ r. ⌜ r ≡ at (now (bytes .entry)) i ⌝ }
 {
@@ -11,6 +11,7 @@ pub fn byte(bytes: &[u8], i: usize) -> u8
 }
 
 // The number in the two bytes from `i` on, most significant first. A byte past the end counts as 0.
+// Document 01, "Header, byte by byte", the order of bytes.
 pub fn word(bytes: &[u8], i: usize) -> u16
     ensures { λ r. ⌜ r ≡ wordAt (now (bytes .entry)) i ⌝ }
 {
@@ -27,14 +28,14 @@ fn wide(x: u8) -> u16
     x as u16
 }
 
-// The more significant byte of a number.
+// The more significant byte of a number. Any number has one. Document 01, "Header, byte by byte", the order of bytes.
 pub fn high(x: u16) -> u8
     ensures { λ r. ⌜ r ≡ x / 256 ⌝ }
 {
     (x / 256) as u8
 }
 
-// The less significant byte of a number.
+// The less significant byte of a number. Any number has one. Document 01, "Header, byte by byte", the order of bytes.
 pub fn low(x: u16) -> u8
     ensures { λ r. ⌜ r ≡ x % 256 ⌝ }
 {
@@ -42,6 +43,7 @@ pub fn low(x: u16) -> u8
 }
 
 // Puts `part` into the output at `place`, and answers the place after it. Where it does not fit, nothing is written and the place stays.
+// Output around the part keeps its bytes. Document 01, "Numbers answered", what output keeps.
 pub fn put(output: &mut [u8], place: usize, part: &[u8]) -> usize
     ensures { λ r. ⌜ (r ≡ placeAfter (now (output .entry)) place (now (part .entry))) × (now (output .exit) ≡ placed (now (output .entry)) place (now (part .entry))) ⌝ }
 {
@@ -56,6 +58,7 @@ pub fn put(output: &mut [u8], place: usize, part: &[u8]) -> usize
 }
 
 // Puts the two bytes of a number into the output at `place`, as `put` does.
+// Document 01, "Header, byte by byte", the order of bytes, and "Numbers answered", what output keeps.
 pub fn put_word(output: &mut [u8], place: usize, x: u16) -> usize
     ensures { λ r. ⌜ (r ≡ placeAfter (now (output .entry)) place (wordBytes x)) × (now (output .exit) ≡ placed (now (output .entry)) place (wordBytes x)) ⌝ }
 {

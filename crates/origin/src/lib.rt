@@ -25,6 +25,7 @@ pub struct Settings {
 // Writes a fresh PDU at the start of the output and answers 0 and its length. Answers 10 to 13 for a hop limit above 7, a port above 15, a payload
 // above its limit, or reliable service without a destination, and then 14 where the output is too short; each with length 0 and the output as it
 // was. The PDU ID counts for reliable service only. Output past the PDU keeps its bytes.
+// Document 01, "Origination", and "Numbers answered", 10 to 14.
 pub fn originate(settings: Settings, payload: &[u8], output: &mut [u8]) -> Written
     ensures { λ r. ⌜ (r ≡ originated settings (now (payload .entry)) (length (now (output .entry)))) × (now (output .exit) ≡ originatedOutput settings (now (payload .entry)) (now (output .entry))) ⌝ }
 {

@@ -21,6 +21,7 @@ fn digit(value: u8) -> u8
 
 // Puts the digits of `n` into the output at `place`, and answers the place after them.
 // No leading zeros; 0 is one digit. Where they do not fit, nothing is written and the place stays.
+// Document 01, "The program `relay`", the numbers on its lines.
 pub fn put_decimal(output: &mut [u8], place: usize, n: u64) -> usize
     ensures { λ r. ⌜ (r ≡ placeAfter (now (output .entry)) place (decimal n)) × (now (output .exit) ≡ placed (now (output .entry)) place (decimal n)) ⌝ }
 {
@@ -39,6 +40,7 @@ pub fn put_decimal(output: &mut [u8], place: usize, n: u64) -> usize
 
 // Puts bytes into the output at `place` in hex, two capital digits each, and answers the place after them.
 // Where they do not all fit, nothing is written and the place stays.
+// No bytes are no digits. Document 01, "The program `relay`", the repeated PDU on its line.
 pub fn put_hex(output: &mut [u8], place: usize, bytes: &[u8]) -> usize
     ensures { λ r. ⌜ (r ≡ placeAfter (now (output .entry)) place (hex (now (bytes .entry)))) × (now (output .exit) ≡ placed (now (output .entry)) place (hex (now (bytes .entry)))) ⌝ }
 {
@@ -73,7 +75,7 @@ fn put_ended(output: &mut [u8], place: usize, start: &[u8], n: u64, end: u8) -> 
 }
 
 // Puts the line `relay` and the own address, and answers the place after it.
-// Where the line does not fit, nothing is written and the place stays.
+// Where the line does not fit, nothing is written and the place stays. Document 01, "The program `relay`", the first line.
 pub fn put_first_line(output: &mut [u8], place: usize, own: u16) -> usize
     ensures { λ r. ⌜ (r ≡ placeAfter (now (output .entry)) place (firstLine own)) × (now (output .exit) ≡ placed (now (output .entry)) place (firstLine own)) ⌝ }
 {
@@ -81,7 +83,7 @@ pub fn put_first_line(output: &mut [u8], place: usize, own: u16) -> usize
 }
 
 // Puts the line `refused` and the number of a bad job, and answers the place after it.
-// Where the line does not fit, nothing is written and the place stays.
+// Where the line does not fit, nothing is written and the place stays. Document 01, "The program `relay`", a bad job.
 pub fn put_refused_line(output: &mut [u8], place: usize, number: u8) -> usize
     ensures { λ r. ⌜ (r ≡ placeAfter (now (output .entry)) place (refusedLine number)) × (now (output .exit) ≡ placed (now (output .entry)) place (refusedLine number)) ⌝ }
 {
@@ -89,7 +91,7 @@ pub fn put_refused_line(output: &mut [u8], place: usize, number: u8) -> usize
 }
 
 // Puts the line `end`, the PDU lines printed and the bytes taken, and answers the place after it.
-// Where the line does not fit, nothing is written and the place stays.
+// Where the line does not fit, nothing is written and the place stays. Document 01, "The program `relay`", the last line.
 pub fn put_last_line(output: &mut [u8], place: usize, lines: u64, taken: u64) -> usize
     ensures { λ r. ⌜ (r ≡ placeAfter (now (output .entry)) place (lastLine lines taken)) × (now (output .exit) ≡ placed (now (output .entry)) place (lastLine lines taken)) ⌝ }
 {
@@ -139,7 +141,7 @@ fn has_room(output: usize, place: usize, start: usize, repeated: usize) -> bool
 }
 
 // Puts a PDU line: the PDU's number, its offset, delivery number, repeat number, and the repeated PDU in hex or `-` where it is empty.
-// Answers the place after it. Where the line does not fit, nothing is written and the place stays.
+// Answers the place after it. Where the line does not fit, nothing is written and the place stays. Document 01, "The program `relay`", a PDU line.
 pub fn put_pdu_line(
     output: &mut [u8],
     place: usize,

@@ -30,6 +30,7 @@ pub struct Summary {
 }
 
 // The view of the PDU at the start of `bytes`. Any bytes have one: `number` tells a refusal, after which no field is set.
+// Document 01, "Numbers answered", the PDU held as one thing.
 pub fn open<'a>(bytes: &'a [u8]) -> Pdu<'a>
     ensures { λ r. ⌜ (r .bytes ≡ bytes .entry) × (r .at ≡ placesOf (readOf (now (bytes .entry)))) ⌝ }
 {
@@ -38,104 +39,105 @@ pub fn open<'a>(bytes: &'a [u8]) -> Pdu<'a>
 }
 
 // What the view of `bytes` says, for a caller that holds no view. After a refusal its number, length 0 and a header with no field set.
+// Document 01, "Numbers answered", the PDU held as one thing.
 pub fn summary_of(bytes: &[u8]) -> Summary
     ensures { λ r. ⌜ r ≡ summaryAt (now (bytes .entry)) (placesOf (readOf (now (bytes .entry)))) ⌝ }
 {
     summarize(open(bytes))
 }
 
-// The view's fields as one value.
+// The view's fields as one value. Any view has them, one put together by hand too. Document 01, "Numbers answered", the PDU held as one thing.
 pub fn summarize<'a>(pdu: Pdu<'a>) -> Summary
     ensures { λ r. ⌜ r ≡ summaryAt (now (pdu .entry .bytes)) (pdu .entry .at) ⌝ }
 {
     summary_at(pdu.bytes, pdu.at)
 }
 
-// The number of reading: 0, or that of the refusal, 1 to 6.
+// The number of reading: 0, or that of the refusal, 1 to 6. Document 01, "Numbers answered", 1 to 6.
 pub fn number<'a>(pdu: Pdu<'a>) -> u8
     ensures { λ r. ⌜ r ≡ pdu .entry .at .number ⌝ }
 {
     number_at(pdu.bytes, pdu.at)
 }
 
-// The PDU's length in bytes, header and payload. 0 after a refusal.
+// The PDU's length in bytes, header and payload. 0 after a refusal. Document 01, "Sizes".
 pub fn size<'a>(pdu: Pdu<'a>) -> usize
     ensures { λ r. ⌜ r ≡ pdu .entry .at .end ⌝ }
 {
     size_at(pdu.bytes, pdu.at)
 }
 
-// The protocol: 0 best efforts, 1 reliable. 0 after a refusal.
+// The protocol: 0 best efforts, 1 reliable. 0 after a refusal. Document 01, "Header, byte by byte": byte 0, bits 5-3.
 pub fn protocol<'a>(pdu: Pdu<'a>) -> u8
     ensures { λ r. ⌜ r ≡ headerIn (now (pdu .entry .bytes)) (pdu .entry .at) .protocol ⌝ }
 {
     protocol_at(pdu.bytes, pdu.at)
 }
 
-// Whether a time stamp is asked for. Not after a refusal.
+// Whether a time stamp is asked for. Not after a refusal. Document 01, "Header, byte by byte": byte 0, bit 2.
 pub fn time_stamp_request<'a>(pdu: Pdu<'a>) -> bool
     ensures { λ r. ⌜ r ≡ headerIn (now (pdu .entry .bytes)) (pdu .entry .at) .«time_stamp_request» ⌝ }
 {
     time_stamp_request_at(pdu.bytes, pdu.at)
 }
 
-// Whether the PDU has a path, which may be empty. Not after a refusal.
+// Whether the PDU has a path, which may be empty. Not after a refusal. Document 01, "Header, byte by byte": byte 0, bit 1.
 pub fn path_bit<'a>(pdu: Pdu<'a>) -> bool
     ensures { λ r. ⌜ r ≡ headerIn (now (pdu .entry .bytes)) (pdu .entry .at) .«path_bit» ⌝ }
 {
     path_bit_at(pdu.bytes, pdu.at)
 }
 
-// The port, 0 to 15. 0 after a refusal.
+// The port, 0 to 15. 0 after a refusal. Document 01, "Header, byte by byte": byte 1, bits 7-4.
 pub fn port<'a>(pdu: Pdu<'a>) -> u8
     ensures { λ r. ⌜ r ≡ headerIn (now (pdu .entry .bytes)) (pdu .entry .at) .port ⌝ }
 {
     port_at(pdu.bytes, pdu.at)
 }
 
-// Whether the payload is encrypted. Not after a refusal.
+// Whether the payload is encrypted. Not after a refusal. Document 01, "Header, byte by byte": byte 1, bit 3.
 pub fn encrypted<'a>(pdu: Pdu<'a>) -> bool
     ensures { λ r. ⌜ r ≡ headerIn (now (pdu .entry .bytes)) (pdu .entry .at) .encrypted ⌝ }
 {
     encrypted_at(pdu.bytes, pdu.at)
 }
 
-// The two reserved bits, which may hold anything. 0 after a refusal.
+// The two reserved bits, which may hold anything. 0 after a refusal. Document 01, "Header, byte by byte": byte 1, bits 2-1.
 pub fn reserved<'a>(pdu: Pdu<'a>) -> u8
     ensures { λ r. ⌜ r ≡ headerIn (now (pdu .entry .bytes)) (pdu .entry .at) .reserved ⌝ }
 {
     reserved_at(pdu.bytes, pdu.at)
 }
 
-// Whether the ACK bit is set. Not after a refusal.
+// Whether the ACK bit is set. Not after a refusal. Document 01, "Header, byte by byte": byte 1, bit 0.
 pub fn ack<'a>(pdu: Pdu<'a>) -> bool
     ensures { λ r. ⌜ r ≡ headerIn (now (pdu .entry .bytes)) (pdu .entry .at) .ack ⌝ }
 {
     ack_at(pdu.bytes, pdu.at)
 }
 
-// Whether the payload begins with an added header. Not after a refusal.
+// Whether the payload begins with an added header. Not after a refusal. Document 01, "Header, byte by byte": byte 2, bit 7.
 pub fn added_header<'a>(pdu: Pdu<'a>) -> bool
     ensures { λ r. ⌜ r ≡ headerIn (now (pdu .entry .bytes)) (pdu .entry .at) .«added_header» ⌝ }
 {
     added_header_at(pdu.bytes, pdu.at)
 }
 
-// The hop limit, 0 to 7. 0 after a refusal.
+// The hop limit, 0 to 7. 0 after a refusal. Document 01, "Header, byte by byte": byte 2, bits 6-4.
 pub fn hop_limit<'a>(pdu: Pdu<'a>) -> u8
     ensures { λ r. ⌜ r ≡ headerIn (now (pdu .entry .bytes)) (pdu .entry .at) .«hop_limit» ⌝ }
 {
     hop_limit_at(pdu.bytes, pdu.at)
 }
 
-// The payload length that the header states. 0 after a refusal.
+// The payload length that the header states. 0 after a refusal. Document 01, "Header, byte by byte": bytes 2 and 3.
 pub fn payload_length<'a>(pdu: Pdu<'a>) -> u16
     ensures { λ r. ⌜ r ≡ headerIn (now (pdu .entry .bytes)) (pdu .entry .at) .«payload_length» ⌝ }
 {
     payload_length_at(pdu.bytes, pdu.at)
 }
 
-// The source address. 0 after a refusal.
+// The source address. 0 after a refusal. Document 01, "Header, byte by byte": bytes 4 and 5.
 pub fn source<'a>(pdu: Pdu<'a>) -> u16
     ensures { λ r. ⌜ r ≡ headerIn (now (pdu .entry .bytes)) (pdu .entry .at) .source ⌝ }
 {
@@ -143,20 +145,21 @@ pub fn source<'a>(pdu: Pdu<'a>) -> u16
 }
 
 // Who the PDU is for: the destination address, or everyone where it has none. Everyone after a refusal.
+// Document 01, "Header, byte by byte", the first field called for.
 pub fn destination<'a>(pdu: Pdu<'a>) -> Destination
     ensures { λ r. ⌜ r ≡ headerIn (now (pdu .entry .bytes)) (pdu .entry .at) .destination ⌝ }
 {
     destination_at(pdu.bytes, pdu.at)
 }
 
-// The PDU ID; 0 where the PDU has none, and after a refusal.
+// The PDU ID; 0 where the PDU has none, and after a refusal. Document 01, "Header, byte by byte", the second field called for.
 pub fn pdu_id<'a>(pdu: Pdu<'a>) -> u8
     ensures { λ r. ⌜ r ≡ headerIn (now (pdu .entry .bytes)) (pdu .entry .at) .«pdu_id» ⌝ }
 {
     pdu_id_at(pdu.bytes, pdu.at)
 }
 
-// How many addresses the path has; 0 without the path bit, and after a refusal.
+// How many addresses the path has; 0 without the path bit, and after a refusal. Document 01, "Header, byte by byte", the third field called for.
 pub fn path_count<'a>(pdu: Pdu<'a>) -> u8
     ensures { λ r. ⌜ r ≡ headerIn (now (pdu .entry .bytes)) (pdu .entry .at) .«path_count» ⌝ }
 {
@@ -164,20 +167,21 @@ pub fn path_count<'a>(pdu: Pdu<'a>) -> u8
 }
 
 // The path's address at place `i`, the first at 0; 0 past the last one, and after a refusal.
+// Document 01, "Header, byte by byte", the path after its count.
 pub fn path_address<'a>(pdu: Pdu<'a>, i: usize) -> u16
     ensures { λ r. ⌜ r ≡ pathAddress (headerIn (now (pdu .entry .bytes)) (pdu .entry .at)) (now (pdu .entry .bytes)) i ⌝ }
 {
     path_address_at(pdu.bytes, pdu.at, i)
 }
 
-// Whether an address is anywhere in the path. In an empty path, and after a refusal, none is.
+// Whether an address is anywhere in the path. In an empty path, and after a refusal, none is. Document 01, "One PDU at one node", 3.
 pub fn path_has<'a>(pdu: Pdu<'a>, address: u16) -> bool
     ensures { λ r. ⌜ r ≡ inPath address (pathIn (headerIn (now (pdu .entry .bytes)) (pdu .entry .at)) (now (pdu .entry .bytes))) ⌝ }
 {
     path_has_at(pdu.bytes, pdu.at, address)
 }
 
-// The payload, as that part of the caller's bytes. Empty where it is, and after a refusal.
+// The payload, as that part of the caller's bytes. Empty where it is, and after a refusal. Document 01, "One PDU at one node", 5, what is shown.
 pub fn payload<'a>(pdu: Pdu<'a>) -> &'a [u8]
     ensures { λ r. ⌜ now r ≡ payloadAt (now (pdu .entry .bytes)) (pdu .entry .at) ⌝ }
 {
@@ -185,6 +189,7 @@ pub fn payload<'a>(pdu: Pdu<'a>) -> &'a [u8]
 }
 
 // Where the parts of the PDU at the start of `bytes` are. Any bytes get an answer; a refusal's has its number and offsets 0.
+// Document 01, "Header, byte by byte", and "Numbers answered", 1 to 6.
 pub fn find_places(bytes: &[u8]) -> Places
     ensures { λ r. ⌜ r ≡ placesOf (readOf (now (bytes .entry))) ⌝ }
 {
