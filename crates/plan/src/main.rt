@@ -13,6 +13,11 @@ use libc::STDERR_FILENO;
 use libc::STDOUT_FILENO;
 use table::print_table;
 
+// A fresh PDU with a path: the fixed part and the path count; with a destination, a PDU ID and the longest payload too.
+const SHORTEST: u64 = 7;
+
+const LONGEST: u64 = 4105;
+
 fn main() {
     let words = os::arg_count();
     if words < 2 {
@@ -43,6 +48,12 @@ fn answer(with_bytes: bool) {
     let Argument::Number(length) = third else {
         return complain_of(b"BYTES, the fresh PDU's length, ", third);
     };
+    if length < SHORTEST {
+        return complain(b"BYTES: a fresh PDU with a path has at least 7 bytes");
+    }
+    if LONGEST < length {
+        return complain(b"BYTES: a fresh PDU has at most 4105 bytes");
+    }
     print_transmissions(nodes, hop_limit);
     print_bytes(nodes, hop_limit, length);
 }
