@@ -9,7 +9,7 @@ mod timing;
 
 use inputs::{ASKED, FRESH, NODE, SETTINGS};
 use mant::raw;
-use reference::Lists;
+use reference::{Lists, Settings};
 use std::hint::black_box;
 use timing::{measure, Measured, OFFSETS, ROUNDS};
 
@@ -25,8 +25,7 @@ fn main() {
         "ns for one run, best / median of {ROUNDS} rounds at {} pairs of offsets within a page\n",
         OFFSETS.len()
     );
-    println!("| case | library | reference | plain C | memcpy | library : plain C | library : memcpy | reference : library |");
-    println!("|---|---:|---:|---:|---:|---:|---:|---:|");
+    heading();
     let example = inputs::example();
     row("read, example", reading(&example));
     row("originate, example", originating(&inputs::PAYLOAD));
@@ -47,7 +46,29 @@ fn main() {
         "walk, full batch of 4 PDUs",
         walking(&inputs::batch_of_large()),
     );
+    println!("\nHow the node's cost grows:\n");
+    heading();
+    for bytes in [0, 256, 1_024, 4_095] {
+        let pdu = inputs::pdu(0, &vec![7; bytes]);
+        row(&format!("hear, payload of {bytes}"), hearing(&pdu));
+    }
+    for entries in [0, 6, 60, 250] {
+        let pdu = inputs::pdu(entries, &inputs::PAYLOAD);
+        row(&format!("hear, path of {entries}"), hearing(&pdu));
+    }
+    for ranges in [1, 16, 64] {
+        row(
+            &format!("hear, ranges in each of four lists: {ranges}"),
+            hearing_by_lists(&example, ranges),
+        );
+    }
     println!("\nmemcpy copies the PDU that is read, written or repeated, or every PDU of the batch, one by one. Ratios are of the best rounds.");
+}
+
+/// The first two lines of a table.
+fn heading() {
+    println!("| case | library | reference | plain C | memcpy | library : plain C | library : reference |");
+    println!("|---|---:|---:|---:|---:|---:|---:|");
 }
 
 /// One line of the table.
@@ -55,14 +76,13 @@ fn row(name: &str, measured: [Measured; 4]) {
     let [library, reference, plain, copy] = measured;
     let cell = |measured: Measured| format!("{:.1} / {:.1}", measured.best, measured.median);
     println!(
-        "| {name} | {} | {} | {} | {} | {:.2} | {:.2} | {:.1} |",
+        "| {name} | {} | {} | {} | {} | {:.2} | {:.2} |",
         cell(library),
         cell(reference),
         cell(plain),
         cell(copy),
         library.best / plain.best,
-        library.best / copy.best,
-        reference.best / library.best,
+        library.best / reference.best,
     );
 }
 
@@ -124,20 +144,44 @@ fn originating(payload: &[u8]) -> [Measured; 4] {
 
 /// One PDU at node 2000, repeated; memcpy copies the PDU.
 fn hearing(pdu: &[u8]) -> [Measured; 4] {
+    hearing_at(pdu, NODE, &SETTINGS, NO_LISTS)
+}
+
+/// The same with the four lists on, so many ranges in each. Every range is
+/// looked at, and the PDU is repeated.
+fn hearing_by_lists(pdu: &[u8], ranges: usize) -> [Measured; 4] {
+    let passing = inputs::passing(ranges);
+    let rejecting = inputs::rejecting(ranges);
+    let lists: raw::Lists = [&passing, &rejecting, &passing, &rejecting];
+    hearing_at(
+        pdu,
+        inputs::NODE_WITH_LISTS,
+        &inputs::SETTINGS_WITH_LISTS,
+        lists,
+    )
+}
+
+fn hearing_at(
+    pdu: &[u8],
+    node: raw::Node,
+    settings: &Settings,
+    lists: raw::Lists,
+) -> [Measured; 4] {
     let length = pdu.len();
+    assert_eq!(raw::hear(node, lists, pdu, &mut [0; ROOM]).repeat, 0);
     measure(
         pdu,
         ROOM,
         [
             &mut |input: &[u8], output: &mut [u8]| {
-                black_box(raw::hear(black_box(NODE), NO_LISTS, input, output));
+                black_box(raw::hear(black_box(node), lists, input, output));
             },
             &mut |input: &[u8], output: &mut [u8]| {
-                let settings = black_box(&SETTINGS);
-                black_box(reference::hear(settings, &Lists::EMPTY, input, output));
+                let settings = black_box(settings);
+                black_box(reference::hear(settings, &Lists::of(lists), input, output));
             },
             &mut |input: &[u8], output: &mut [u8]| {
-                black_box(plain::hear(black_box(NODE), NO_LISTS, input, output));
+                black_box(plain::hear(black_box(node), lists, input, output));
             },
             &mut |input: &[u8], output: &mut [u8]| copy(input, output, length),
         ],

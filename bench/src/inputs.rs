@@ -55,6 +55,36 @@ pub const SETTINGS: Settings = Settings {
     destination_reject_on: false,
 };
 
+/// Node 2000 with its four lists on, for the library.
+pub const NODE_WITH_LISTS: raw::Node = raw::Node {
+    source_pass: true,
+    source_reject: true,
+    destination_pass: true,
+    destination_reject: true,
+    ..NODE
+};
+
+/// The same for the reference.
+pub const SETTINGS_WITH_LISTS: Settings = Settings {
+    source_pass_on: true,
+    source_reject_on: true,
+    destination_pass_on: true,
+    destination_reject_on: true,
+    ..SETTINGS
+};
+
+/// So many ranges of which only the last holds the example's addresses.
+pub fn passing(ranges: usize) -> Vec<u16> {
+    let mut values = rejecting(ranges - 1);
+    values.extend([1000, 1600]);
+    values
+}
+
+/// So many ranges that hold neither of the example's addresses.
+pub fn rejecting(ranges: usize) -> Vec<u16> {
+    [5000, 5001].repeat(ranges)
+}
+
 /// A PDU like the example, with hop limit 1, a path of so many addresses and
 /// this payload.
 pub fn pdu(path: u8, payload: &[u8]) -> Vec<u8> {
