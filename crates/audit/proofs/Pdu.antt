@@ -14,6 +14,8 @@ use Rattle.pdu.proofs.Header.pdu_length.Reads as header-pdu-length-reads
 use Rattle.pdu.proofs.Header.pdu_length.Kinds as header-pdu-length-kinds
 use Rattle.pdu.proofs.read.Reads as read-reads
 use Rattle.pdu.proofs.read.Kinds as read-kinds
+use Rattle.pdu.proofs.fault.Reads as fault-reads
+use Rattle.pdu.proofs.fault.Kinds as fault-kinds
 use Rattle.pdu.proofs.refusal_number.Reads as refusal-number-reads
 use Rattle.pdu.proofs.refusal_number.Kinds as refusal-number-kinds
 use Rattle.pdu.proofs.reading_number.Reads as reading-number-reads
@@ -48,6 +50,9 @@ header-pdu-length = (λ κs a. tt, λ κs a x y s t p q. p .0 ∙ sym (q .0))
 
 pub read : Promised 1 read-kinds.ps read-kinds.r read-reads.Asked read-reads.Post (λ κs x. x)
 read = (λ κs a. tt, λ κs a x y s t p q. p ∙ sym q)
+
+pub fault : Promised 1 fault-kinds.ps fault-kinds.r fault-reads.Asked fault-reads.Post (λ κs x. x)
+fault = (λ κs a. tt, λ κs a x y s t p q. p ∙ sym q)
 
 pub refusal-number : Promised 0 refusal-number-kinds.ps refusal-number-kinds.r refusal-number-reads.Asked refusal-number-reads.Post (λ κs x. x)
 refusal-number = (λ κs a. tt, λ κs a x y s t p q. p ∙ sym q)

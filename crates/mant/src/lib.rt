@@ -126,7 +126,11 @@ pub struct MantLimits {
 pub extern "C" fn mant_read(bytes: &[u8]) -> MantHeader
     ensures { λ r. ⌜ r ≡ headerInC (readOf (now (bytes .entry))) ⌝ }
 {
-    values::header_in_c(pdu::read(bytes))
+    let number = pdu::fault(bytes);
+    if number != 0 {
+        return values::refused_header(number);
+    }
+    values::shown_header(pdu::header_of(bytes))
 }
 
 // The address at place `i` of the path of the PDU at the start of `bytes`, the first at 0. 0 past the last one, and where there is no PDU.

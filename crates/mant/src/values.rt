@@ -13,21 +13,11 @@ use bound::Bound;
 use node::Answer;
 use pdu::Destination;
 use pdu::Header;
-use pdu::Reading;
 use pdu::Written;
 ghost use mathlib.Core.Path.{_≡_};
-ghost use Rattle.mant.specs.Boundary.{hasDestination, destinationAddress, refusedHeader, shownHeader, headerInC, writtenInC, destinationFromC, freshFromC, nodeFromC, answerInC, cursorInC, cursorFromC, numberAlone, stepInC, boundInC};
+ghost use Rattle.mant.specs.Boundary.{hasDestination, destinationAddress, refusedHeader, shownHeader, writtenInC, destinationFromC, freshFromC, nodeFromC, answerInC, cursorInC, cursorFromC, numberAlone, stepInC, boundInC};
 
-pub(crate) fn header_in_c(reading: Reading) -> MantHeader
-    ensures { λ r. ⌜ r ≡ headerInC reading ⌝ }
-{
-    match reading {
-        Reading::Pdu(header) => shown_header(header),
-        Reading::Refused(refusal) => refused_header(pdu::refusal_number(refusal)),
-    }
-}
-
-fn shown_header(header: Header) -> MantHeader
+pub(crate) fn shown_header(header: Header) -> MantHeader
     ensures { λ r. ⌜ r ≡ shownHeader header ⌝ }
 {
     let destination = header.destination;
@@ -53,7 +43,7 @@ fn shown_header(header: Header) -> MantHeader
     }
 }
 
-fn refused_header(number: u8) -> MantHeader
+pub(crate) fn refused_header(number: u8) -> MantHeader
     ensures { λ r. ⌜ r ≡ refusedHeader number ⌝ }
 {
     MantHeader {

@@ -10,7 +10,7 @@ use Rattle.pdu.specs.declared.Destination.{Destination}
 use Rattle.pdu.specs.declared.Destination.the-variants.{Everyone, Address}
 use Rattle.pdu.specs.declared.Header.{Header}
 use Rattle.pdu.specs.Header.{isSet, protocol, timeStampBit, pathBit, destinationBit, port, encryptedBit, reserved, ackBit, addedHeaderBit, hopLimit, payloadLength, sourcePlace, destinationPlace, pathCountPlace, destinationIn, pduIdIn, pathCountIn, headerOf}
-use Rattle.pdu.specs.Sizes.{destinationFlag, pathEntries, pathStart, headerLength}
+use Rattle.pdu.specs.Sizes.{destinationFlag, pathEntries, pathStart, headerLength, pduLength}
 
 pub header-is : (bytes : List ℕ) {byte0 byte1 byte2 byte3 from id count : ℕ} {to : Destination}
     → byte0 ≡ at bytes 0 → byte1 ≡ at bytes 1 → byte2 ≡ at bytes 2 → byte3 ≡ payloadLength byte2 (at bytes 3) → from ≡ wordAt bytes sourcePlace
@@ -66,3 +66,7 @@ module _ (bytes : List ℕ) where
 
   pub length-shown : headerLength (headerOf bytes) ≡ pathCountPlace (at bytes 0) + pathBit (at bytes 0) + 2 * pathCountIn bytes
   length-shown = omega (arith, start-shown, entries-shown)
+
+  pub pdu-length-shown : pduLength (headerOf bytes) ≡ headerLength (headerOf bytes) + payloadLength (at bytes 2) (at bytes 3)
+  unfolding headerOf
+  pdu-length-shown = refl

@@ -3,11 +3,11 @@ pub mod parts;
 pub mod writing;
 
 ghost use mathlib.Core.Path.{_≡_};
-ghost use Prim.Native.Nat.{_+_, _<_, _≤_};
+ghost use Prim.Native.Nat.{_+_, _*_, _<_, _≤_};
 ghost use mathlib.Core.Bool.{not, _&&_};
 ghost use lib.Dec.{eqb};
 ghost use Rattle.octets.specs.Numbers.{flag};
-ghost use Rattle.pdu.specs.Header.{isSet, protocol, destinationBit, payloadLength, pduIdPlace, pathCountPlace, destinationIn, pduIdIn, pathCountIn, headerOf};
+ghost use Rattle.pdu.specs.Header.{isSet, protocol, pathBit, destinationBit, payloadLength, pduIdPlace, pathCountPlace, destinationIn, pduIdIn, pathCountIn, headerOf};
 ghost use Rattle.pdu.specs.Sizes.{limits, pathLimit, headerLimit, destinationFlag, pathEntries, pathStart, headerLength, pduLength};
 ghost use Rattle.pdu.specs.Reading.{readOf, refusalNumber, readingNumber};
 
@@ -158,27 +158,60 @@ fn destination_flag(destination: Destination) -> u8
 pub fn read(bytes: &[u8]) -> Reading
     ensures { λ r. ⌜ r ≡ readOf (now (bytes .entry)) ⌝ }
 {
+    let number = fault(bytes);
+    if number != 0 {
+        return Reading::Refused(refusal_of(number));
+    }
+    // Not `header_of`: with the boundary's `mant_read` as its only caller in the static library, the back end inlines it there.
+    Reading::Pdu(header_from(
+        bytes,
+        destination_in(bytes),
+        pdu_id_in(bytes),
+        path_count_in(bytes),
+    ))
+}
+
+// The number of the first thing wrong with the bytes as a PDU, 1 to 6, and 0 where they begin with one. Any bytes get an answer; bytes after the PDU
+// are not looked at.
+pub fn fault(bytes: &[u8]) -> u8
+    ensures { λ r. ⌜ r ≡ readingNumber (readOf (now (bytes .entry))) ⌝ }
+{
     if bytes.len() < Header::FIXED_LENGTH {
-        return Reading::Refused(Refusal::TooShort);
+        return 1;
     }
     let byte0 = bytes[0];
     if byte0 / 64 != 0 {
-        return Reading::Refused(Refusal::WrongVersion);
+        return 2;
     }
     if 1 < byte0 / 8 % 8 {
-        return Reading::Refused(Refusal::UnknownProtocol);
+        return 3;
     }
     if no_destination(byte0) {
-        return Reading::Refused(Refusal::NoDestination);
+        return 4;
     }
-    let header = header_of(bytes);
-    if bytes.len() < header.header_length() {
-        return Reading::Refused(Refusal::HeaderCut);
+    let header_length = header_length_in(byte0, path_count_in(bytes));
+    if bytes.len() < header_length {
+        return 5;
     }
-    if bytes.len() < header.pdu_length() {
-        return Reading::Refused(Refusal::PayloadCut);
+    if bytes.len() < header_length + wide(payload_length(bytes[2], bytes[3])) {
+        return 6;
     }
-    Reading::Pdu(header)
+    0
+}
+
+// The refusal that has a number, 1 to 6.
+fn refusal_of(number: u8) -> Refusal
+    requires { ⌜ (0 < number) × (number ≤ 6) ⌝ }
+    ensures { λ r. ⌜ refusalNumber r ≡ number ⌝ }
+{
+    match number {
+        1 => Refusal::TooShort,
+        2 => Refusal::WrongVersion,
+        3 => Refusal::UnknownProtocol,
+        4 => Refusal::NoDestination,
+        5 => Refusal::HeaderCut,
+        _ => Refusal::PayloadCut,
+    }
 }
 
 // The number of a refusal.
@@ -209,6 +242,19 @@ pub fn reading_number(reading: Reading) -> u8
 pub fn header_of(bytes: &[u8]) -> Header
     ensures { λ r. ⌜ r ≡ headerOf (now (bytes .entry)) ⌝ }
 {
+    header_from(
+        bytes,
+        destination_in(bytes),
+        pdu_id_in(bytes),
+        path_count_in(bytes),
+    )
+}
+
+// The same header, once its fields that may be missing were found.
+fn header_from(bytes: &[u8], destination: Destination, pdu_id: u8, path_count: u8) -> Header
+    requires { ⌜ (destination ≡ destinationIn (now bytes)) × («pdu_id» ≡ pduIdIn (now bytes)) × («path_count» ≡ pathCountIn (now bytes)) ⌝ }
+    ensures { λ r. ⌜ r ≡ headerOf (now (bytes .entry)) ⌝ }
+{
     let byte0 = octets::byte(bytes, 0);
     let byte1 = octets::byte(bytes, 1);
     let byte2 = octets::byte(bytes, 2);
@@ -224,9 +270,9 @@ pub fn header_of(bytes: &[u8]) -> Header
         hop_limit: byte2 / 16 % 8,
         payload_length: payload_length(byte2, octets::byte(bytes, 3)),
         source: octets::word(bytes, 4),
-        destination: destination_in(bytes),
-        pdu_id: pdu_id_in(bytes),
-        path_count: path_count_in(bytes),
+        destination,
+        pdu_id,
+        path_count,
     }
 }
 
@@ -254,9 +300,16 @@ fn pdu_id_place(byte0: u8) -> usize
 }
 
 fn path_count_place(byte0: u8) -> usize
-    ensures { λ r. ⌜ r ≡ pathCountPlace byte0 ⌝ }
+    ensures { λ r. ⌜ (r ≡ pathCountPlace byte0) × (r ≤ 9) ⌝ }
 {
     pdu_id_place(byte0) + size(flag_of(byte0 / 8 % 8 == 1))
+}
+
+// The header's length by its bytes: up to the path count, the count's own byte if the path bit is set, and 2 bytes for each address.
+fn header_length_in(byte0: u8, path_count: u8) -> usize
+    ensures { λ r. ⌜ (r ≡ pathCountPlace byte0 + pathBit byte0 + 2 * «path_count») × (r ≤ headerLimit) ⌝ }
+{
+    path_count_place(byte0) + size(byte0 / 2 % 2) + 2 * size(path_count)
 }
 
 fn destination_in(bytes: &[u8]) -> Destination

@@ -1,17 +1,46 @@
-use mathlib.Core.Path.{ap, _∙_}
-use Rattle.mant.specs.Boundary.{headerInC}
+use Prim.Native.Nat.{ℕ}
+use mathlib.Core.Path.{_≡_, ap, sym, _∙_}
+use native.Mathlib.Omega.{arith}
+use denote.Ref.{now}
+use Rattle.pdu.specs.declared.Reading.{Reading}
+use Rattle.pdu.specs.declared.Reading.the-variants.{Pdu, Refused}
+use Rattle.pdu.specs.Reading.{readOf, readingNumber}
+use Rattle.pdu.proofs.Number.{read-0}
+use Rattle.mant.specs.Boundary.{headerInC, refusedHeader, shownHeader}
 use borrow.Author.Needs.{needs}
 use Rattle.mant.proofs.mant_read.Statement.{statement}
 use Rattle.mant.proofs.mant_read.Tie as tie
 
-read-requires : tie.Need-read-requires
-read-requires c κs = search needs
+-- a number other than 0 alone is what a refusal shows
+refused-is : (reading : Reading) {number : ℕ} → number ≡ readingNumber reading → (number ≡ 0 → ⊥) → refusedHeader number ≡ headerInC reading
+refused-is (Pdu header) same some = absurd (some same)
+refused-is (Refused refusal) same some = ap refusedHeader same
 
-header-in-c-requires : tie.Need-header-in-c-requires
-header-in-c-requires c κs = search needs
+fault-requires : tie.Need-fault-requires
+fault-requires c κs = search needs
+
+refused-header-requires : tie.Need-refused-header-requires
+refused-header-requires c κs = search needs
 
 returns : tie.Need-returns
-returns c = c .header-in-c .ensures ∙ ap headerInC (c .before .read .ensures)
+returns c = c .refused-header .ensures ∙ refused-is (readOf (now (c .before .before .before .before .args .bytes))) (c .before .before .fault .ensures) (λ none. omega arith)
+
+header-of-requires : tie.Need-header-of-requires
+header-of-requires c κs = search needs
+
+shown-header-requires : tie.Need-shown-header-requires
+shown-header-requires c κs = search needs
+
+returns-2 : tie.Need-returns-2
+returns-2 c = let e = c .before .before .before in let bytes = now (e .before .before .args .bytes) in let none : readingNumber (readOf bytes) ≡ 0 = omega (arith, e .fault .ensures) in c .shown-header .ensures ∙ ap shownHeader (c .before .header-of .ensures) ∙ sym (ap headerInC (read-0 bytes none))
 
 pub mant-read-spec : {M : Type 1} → statement M
-mant-read-spec = tie.close (tie.spec read-requires header-in-c-requires returns)
+mant-read-spec =
+    tie.close
+    (tie.spec
+    fault-requires
+    refused-header-requires
+    returns
+    header-of-requires
+    shown-header-requires
+    returns-2)
