@@ -122,6 +122,7 @@ pub struct MantLimits {
 }
 
 // The header of the PDU at the start of `bytes`, or the number, 1 to 6, of why there is none. Bytes after the PDU are not looked at.
+// Document 01, "Header, byte by byte", and "Numbers answered", 1 to 6.
 #[no_mangle]
 pub extern "C" fn mant_read(bytes: &[u8]) -> MantHeader
     ensures { λ r. ⌜ r ≡ headerInC (readOf (now (bytes .entry))) ⌝ }
@@ -134,6 +135,7 @@ pub extern "C" fn mant_read(bytes: &[u8]) -> MantHeader
 }
 
 // The address at place `i` of the path of the PDU at the start of `bytes`, the first at 0. 0 past the last one, and where there is no PDU.
+// Document 01, "Header, byte by byte", the path after its count.
 #[no_mangle]
 pub extern "C" fn mant_path_address(bytes: &[u8], i: usize) -> u16
     ensures { λ r. ⌜ r ≡ pathAddressIn (readOf (now (bytes .entry))) (now (bytes .entry)) i ⌝ }
@@ -146,6 +148,7 @@ pub extern "C" fn mant_path_address(bytes: &[u8], i: usize) -> u16
 }
 
 // Whether an address is anywhere in the path of the PDU at the start of `bytes`. Without a path none is, nor where there is no PDU.
+// Document 01, "One PDU at one node", 3.
 #[no_mangle]
 pub extern "C" fn mant_path_has(bytes: &[u8], address: u16) -> bool
     ensures { λ r. ⌜ r ≡ pathHas (readOf (now (bytes .entry))) (now (bytes .entry)) address ⌝ }
@@ -159,6 +162,7 @@ pub extern "C" fn mant_path_has(bytes: &[u8], address: u16) -> bool
 
 // Writes the PDU at the start of `bytes` again, from what reading shows of it, and answers 0 and its length. Answers 1 to 6 where there is no
 // PDU and 14 where the output is too short, with length 0 and the output as it was. Output past the PDU keeps its bytes.
+// Document 01, "Numbers answered", a PDU written again.
 #[no_mangle]
 pub extern "C" fn mant_write_again(bytes: &[u8], output: &mut [u8]) -> MantWritten
     ensures { λ r. ⌜ (r ≡ writtenInC (writeAgain (now (bytes .entry)) (length (now (output .entry))))) × (now (output .exit) ≡ writtenAgain (now (bytes .entry)) (now (output .entry))) ⌝ }
@@ -167,7 +171,7 @@ pub extern "C" fn mant_write_again(bytes: &[u8], output: &mut [u8]) -> MantWritt
 }
 
 // Writes a fresh PDU at the start of the output and answers 0 and its length, or 10 to 14 with length 0 and the output as it was. The PDU ID
-// counts for reliable service only. Output past the PDU keeps its bytes.
+// counts for reliable service only. Output past the PDU keeps its bytes. Document 01, "Origination", and "Numbers answered", 10 to 14.
 #[no_mangle]
 pub extern "C" fn mant_originate(
     settings: MantFresh,
@@ -180,6 +184,7 @@ pub extern "C" fn mant_originate(
 }
 
 // The number of the first of the four lists that has a fault, 22, 21 or 20, and 0 where none has. An empty list has none.
+// Document 01, "One PDU at one node", 1.
 #[no_mangle]
 pub extern "C" fn mant_list_fault<'a>(
     source_pass: &'a [u16],
@@ -198,6 +203,7 @@ pub extern "C" fn mant_list_fault<'a>(
 }
 
 // Whether an address is in some range of the list, both ends included. An empty list holds none; a last value without a partner is no range.
+// Document 01, "One PDU at one node", what a list is.
 #[no_mangle]
 pub extern "C" fn mant_list_holds(list: &[u16], address: u16) -> bool
     ensures { λ r. ⌜ r ≡ holds (now (list .entry)) address ⌝ }
@@ -206,7 +212,7 @@ pub extern "C" fn mant_list_holds(list: &[u16], address: u16) -> bool
 }
 
 // What a node answers for the PDU at the start of the received bytes. The repeated PDU is written at the start of the output where the repeat
-// number is 0, and the output keeps its bytes past it; with any other repeat number the output is left as it was.
+// number is 0, and the output keeps its bytes past it; with any other repeat number the output is left as it was. Document 01, "One PDU at one node".
 #[no_mangle]
 pub extern "C" fn mant_hear<'a>(
     settings: MantNode,
@@ -232,6 +238,7 @@ pub extern "C" fn mant_hear<'a>(
 
 // One step of the walk over a batch: the node's answer for the PDU at the cursor, and the cursor of the next. Any cursor gets an answer; one
 // past the batch's end, or of a walk that ended, gets kind 1, unless the batch is too long: that gets kind 2 at every cursor. The output is changed as by `mant_hear`, and not at all with kinds 1 and 2.
+// Document 01, "A batch".
 #[no_mangle]
 pub extern "C" fn mant_step<'a>(
     settings: MantNode,
@@ -259,7 +266,7 @@ pub extern "C" fn mant_step<'a>(
 }
 
 // The most transmissions that one fresh message with that hop limit can cause among so many repeating nodes, its own counted. Number 10 for a
-// hop limit above 7.
+// hop limit above 7. Document 01, "Checked by hand", the bound of demand 3.
 #[no_mangle]
 pub extern "C" fn mant_most_transmissions(nodes: u64, hop_limit: u64) -> MantBound
     ensures { λ r. ⌜ r ≡ boundInC (answer «hop_limit» (bound nodes «hop_limit»)) ⌝ }
@@ -268,6 +275,7 @@ pub extern "C" fn mant_most_transmissions(nodes: u64, hop_limit: u64) -> MantBou
 }
 
 // The most bytes that those transmissions have together, if the fresh message has `length` bytes. Number 10 for a hop limit above 7.
+// Document 01, "One PDU at one node", by how much a PDU grows.
 #[no_mangle]
 pub extern "C" fn mant_most_bytes(nodes: u64, hop_limit: u64, length: u64) -> MantBound
     ensures { λ r. ⌜ r ≡ boundInC (answer «hop_limit» (bytesBound nodes «hop_limit» length)) ⌝ }

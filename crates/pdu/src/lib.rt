@@ -77,7 +77,7 @@ impl Header {
 
     pub const PDU_LIMIT: usize = 4615;
 
-    // The limits above, as a value.
+    // The limits above, as a value. Document 01, "Sizes".
     pub fn limits() -> Limits
         ensures { λ r. ⌜ r ≡ limits ⌝ }
     {
@@ -90,7 +90,7 @@ impl Header {
         }
     }
 
-    // How many addresses the path has: the path count, and none without the path bit.
+    // How many addresses the path has: the path count, and none without the path bit. Document 01, "Header, byte by byte", the path after its count.
     pub fn path_entries(self) -> usize
         ensures { λ r. ⌜ (r ≡ pathEntries self) × (r ≤ pathLimit) ⌝ }
     {
@@ -102,6 +102,7 @@ impl Header {
     }
 
     // Where the path's addresses begin, counted from the PDU's first byte.
+    // Any header has such a place. Document 01, "Header, byte by byte", the fields called for.
     pub fn path_start(self) -> usize
         ensures { λ r. ⌜ (r ≡ pathStart self) × (r ≤ 10) ⌝ }
     {
@@ -112,14 +113,14 @@ impl Header {
             + size(flag_of(self.path_bit))
     }
 
-    // The header's length in bytes, its path included.
+    // The header's length in bytes, its path included. Document 01, "Sizes": 520 at most.
     pub fn header_length(self) -> usize
         ensures { λ r. ⌜ (r ≡ headerLength self) × (r ≤ headerLimit) ⌝ }
     {
         self.path_start() + 2 * self.path_entries()
     }
 
-    // The PDU's length in bytes: header and payload.
+    // The PDU's length in bytes: header and payload. Document 01, "Sizes": 4,615 at most where the payload length has its 12 bits.
     pub fn pdu_length(self) -> usize
         ensures { λ r. ⌜ (r ≡ pduLength self) × (r ≤ headerLimit + 65535) ⌝ }
     {
@@ -155,6 +156,7 @@ fn destination_flag(destination: Destination) -> u8
 }
 
 // The header of the PDU at the start of `bytes`, or why there is none there. Any bytes get an answer; bytes after the PDU are not looked at.
+// Document 01, "Numbers answered", 1 to 6.
 pub fn read(bytes: &[u8]) -> Reading
     ensures { λ r. ⌜ r ≡ readOf (now (bytes .entry)) ⌝ }
 {
@@ -172,7 +174,7 @@ pub fn read(bytes: &[u8]) -> Reading
 }
 
 // The number of the first thing wrong with the bytes as a PDU, 1 to 6, and 0 where they begin with one. Any bytes get an answer; bytes after the PDU
-// are not looked at.
+// are not looked at. Document 01, "Numbers answered", 1 to 6.
 pub fn fault(bytes: &[u8]) -> u8
     ensures { λ r. ⌜ r ≡ readingNumber (readOf (now (bytes .entry))) ⌝ }
 {
@@ -214,7 +216,7 @@ fn refusal_of(number: u8) -> Refusal
     }
 }
 
-// The number of a refusal.
+// The number of a refusal. Document 01, "Numbers answered", 1 to 6.
 pub fn refusal_number(refusal: Refusal) -> u8
     ensures { λ r. ⌜ r ≡ refusalNumber refusal ⌝ }
 {
@@ -228,7 +230,7 @@ pub fn refusal_number(refusal: Refusal) -> u8
     }
 }
 
-// The number of what reading answers: 0 for a header, else the refusal's.
+// The number of what reading answers: 0 for a header, else the refusal's. Document 01, "Numbers answered", 0 to 6.
 pub fn reading_number(reading: Reading) -> u8
     ensures { λ r. ⌜ r ≡ readingNumber reading ⌝ }
 {
@@ -239,6 +241,7 @@ pub fn reading_number(reading: Reading) -> u8
 }
 
 // The header that bytes show at their places in the table, whether or not they can be read; a byte that is not there counts as 0.
+// Document 01, "Header, byte by byte".
 pub fn header_of(bytes: &[u8]) -> Header
     ensures { λ r. ⌜ r ≡ headerOf (now (bytes .entry)) ⌝ }
 {
