@@ -12,7 +12,7 @@ use Rattle.octets.proofs.Numbering.{orElse-zero}
 use Rattle.pdu.specs.declared.Reading.{Reading}
 use Rattle.pdu.specs.declared.Reading.the-variants.{Pdu, Refused}
 use Rattle.pdu.specs.Header.{headerOf}
-use Rattle.pdu.specs.Sizes.{pduLength}
+use Rattle.pdu.specs.Sizes.{batchLimit, pduLength}
 use Rattle.pdu.specs.Reading.{readOf, readingNumber}
 use Rattle.pdu.proofs.Inversion.{shown}
 use Rattle.node.specs.declared.Settings.{Settings}
@@ -23,7 +23,7 @@ use Rattle.node.proofs.Answering.{refusal-number}
 use Rattle.batch.specs.declared.Cursor.{Cursor}
 use Rattle.batch.specs.declared.Stepped.{Stepped}
 use Rattle.batch.specs.declared.Stepped.the-variants.{TooLong, Ended, Answered}
-use Rattle.batch.specs.Walk.{batchLimit, isDone, stepOf, stepOutput}
+use Rattle.batch.specs.Walk.{isDone, stepOf, stepOutput}
 
 -- what `&batch[place..]` holds
 pub rest : (batch : List ℕ) (place : ℕ) → take (length batch - place) (drop place batch) ≡ drop place batch

@@ -16,7 +16,8 @@ use Rattle.node.specs.Answers.{answerOf}
 use Rattle.batch.specs.declared.Cursor.{Cursor}
 use Rattle.batch.specs.declared.Stepped.{Stepped}
 use Rattle.batch.specs.declared.Stepped.the-variants.{TooLong, Ended, Answered}
-use Rattle.batch.specs.Walk.{batchLimit, isTooLong, isDone, nextCursor, stepOf, Walk, endingAt, before, walkFrom, walk, continued, steps}
+use Rattle.pdu.specs.Sizes.{batchLimit}
+use Rattle.batch.specs.Walk.{isTooLong, isDone, nextCursor, stepOf, Walk, endingAt, before, walkFrom, walk, continued, steps}
 use Rattle.batch.proofs.Stepping.{taken-within}
 
 abbrev pub nothing : ℕ → Walk

@@ -4,6 +4,7 @@ use mathlib.Core.Bool.{Bool, not, cond, _||_}
 use mathlib.Core.List.{List, [], _∷_}
 use lib.Dec.{eqb, ltb, leb}
 use lib.ListN.{length, drop}
+use Rattle.pdu.specs.Sizes.{batchLimit}
 use Rattle.node.specs.declared.Settings.{Settings}
 use Rattle.node.specs.declared.Answer.{Answer}
 use Rattle.node.specs.Decision.{Lists, listOrReadingFault, taken}
@@ -12,10 +13,6 @@ use Rattle.batch.specs.declared.Cursor.{Cursor}
 use Rattle.batch.specs.declared.Numbers.{Numbers}
 use Rattle.batch.specs.declared.Stepped.{Stepped}
 use Rattle.batch.specs.declared.Stepped.the-variants.{TooLong, Ended, Answered}
-
--- "Sizes": a batch is 0 to 16,384 bytes
-abbrev pub batchLimit : ℕ
-batchLimit = 16384
 
 -- a batch over the size limit is answered 54 alone
 abbrev pub isTooLong : List ℕ → Bool

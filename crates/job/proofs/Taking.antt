@@ -13,7 +13,8 @@ use Rattle.pdu.proofs.Paths.{length-addresses}
 use Rattle.lists.specs.Lists.{faultOf, lowAboveHigh}
 use Rattle.job.specs.declared.Section.{Section}
 use Rattle.job.specs.declared.Taken.the-variants.{At, Refused}
-use Rattle.job.specs.Jobs.{rangeLimit, batchLimit, rangesNumber, listNumber, batchNumber, takenOf, listAt, batchAt, listEnd, valuesIn}
+use Rattle.job.specs.Jobs.{rangesNumber, listNumber, batchNumber, takenOf, listAt, batchAt, listEnd, valuesIn}
+use Rattle.pdu.specs.Sizes.{rangeLimit, batchLimit}
 use Rattle.job.proofs.Ranges.{ranges-right}
 
 -- a section's number decides

@@ -7,7 +7,9 @@ use lib.Dec.{eqb, ltb, leb}
 use lib.ListN.{length, take, drop, replicate}
 use Rattle.octets.specs.Numbers.{_gives_, _orElse_}
 use Rattle.octets.specs.Octets.{at, wordAt}
+use Rattle.pdu.specs.Sizes.{rangeLimit, batchLimit}
 use Rattle.pdu.specs.Parts.{addressesAt}
+use Rattle.lists.specs.Lists.{valueLimit}
 use Rattle.node.specs.declared.Settings.{Settings}
 use Rattle.node.specs.Decision.{Lists}
 use Rattle.job.specs.declared.Section.{Section}
@@ -16,14 +18,6 @@ use Rattle.job.specs.declared.Taken.the-variants as taken
 use Rattle.job.specs.declared.Job.{Job}
 use Rattle.job.specs.declared.Reading.{Reading}
 use Rattle.job.specs.declared.Reading.the-variants as reading
-
--- a list holds at most 64 ranges ("Sizes")
-abbrev pub rangeLimit : ℕ
-rangeLimit = 64
-
--- a batch is at most 16,384 bytes ("Sizes")
-abbrev pub batchLimit : ℕ
-batchLimit = 16384
 
 -- so many ranges of 4 bytes from a place on: 50 where one is cut short, 20 where one that was read has its low above its high, or 0
 unfoldable pub rangesNumber : ℕ → List ℕ → ℕ → ℕ
@@ -98,9 +92,9 @@ settingsOf job =
 abbrev pub valuesIn : List ℕ → Section → List ℕ
 valuesIn bytes section = addressesAt bytes (section .place) (2 * section .count)
 
--- values at the start of an array of 128, which is 64 ranges ("Sizes"); 0 behind them
+-- values at the start of an array that has room for every list; 0 behind them
 unfoldable pub padded : List ℕ → List ℕ
-padded values = take 128 (values ++ replicate 128 0)
+padded values = take valueLimit (values ++ replicate valueLimit 0)
 
 -- the batch's bytes
 abbrev pub batchIn : List ℕ → Job → List ℕ

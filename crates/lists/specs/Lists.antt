@@ -12,9 +12,13 @@ lowAboveHigh [] = false
 lowAboveHigh (low ∷ []) = false
 lowAboveHigh (low ∷ high ∷ ranges) = ltb high low || lowAboveHigh ranges
 
+-- the most values that a list has ("Numbers answered", 22): two for each of the 64 ranges of "Sizes"
+abbrev pub valueLimit : ℕ
+valueLimit = 128
+
 -- the number of one list, 22, 21, then 20; 0 for a list without fault
 unfoldable pub faultOf : List ℕ → ℕ
-faultOf list = ltb 128 (length list) gives 22 orElse eqb (length list % 2) 1 gives 21 orElse lowAboveHigh list gives 20
+faultOf list = ltb valueLimit (length list) gives 22 orElse eqb (length list % 2) 1 gives 21 orElse lowAboveHigh list gives 20
 
 -- the number of the first list that has a fault
 unfoldable pub firstFault : List (List ℕ) → ℕ

@@ -8,16 +8,16 @@ use Rattle.pdu.specs.declared.Header.{Header}
 use Rattle.pdu.specs.declared.Reading.{Reading}
 use Rattle.pdu.specs.declared.Reading.the-variants.{Pdu, Refused}
 use Rattle.pdu.specs.declared.Written.{Written}
-use Rattle.pdu.specs.Sizes.{fixedLength, payloadLimit, pathLimit, headerLimit, pduLimit, headerLength, pduLength}
+use Rattle.pdu.specs.Sizes.{fixedLength, payloadLimit, pathLimit, headerLimit, pduLimit, batchLimit, headerLength, pduLength}
 use Rattle.pdu.specs.Reading.{refusalNumber}
 use Rattle.pdu.specs.Parts.{pathIn, pathAddress, inPath}
+use Rattle.lists.specs.Lists.{valueLimit}
 use Rattle.origin.specs.declared.Settings as origin
 use Rattle.node.specs.declared.Settings as node
 use Rattle.node.specs.declared.Answer.{Answer}
 use Rattle.batch.specs.declared.Cursor.{Cursor}
 use Rattle.batch.specs.declared.Stepped.{Stepped}
 use Rattle.batch.specs.declared.Stepped.the-variants.{TooLong, Ended, Answered}
-use Rattle.batch.specs.Walk.{batchLimit}
 use Rattle.bound.specs.declared.Bound.{Bound}
 use Rattle.bound.specs.declared.Bound.the-variants.{Exactly, TooLarge, HopRefused}
 use Rattle.mant.specs.declared.MantHeader.{MantHeader}
@@ -175,4 +175,4 @@ boundInC HopRefused = record { number = 10; «too_large» = false; value = 0 }
 -- "Sizes"; a list of 64 ranges has 128 values ("Numbers answered", 22)
 abbrev pub limitsInC : MantLimits
 limitsInC =
-    record { fixed = fixedLength; payload = payloadLimit; path = pathLimit; header = headerLimit; pdu = pduLimit; list = 128; batch = batchLimit }
+    record { fixed = fixedLength; payload = payloadLimit; path = pathLimit; header = headerLimit; pdu = pduLimit; list = valueLimit; batch = batchLimit }

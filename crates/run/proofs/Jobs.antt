@@ -9,7 +9,8 @@ use Rattle.octets.specs.Octets.{placed, placeAfter}
 use Rattle.octets.proofs.Placing.{length-placed, after-within}
 use Rattle.node.specs.declared.Settings.{Settings}
 use Rattle.node.specs.Decision.{Lists, listsOf}
-use Rattle.batch.specs.Walk.{batchLimit, walk}
+use Rattle.pdu.specs.Sizes.{batchLimit}
+use Rattle.batch.specs.Walk.{walk}
 use Rattle.text.specs.Text.{firstLine, refusedLine}
 use Rattle.job.specs.declared.Section.{Section}
 use Rattle.job.specs.declared.Job.{Job}

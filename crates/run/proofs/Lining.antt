@@ -24,7 +24,8 @@ use Rattle.node.proofs.Repeating.{length-repeated}
 use Rattle.batch.specs.declared.Cursor.{Cursor}
 use Rattle.batch.specs.declared.Stepped.{Stepped}
 use Rattle.batch.specs.declared.Stepped.the-variants.{TooLong, Ended, Answered}
-use Rattle.batch.specs.Walk.{batchLimit, isDone, nextCursor, stepOf, stepOutput, Walk, endingAt, before, walkFrom, walk}
+use Rattle.pdu.specs.Sizes.{batchLimit}
+use Rattle.batch.specs.Walk.{isDone, nextCursor, stepOf, stepOutput, Walk, endingAt, before, walkFrom, walk}
 use Rattle.batch.proofs.Stepping.{taken-within}
 use Rattle.batch.proofs.Walking.{walk-end, walk-more, not-taken}
 use Rattle.text.specs.Text.{pduLine, lastLine}
