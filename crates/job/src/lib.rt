@@ -247,13 +247,5 @@ pub fn values(bytes: &[u8], section: Section) -> [u16; 128]
 pub fn batch(bytes: &[u8], job: Job) -> &[u8]
     ensures { λ r. ⌜ now r ≡ batchIn (now (bytes .entry)) job ⌝ }
 {
-    let place = job.batch.place;
-    let count = job.batch.count;
-    if bytes.len() < place {
-        return &bytes[0..0];
-    }
-    if bytes.len() - place < count {
-        return &bytes[place..];
-    }
-    &bytes[place..place + count]
+    octets::part(bytes, job.batch.place, job.batch.count)
 }

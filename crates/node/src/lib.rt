@@ -277,13 +277,5 @@ fn answered(header: Header, delivery: u8, repeat: u8, length: usize) -> Answer
 pub fn delivered(received: &[u8], answer: Answer) -> &[u8]
     ensures { λ r. ⌜ now r ≡ take (answer .«delivered_length») (drop (answer .«delivered_place») (now (received .entry))) ⌝ }
 {
-    let place = answer.delivered_place;
-    let length = answer.delivered_length;
-    if received.len() < place {
-        return &received[0..0];
-    }
-    if received.len() - place < length {
-        return &received[place..];
-    }
-    &received[place..place + length]
+    octets::part(received, answer.delivered_place, answer.delivered_length)
 }

@@ -1,6 +1,7 @@
 // Bytes, the numbers in them, and parts put into an output one after another.
 ghost use mathlib.Core.Path.{_≡_};
 ghost use Prim.Native.Nat.{_/_, _%_, _<_};
+ghost use lib.ListN.{take, drop};
 ghost use Rattle.octets.specs.Octets.{at, wordAt, wordBytes, placed, placeAfter};
 
 // Byte `i`, and 0 past the end. Document 01, "Header, byte by byte": fields are asked for by byte.
@@ -40,6 +41,20 @@ pub fn low(x: u16) -> u8
     ensures { λ r. ⌜ r ≡ x % 256 ⌝ }
 {
     (x % 256) as u8
+}
+
+// The part of `bytes` that begins at `place` and has `length` bytes, as far as they go; empty where the place is past the end.
+// Document 01, "One PDU at one node", 5: what is shown is part of the bytes received.
+pub fn part(bytes: &[u8], place: usize, length: usize) -> &[u8]
+    ensures { λ r. ⌜ now r ≡ take length (drop place (now (bytes .entry))) ⌝ }
+{
+    if bytes.len() < place {
+        return &bytes[0..0];
+    }
+    if bytes.len() - place < length {
+        return &bytes[place..];
+    }
+    &bytes[place..place + length]
 }
 
 // Puts `part` into the output at `place`, and answers the place after it. Where it does not fit, nothing is written and the place stays.

@@ -2,7 +2,6 @@ pub mod Showing
 pub mod Paths
 pub mod Inversion
 pub mod Number
-pub mod Parting
 pub mod Encoding
 pub mod Within
 pub mod Back

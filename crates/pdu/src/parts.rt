@@ -38,13 +38,9 @@ pub fn path_has(bytes: &[u8], header: Header, address: u16) -> bool
 pub fn payload(bytes: &[u8], header: Header) -> &[u8]
     ensures { λ r. ⌜ now r ≡ payloadIn header (now (bytes .entry)) ⌝ }
 {
-    let start = header.header_length();
-    let end = header.pdu_length();
-    if bytes.len() < start {
-        return &bytes[0..0];
-    }
-    if bytes.len() < end {
-        return &bytes[start..];
-    }
-    &bytes[start..end]
+    octets::part(
+        bytes,
+        header.header_length(),
+        header.payload_length as usize,
+    )
 }

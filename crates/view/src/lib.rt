@@ -4,9 +4,10 @@ use pdu::Destination;
 use pdu::Header;
 use pdu::Reading;
 ghost use mathlib.Core.Path.{_≡_};
+ghost use Prim.Native.Nat.{_-_};
 ghost use Rattle.pdu.specs.Reading.{readOf};
 ghost use Rattle.pdu.specs.Parts.{pathIn, pathAddress, inPath};
-ghost use Rattle.view.specs.View.{placesOf, shownIn, headerIn, part, payloadAt, summaryAt, agree};
+ghost use Rattle.view.specs.View.{placesOf, shownIn, headerIn, payloadAt, summaryAt, agree};
 
 // What reading found: its number, the offset of the payload's first byte, and the offset of the byte after the PDU.
 // After a refusal both offsets are 0.
@@ -346,21 +347,17 @@ fn path_has_at(bytes: &[u8], places: Places, address: u16) -> bool
 fn payload_at(bytes: &[u8], places: Places) -> &[u8]
     ensures { λ r. ⌜ now r ≡ payloadAt (now (bytes .entry)) places ⌝ }
 {
-    part_of(bytes, places.payload, places.end)
+    octets::part(
+        bytes,
+        places.payload,
+        length_between(places.payload, places.end),
+    )
 }
 
 // The bytes from `start` to `end`, as far as they are there; none where `end` comes first.
-fn part_of(bytes: &[u8], start: usize, end: usize) -> &[u8]
-    ensures { λ r. ⌜ now r ≡ part (now (bytes .entry)) start end ⌝ }
+// From one place to another; 0 where the second comes first.
+fn length_between(start: usize, end: usize) -> usize
+    ensures { λ r. ⌜ r ≡ end - start ⌝ }
 {
-    if bytes.len() < start {
-        return &bytes[0..0];
-    }
-    if end < start {
-        return &bytes[0..0];
-    }
-    if bytes.len() < end {
-        return &bytes[start..];
-    }
-    &bytes[start..end]
+    if end < start { 0 } else { end - start }
 }

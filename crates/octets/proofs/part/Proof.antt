@@ -1,11 +1,10 @@
-use Prim.Native.Nat.{_-_}
+use mathlib.Core.Path.{refl}
 use denote.Ref.{now}
-use Rattle.pdu.proofs.Parting.{part-none, part-cut}
-use Rattle.view.proofs.Viewing.{part-empty}
+use Rattle.octets.proofs.Parting.{part-none, part-cut, part-whole}
 use native.Mathlib.Omega.{arith}
 use borrow.Author.Needs.{needs}
-use Rattle.view.proofs.part_of.Statement.{statement}
-use Rattle.view.proofs.part_of.Tie as tie
+use Rattle.octets.proofs.part.Statement.{statement}
+use Rattle.octets.proofs.part.Tie as tie
 
 sub-result : tie.Need-sub-result
 sub-result c = search needs
@@ -17,7 +16,10 @@ part-result-end : tie.Need-part-result-end
 part-result-end c = search needs
 
 returns : tie.Need-returns
-returns c = let a = c .before .before .args in part-none (now (a .bytes)) (a .start) (a .end - a .start) (c .before .if1 .taken)
+returns c = let a = c .before .before .args in part-none (now (a .bytes)) (a .place) (a .length) (c .before .if1 .taken)
+
+sub-if2 : tie.Need-sub-if2
+sub-if2 c = search needs
 
 sub-result-2 : tie.Need-sub-result-2
 sub-result-2 c = search needs
@@ -29,7 +31,10 @@ part-result-end-2 : tie.Need-part-result-end-2
 part-result-end-2 c = search needs
 
 returns-2 : tie.Need-returns-2
-returns-2 c = let a = c .before .before .before .args in part-empty (now (a .bytes)) (a .start) (a .end) (c .before .if2 .taken)
+returns-2 c = let a = c .before .before .before .args in part-cut (now (a .bytes)) (a .place) (a .length) (omega arith)
+
+add-result : tie.Need-add-result
+add-result c = search needs
 
 sub-result-3 : tie.Need-sub-result-3
 sub-result-3 c = search needs
@@ -41,33 +46,23 @@ part-result-end-3 : tie.Need-part-result-end-3
 part-result-end-3 c = search needs
 
 returns-3 : tie.Need-returns-3
-returns-3 c = let a = c .before .before .before .before .args in part-cut (now (a .bytes)) (a .start) (a .end - a .start) (omega arith)
+returns-3 c = let a = c .before .before .before .args in part-whole (now (a .bytes)) (a .place) (a .length) _ refl
 
-part-result-start-4 : tie.Need-part-result-start-4
-part-result-start-4 c = search needs
-
-part-result-end-4 : tie.Need-part-result-end-4
-part-result-end-4 c = search needs
-
-returns-4 : tie.Need-returns-4
-returns-4 c = search needs
-
-pub part-of-spec : {M : Type 1} → statement M
-part-of-spec =
+pub part-spec : {M : Type 1} → statement M
+part-spec =
     tie.close
     (tie.spec
     sub-result
     part-result-start
     part-result-end
     returns
+    sub-if2
     sub-result-2
     part-result-start-2
     part-result-end-2
     returns-2
+    add-result
     sub-result-3
     part-result-start-3
     part-result-end-3
-    returns-3
-    part-result-start-4
-    part-result-end-4
-    returns-4)
+    returns-3)
