@@ -14,7 +14,7 @@ use Rattle.pdu.specs.declared.Written.{Written}
 use Rattle.pdu.specs.Sizes.{pduLimit, pduLength}
 use Rattle.pdu.specs.Reading.{readOf}
 use Rattle.pdu.specs.Parts.{pathIn, payloadIn}
-use Rattle.pdu.specs.Writing.{encode, writtenOf, outputOf, writeAgain, writtenAgain}
+use Rattle.writing.specs.Writing.{encode, writtenOf, outputOf, writeAgain, writtenAgain}
 use Rattle.origin.specs.Origination.{originationNumber, originated, originatedOutput}
 use Rattle.node.specs.declared.Settings.{Settings}
 use Rattle.node.specs.Decision.{Lists, repeatFault, repeatNumber}
@@ -22,8 +22,8 @@ use Rattle.node.specs.Repeat.{repeatedHeader, repeated}
 use Rattle.node.specs.Answers.{outputAfter}
 use Rattle.origin.proofs.ReadBack.{fresh-back}
 use Rattle.origin.proofs.Deciding.{hop-refused}
-use Rattle.pdu.proofs.Same.{written-same, shown-well-formed}
-use Rattle.pdu.proofs.Back.{read-encode, path-encode, payload-encode}
+use Rattle.writing.proofs.Same.{written-same, shown-well-formed}
+use Rattle.writing.proofs.Back.{read-encode, path-encode, payload-encode}
 use Rattle.node.proofs.Heard.{repeats}
 use Rattle.node.proofs.Repeating.{ready}
 use Rattle.node.proofs.Encoded.{alone-reads, alone-path, alone-payload, repeat-short}

@@ -3,7 +3,7 @@ use mathlib.Core.Path.{refl}
 use Rattle.pdu.specs.Header.{headerOf}
 use Rattle.pdu.specs.Reading.{readOf}
 use Rattle.octets.specs.Numbers.{_gives_, _orElse_}
-use Rattle.pdu.specs.Writing.{headerBytes, pathBytes, encode}
+use Rattle.writing.specs.Writing.{headerBytes, pathBytes, encode}
 use Rattle.origin.specs.Origination.{freshHeader, fresh, originationNumber, originated}
 use Rattle.octets.specs.Octets.{over}
 use Rattle.pdu.specs.Parts.{addressesAt, inPath}

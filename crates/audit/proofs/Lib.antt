@@ -1,6 +1,7 @@
 pub mod Octets
 pub mod Pdu
 pub mod View
+pub mod Writing
 pub mod Origin
 pub mod Lists
 pub mod Node

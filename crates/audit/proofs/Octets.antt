@@ -12,6 +12,8 @@ use Rattle.octets.proofs.low.Reads as low-reads
 use Rattle.octets.proofs.low.Kinds as low-kinds
 use Rattle.octets.proofs.put.Reads as put-reads
 use Rattle.octets.proofs.put.Kinds as put-kinds
+use Rattle.octets.proofs.flag.Reads as flag-reads
+use Rattle.octets.proofs.flag.Kinds as flag-kinds
 use Rattle.octets.proofs.part.Reads as part-reads
 use Rattle.octets.proofs.part.Kinds as part-kinds
 use Rattle.octets.proofs.put_word.Reads as put-word-reads
@@ -28,6 +30,9 @@ high = (λ κs a. tt, λ κs a x y s t p q. p ∙ sym q)
 
 pub low : Promised 0 low-kinds.ps low-kinds.r low-reads.Asked low-reads.Post (λ κs x. x)
 low = (λ κs a. tt, λ κs a x y s t p q. p ∙ sym q)
+
+pub flag : Promised 0 flag-kinds.ps flag-kinds.r flag-reads.Asked flag-reads.Post (λ κs x. x)
+flag = (λ κs a. tt, λ κs a x y s t p q. p .0 ∙ sym (q .0))
 
 pub part : Promised 1 part-kinds.ps part-kinds.r part-reads.Asked part-reads.Post (λ κs x. now x)
 part = (λ κs a. tt, λ κs a x y s t p q. p ∙ sym q)

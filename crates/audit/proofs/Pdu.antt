@@ -1,7 +1,7 @@
 -- Every public function of `pdu`: its promise asks nothing of the caller and determines what the caller sees.
 use mathlib.Core.Path.{sym, _∙_}
 use denote.Ref.{now}
-use Rattle.audit.specs.Promise.{Promised, PromisedWithOutput}
+use Rattle.audit.specs.Promise.{Promised}
 use Rattle.pdu.proofs.Header.limits.Reads as header-limits-reads
 use Rattle.pdu.proofs.Header.limits.Kinds as header-limits-kinds
 use Rattle.pdu.proofs.Header.path_entries.Reads as header-path-entries-reads
@@ -28,10 +28,8 @@ use Rattle.pdu.proofs.parts.path_has.Reads as parts-path-has-reads
 use Rattle.pdu.proofs.parts.path_has.Kinds as parts-path-has-kinds
 use Rattle.pdu.proofs.parts.payload.Reads as parts-payload-reads
 use Rattle.pdu.proofs.parts.payload.Kinds as parts-payload-kinds
-use Rattle.pdu.proofs.writing.write_again.Reads as writing-write-again-reads
-use Rattle.pdu.proofs.writing.write_again.Kinds as writing-write-again-kinds
-use Rattle.pdu.proofs.writing.put_header.Reads as writing-put-header-reads
-use Rattle.pdu.proofs.writing.put_header.Kinds as writing-put-header-kinds
+use Rattle.pdu.proofs.destination_flag.Reads as destination-flag-reads
+use Rattle.pdu.proofs.destination_flag.Kinds as destination-flag-kinds
 
 pub header-limits : Promised 0 header-limits-kinds.ps header-limits-kinds.r header-limits-reads.Asked header-limits-reads.Post (λ κs x. x)
 header-limits = (λ κs a. tt, λ κs a x y s t p q. p ∙ sym q)
@@ -72,8 +70,5 @@ parts-path-has = (λ κs a. tt, λ κs a x y s t p q. p ∙ sym q)
 pub parts-payload : Promised 1 parts-payload-kinds.ps parts-payload-kinds.r parts-payload-reads.Asked parts-payload-reads.Post (λ κs x. now x)
 parts-payload = (λ κs a. tt, λ κs a x y s t p q. p ∙ sym q)
 
-pub writing-write-again : PromisedWithOutput 2 writing-write-again-kinds.ps writing-write-again-kinds.r writing-write-again-reads.Asked writing-write-again-reads.Post (λ κs s. now (s .1 .0))
-writing-write-again = (λ κs a. tt, λ κs a x y s t p q. (p .0 ∙ sym (q .0), p .1 ∙ sym (q .1)))
-
-pub writing-put-header : PromisedWithOutput 1 writing-put-header-kinds.ps writing-put-header-kinds.r writing-put-header-reads.Asked writing-put-header-reads.Post (λ κs s. now (s .0))
-writing-put-header = (λ κs a. tt, λ κs a x y s t p q. (p .0 ∙ sym (q .0), p .1 ∙ sym (q .1)))
+pub destination-flag : Promised 0 destination-flag-kinds.ps destination-flag-kinds.r destination-flag-reads.Asked destination-flag-reads.Post (λ κs x. x)
+destination-flag = (λ κs a. tt, λ κs a x y s t p q. p .0 ∙ sym (q .0))

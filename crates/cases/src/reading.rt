@@ -72,7 +72,7 @@ fn writes(
     length: usize,
     after: &[u8],
 ) -> Tally {
-    let written = pdu::writing::write_again(bytes, output);
+    let written = writing::write_again(bytes, output);
     let right = written.number == number && written.length == length && check::same(output, after);
     tally.two(name, written.number as u64, written.length as u64, right)
 }

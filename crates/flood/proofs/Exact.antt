@@ -15,7 +15,7 @@ use Rattle.pdu.specs.declared.Destination.{Destination}
 use Rattle.pdu.specs.declared.Destination.the-variants.{Everyone}
 use Rattle.pdu.specs.Header.{headerOf}
 use Rattle.pdu.specs.Sizes.{pathLimit, pduLimit, pathStart}
-use Rattle.pdu.proofs.Encoding.{start-small}
+use Rattle.writing.proofs.Encoding.{start-small}
 use Rattle.pdu.proofs.Paths.{length-addresses}
 use Rattle.bound.specs.Bound.{bound, bytesBound, terms}
 use Rattle.bound.proofs.Series.{terms-le, terms-below}

@@ -12,7 +12,7 @@ use Rattle.pdu.specs.declared.Destination.the-variants.{Everyone}
 use Rattle.pdu.specs.Header.{headerOf}
 use Rattle.pdu.specs.Reading.{readOf}
 use Rattle.pdu.specs.Parts.{addressesAt, inPath}
-use Rattle.pdu.specs.Writing.{headerBytes, pathBytes, encode}
+use Rattle.writing.specs.Writing.{headerBytes, pathBytes, encode}
 use Rattle.lists.specs.Lists.{lowAboveHigh, faultOf, firstFault}
 use Rattle.bound.specs.Bound.{product, series, terms, bound, bytesBound}
 use Rattle.origin.specs.declared.Settings.{Settings}

@@ -17,9 +17,9 @@ use Rattle.pdu.specs.Header.{headerOf}
 use Rattle.pdu.specs.Sizes.{pduLength}
 use Rattle.pdu.specs.Reading.{readOf}
 use Rattle.pdu.specs.Parts.{pathIn}
-use Rattle.pdu.proofs.Back.{length-encode}
+use Rattle.writing.proofs.Back.{length-encode}
 use Rattle.pdu.proofs.Inversion.{shown}
-use Rattle.pdu.proofs.Within.{Bytes}
+use Rattle.octets.proofs.Words.{Bytes}
 use Rattle.node.specs.Decision.{repeatNumber}
 use Rattle.node.specs.Repeat.{lowered, repeated, repeatedLength, repeatedHeader}
 use Rattle.node.specs.Answers.{answerOf, outputAfter}

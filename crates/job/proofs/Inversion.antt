@@ -9,7 +9,7 @@ use lib.ListN.{length}
 use borrow.Author.Tests.{ltb-false}
 use Rattle.octets.specs.Octets.{at, wordAt}
 use Rattle.octets.proofs.Numbering.{orElse-later}
-use Rattle.pdu.proofs.Within.{Bytes}
+use Rattle.octets.proofs.Words.{Bytes}
 use Rattle.lists.specs.Lists.{four, firstFault}
 use Rattle.job.specs.declared.Section.{Section}
 use Rattle.job.specs.declared.Taken.{Taken}

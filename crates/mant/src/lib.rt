@@ -4,7 +4,7 @@ mod values;
 ghost use mathlib.Core.Path.{_≡_};
 ghost use lib.ListN.{length};
 ghost use Rattle.pdu.specs.Reading.{readOf};
-ghost use Rattle.pdu.specs.Writing.{writeAgain, writtenAgain};
+ghost use Rattle.writing.specs.Writing.{writeAgain, writtenAgain};
 ghost use Rattle.origin.specs.Origination.{originated, originatedOutput};
 ghost use Rattle.lists.specs.Lists.{four, firstFault, holds};
 ghost use Rattle.node.specs.Decision.{listsOf};
@@ -167,7 +167,7 @@ pub extern "C" fn mant_path_has(bytes: &[u8], address: u16) -> bool
 pub extern "C" fn mant_write_again(bytes: &[u8], output: &mut [u8]) -> MantWritten
     ensures { λ r. ⌜ (r ≡ writtenInC (writeAgain (now (bytes .entry)) (length (now (output .entry))))) × (now (output .exit) ≡ writtenAgain (now (bytes .entry)) (now (output .entry))) ⌝ }
 {
-    values::written_in_c(pdu::writing::write_again(bytes, output))
+    values::written_in_c(writing::write_again(bytes, output))
 }
 
 // Writes a fresh PDU at the start of the output and answers 0 and its length, or 10 to 14 with length 0 and the output as it was. The PDU ID

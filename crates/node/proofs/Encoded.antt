@@ -16,12 +16,12 @@ use Rattle.pdu.specs.Header.{hopLimit, pathCountPlace, pathCountIn, headerOf}
 use Rattle.pdu.specs.Sizes.{pathLimit, pduLimit, pathStart, headerLength, pduLength}
 use Rattle.pdu.specs.Reading.{readOf}
 use Rattle.pdu.specs.Parts.{pathIn, payloadIn}
-use Rattle.pdu.specs.Writing.{fixedPart, destinationBytes, onlyIf, headerBytes, pathBytes, encode, WellFormed}
+use Rattle.writing.specs.Writing.{fixedPart, destinationBytes, onlyIf, headerBytes, pathBytes, encode, WellFormed}
 use Rattle.pdu.proofs.Inversion.{Shown, shown}
-use Rattle.pdu.proofs.Encoding.{length-onlyIf, length-header, length-pathIn}
-use Rattle.pdu.proofs.Within.{Bytes}
-use Rattle.pdu.proofs.Back.{read-encode, path-encode, payload-encode}
-use Rattle.pdu.proofs.Same.{written-same, shown-well-formed}
+use Rattle.writing.proofs.Encoding.{length-onlyIf, length-header, length-pathIn}
+use Rattle.octets.proofs.Words.{Bytes}
+use Rattle.writing.proofs.Back.{read-encode, path-encode, payload-encode}
+use Rattle.writing.proofs.Same.{written-same, shown-well-formed}
 use Rattle.node.specs.Repeat.{lowered, loweredByte, loweredHeader, repeated, repeatedLength, repeatedHeader}
 use Rattle.node.proofs.Repeating.{Ready, count-byte, count-place, length-repeated, ready-count, ready-small}
 

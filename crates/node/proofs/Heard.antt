@@ -17,7 +17,7 @@ use Rattle.pdu.specs.Sizes.{headerLength}
 use Rattle.pdu.specs.Reading.{readOf, readingNumber}
 use Rattle.pdu.specs.Parts.{pathIn, inPath, payloadIn}
 use Rattle.pdu.proofs.Inversion.{shown}
-use Rattle.pdu.proofs.Within.{Bytes}
+use Rattle.octets.proofs.Words.{Bytes}
 use Rattle.lists.specs.Lists.{four, firstFault}
 use Rattle.node.specs.declared.Settings.{Settings}
 use Rattle.node.specs.Decision.{Lists, isEcho, passFault, repeatFault, listOrReadingFault, givenTwice, deliveryNumber, repeatNumber, delivered}

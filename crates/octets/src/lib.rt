@@ -1,7 +1,8 @@
 // Bytes, the numbers in them, and parts put into an output one after another.
 ghost use mathlib.Core.Path.{_≡_};
-ghost use Prim.Native.Nat.{_/_, _%_, _<_};
+ghost use Prim.Native.Nat.{_/_, _%_, _<_, _≤_};
 ghost use lib.ListN.{take, drop};
+ghost use Rattle.octets.specs.Numbers.{flag};
 ghost use Rattle.octets.specs.Octets.{at, wordAt, wordBytes, placed, placeAfter};
 
 // Byte `i`, and 0 past the end. Document 01, "Header, byte by byte": fields are asked for by byte.
@@ -27,6 +28,13 @@ fn wide(x: u8) -> u16
     ensures { λ r. ⌜ (r ≡ x) × (r < 256) ⌝ }
 {
     x as u16
+}
+
+// 1 for a bit that is set and 0 for one that is not. Document 01, "Header, byte by byte", the fields of one bit.
+pub fn flag(bit: bool) -> u8
+    ensures { λ r. ⌜ (r ≡ flag bit) × (r ≤ 1) ⌝ }
+{
+    if bit { 1 } else { 0 }
 }
 
 // The more significant byte of a number. Any number has one. Document 01, "Header, byte by byte", the order of bytes.

@@ -11,9 +11,9 @@ use Rattle.octets.proofs.Placing.{more}
 use Rattle.pdu.specs.declared.Header.{Header}
 use Rattle.pdu.specs.declared.Written.{Written}
 use Rattle.pdu.specs.Sizes.{pathStart, pduLength}
-use Rattle.pdu.specs.Writing.{pathBytes, encode, withinBits, headerPart}
-use Rattle.pdu.proofs.Encoding.{header-begins, length-header}
-use Rattle.pdu.proofs.Within.{all-within}
+use Rattle.writing.specs.Writing.{pathBytes, encode, withinBits, headerPart}
+use Rattle.writing.proofs.Encoding.{header-begins, length-header}
+use Rattle.writing.proofs.Within.{all-within}
 use Rattle.origin.specs.declared.Settings.{Settings}
 use Rattle.origin.specs.Origination.{freshHeader, fresh, originated, originatedOutput}
 use Rattle.origin.proofs.Deciding.{enough, settingsNumber, Accepted, accepted, not-refused, done}

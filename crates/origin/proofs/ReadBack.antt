@@ -12,8 +12,8 @@ use Rattle.pdu.specs.declared.Reading.the-variants.{Pdu}
 use Rattle.pdu.specs.Sizes.{pduLength}
 use Rattle.pdu.specs.Reading.{readOf}
 use Rattle.pdu.specs.Parts.{pathIn, payloadIn}
-use Rattle.pdu.specs.Writing.{WellFormed}
-use Rattle.pdu.proofs.Back.{length-encode, read-encode, path-encode, payload-encode}
+use Rattle.writing.specs.Writing.{WellFormed}
+use Rattle.writing.proofs.Back.{length-encode, read-encode, path-encode, payload-encode}
 use Rattle.origin.specs.declared.Settings.{Settings}
 use Rattle.origin.specs.Origination.{freshHeader, fresh, originationNumber, originatedOutput}
 use Rattle.origin.proofs.Deciding.{Accepted, accepted}

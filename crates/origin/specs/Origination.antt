@@ -9,7 +9,7 @@ use Rattle.octets.specs.Octets.{over}
 use Rattle.pdu.specs.declared.Header.{Header}
 use Rattle.pdu.specs.declared.Written.{Written}
 use Rattle.pdu.specs.Sizes.{payloadLimit, destinationFlag, pduLength}
-use Rattle.pdu.specs.Writing.{encode}
+use Rattle.writing.specs.Writing.{encode}
 use Rattle.origin.specs.declared.Settings.{Settings}
 
 -- the header of a PDU just originated: version 0; encrypted, reserved, ACK and added header 0; the rest as set; with the path bit, the count byte is 0;

@@ -38,7 +38,7 @@ pub fn originate(settings: Settings, payload: &[u8], output: &mut [u8]) -> Writt
     if output.len() < length {
         return refused(14);
     }
-    let place = pdu::writing::put_header(output, header);
+    let place = writing::put_header(output, header);
     octets::put(output, place, payload);
     Written { number: 0, length }
 }

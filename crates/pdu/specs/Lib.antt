@@ -2,4 +2,3 @@ pub mod Header
 pub mod Sizes
 pub mod Reading
 pub mod Parts
-pub mod Writing

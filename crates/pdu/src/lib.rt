@@ -1,12 +1,10 @@
-// A PDU: its header and its limits, reading it, its parts, and writing it again.
+// A PDU: its header and its limits, reading it, and its parts.
 pub mod parts;
-pub mod writing;
 
 ghost use mathlib.Core.Path.{_≡_};
 ghost use Prim.Native.Nat.{_+_, _*_, _<_, _≤_};
 ghost use mathlib.Core.Bool.{not, _&&_};
 ghost use lib.Dec.{eqb};
-ghost use Rattle.octets.specs.Numbers.{flag};
 ghost use Rattle.pdu.specs.Header.{isSet, protocol, pathBit, destinationBit, payloadLength, pduIdPlace, pathCountPlace, destinationIn, pduIdIn, pathCountIn, headerOf};
 ghost use Rattle.pdu.specs.Sizes.{limits, pathLimit, headerLimit, destinationFlag, pathEntries, pathStart, headerLength, pduLength};
 ghost use Rattle.pdu.specs.Reading.{readOf, refusalNumber, readingNumber};
@@ -109,8 +107,8 @@ impl Header {
         let destination = self.destination;
         Header::FIXED_LENGTH
             + 2 * size(destination_flag(destination))
-            + size(flag_of(self.protocol == 1))
-            + size(flag_of(self.path_bit))
+            + size(octets::flag(self.protocol == 1))
+            + size(octets::flag(self.path_bit))
     }
 
     // The header's length in bytes, its path included. Document 01, "Sizes": 520 at most.
@@ -140,13 +138,8 @@ fn wide(x: u16) -> usize
     x as usize
 }
 
-fn flag_of(bit: bool) -> u8
-    ensures { λ r. ⌜ (r ≡ flag bit) × (r ≤ 1) ⌝ }
-{
-    if bit { 1 } else { 0 }
-}
-
-fn destination_flag(destination: Destination) -> u8
+// 1 where a destination is present and 0 for a PDU that is for everyone. Document 01, "Header, byte by byte": byte 0, bit 0.
+pub fn destination_flag(destination: Destination) -> u8
     ensures { λ r. ⌜ (r ≡ destinationFlag destination) × (r ≤ 1) ⌝ }
 {
     match destination {
@@ -305,7 +298,7 @@ fn pdu_id_place(byte0: u8) -> usize
 fn path_count_place(byte0: u8) -> usize
     ensures { λ r. ⌜ (r ≡ pathCountPlace byte0) × (r ≤ 9) ⌝ }
 {
-    pdu_id_place(byte0) + size(flag_of(byte0 / 8 % 8 == 1))
+    pdu_id_place(byte0) + size(octets::flag(byte0 / 8 % 8 == 1))
 }
 
 // The header's length by its bytes: up to the path count, the count's own byte if the path bit is set, and 2 bytes for each address.

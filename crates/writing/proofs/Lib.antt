@@ -1,0 +1,4 @@
+pub mod Encoding
+pub mod Within
+pub mod Back
+pub mod Same
