@@ -85,7 +85,7 @@ pub record WellFormed (header : Header) (path payload : List ℕ) : Type 0 where
   pub port : header .port < 16
   pub reserved : header .reserved < 4
   pub hop : header .«hop_limit» < 8
-  pub payload-short : header .«payload_length» < 4096
+  pub payload-short : header .«payload_length» ≤ payloadLimit
   pub payload-long : length payload ≡ header .«payload_length»
   pub no-id : header .protocol ≡ 0 → header .«pdu_id» ≡ 0
   pub no-count : header .«path_bit» ≡ false → header .«path_count» ≡ 0

@@ -16,9 +16,9 @@ ghost use Rattle.pdu.specs.Reading.{readOf};
 ghost use Rattle.pdu.specs.Parts.{pathIn};
 ghost use Rattle.writing.specs.Writing.{fixedPart, destinationBytes, onlyIf, pathBytes, withinBits, headerPart, writtenOf, outputOf, writeAgain, writtenAgain};
 
-// Writes the PDU at the start of `bytes` again, from what reading shows of it, at the start of the output. Answers 1 to 6 where there is no PDU
-// and 14 where the output is too short, both with length 0 and the output as it was. Output past the PDU keeps its bytes.
-// Document 01, "Numbers answered", a PDU written again.
+// Writes the PDU at the start of `bytes` again, from what reading shows of it, at the start of the output: the same bytes, answered with 0 and their
+// number. Answers 1 to 6 where there is no PDU and 14 where the output is too short, both with length 0 and the output as it was. Output past the
+// PDU keeps its bytes. Document 01, "Numbers answered", a PDU written again.
 pub fn write_again(bytes: &[u8], output: &mut [u8]) -> Written
     ensures { λ r. ⌜ (r ≡ writeAgain (now (bytes .entry)) (length (now (output .entry)))) × (now (output .exit) ≡ writtenAgain (now (bytes .entry)) (now (output .entry))) ⌝ }
 {
@@ -50,7 +50,8 @@ fn write_shown(bytes: &[u8], header: Header, output: &mut [u8]) -> Written
 }
 
 // Puts a header, up to its path's addresses, at the start of the output and answers the place after it. Where a field is too wide for its bits or
-// the output is too short, nothing is written and the place is 0. Document 01, "Header, byte by byte".
+// the output is too short, nothing is written and the place is 0. Output past the header keeps its bytes. Whether reading takes such a header is not
+// asked: protocols 2 to 7 are put as they are. Document 01, "Header, byte by byte".
 pub fn put_header(output: &mut [u8], header: Header) -> usize
     ensures { λ r. ⌜ (r ≡ placeAfter (now (output .entry)) 0 (headerPart header)) × (now (output .exit) ≡ placed (now (output .entry)) 0 (headerPart header)) ⌝ }
 {
