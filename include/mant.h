@@ -285,18 +285,21 @@ uint8_t mant_list_fault(const uint16_t *source_pass, size_t source_pass_length, 
 bool mant_list_holds(const uint16_t *list, size_t list_length, uint16_t address);
 
 /* What a node answers for the PDU at the start of the received bytes: a number for delivery and one for repeating. Faults of the lists (20 to 22),
-   of reading (1 to 6), 30 to 34 and 40 are given as both. The lists are checked even where they are off. The delivered payload is
-   received[delivered_place] and the delivered_length - 1 bytes after it. The repeated PDU is written to the output where the repeat number is 0;
-   with any other the output is left alone. */
+   of reading (1 to 6), 30 to 34 and 40 are given as both, and nothing is delivered then. The lists are checked even where they are off. The
+   delivered payload is the delivered_length bytes from received + delivered_place on. With length 0 there are none, and that place may be the end of
+   the received bytes. The repeated PDU is written to the output where the repeat number is 0; with any other the output is left alone. */
 MantAnswer mant_hear(MantNode settings, const uint16_t *source_pass, size_t source_pass_length, const uint16_t *source_reject,
                      size_t source_reject_length, const uint16_t *destination_pass, size_t destination_pass_length,
                      const uint16_t *destination_reject, size_t destination_reject_length, const uint8_t *received, size_t received_length,
                      uint8_t *output, size_t output_length);
 
 /* One step of the walk over PDUs that lie back to back: what mant_hear answers for the PDU at the cursor, whose first byte is
-   batch[cursor.place], and the cursor of the next. After a list fault or a PDU that can't be read the next cursor has ended. Any cursor may be given;
-   one past the end, or one that has ended, gets MANT_ENDED. A batch over the size limit gets MANT_REFUSED at every cursor, so go on only while
-   the kind is MANT_ANSWERED. The output is changed as by mant_hear, and left alone with kinds 1 and 2.
+   batch[cursor.place], and the cursor of the next. After a list fault or a PDU that can't be read the next cursor has ended, at the same place. Any
+   cursor may be given; one past the end, or one that has ended, gets MANT_ENDED. A batch over the size limit gets MANT_REFUSED at every cursor, so
+   go on only while the kind is MANT_ANSWERED. The output is changed as by mant_hear, and left alone with kinds 1 and 2.
+
+   In the loop below, the PDU that was answered began at s.next.place - s.answer.taken, also where taken is 0. The places in the answer count from
+   there: a delivered payload begins at batch + (s.next.place - s.answer.taken) + s.answer.delivered_place.
 
        for (MantStep s = mant_step(.., (MantCursor){0, false}, ..); s.kind == MANT_ANSWERED; s = mant_step(.., s.next, ..)) { .. } */
 MantStep mant_step(MantNode settings, const uint16_t *source_pass, size_t source_pass_length, const uint16_t *source_reject,
@@ -308,7 +311,7 @@ MantStep mant_step(MantNode settings, const uint16_t *source_pass, size_t source
    each node, and no two have the same address. */
 MantBound mant_most_transmissions(uint64_t nodes, uint64_t hop_limit);
 
-/* The most bytes that those transmissions have together, where the fresh PDU has this length. */
+/* The most bytes that those transmissions have together, where the fresh PDU has this length. Any length is answered, also one that no PDU has. */
 MantBound mant_most_bytes(uint64_t nodes, uint64_t hop_limit, uint64_t length);
 
 /* The sizes above, as the library has them. */

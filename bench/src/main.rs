@@ -1,4 +1,4 @@
-//! Measures the library beside the reference, a plain C version and memcpy,
+//! Measures the library beside the Rust reading, a plain C version and memcpy,
 //! and prints a Markdown table of ns for one run.
 
 mod inputs;
@@ -62,12 +62,12 @@ fn main() {
             hearing_by_lists(&example, ranges),
         );
     }
-    println!("\nmemcpy copies the PDU that is read, written or repeated, or every PDU of the batch, one by one. Ratios are of the best rounds.");
+    println!("\nThe Rust reading is rust/reference. memcpy copies the PDU that is read, written or repeated, or every PDU of the batch, one by one. Ratios are of the best rounds.");
 }
 
 /// The first two lines of a table.
 fn heading() {
-    println!("| case | library | reference | plain C | memcpy | library : plain C | library : reference |");
+    println!("| case | library | Rust reading | plain C | memcpy | library : plain C | library : Rust |");
     println!("|---|---:|---:|---:|---:|---:|---:|");
 }
 

@@ -13,8 +13,8 @@ pub struct Cursor {
     pub ended: bool,
 }
 
-// What one step of a walk finds: a PDU's answer and the next cursor; no more PDU; or a batch over the size limit, answered 54 alone. The places in
-// the answer count from the PDU's first byte, which is at the cursor's place.
+// What one step of a walk finds: a PDU's answer and the next cursor; no more PDU; or a batch of more than `BATCH_LIMIT` bytes, whose number is 54 at
+// every cursor. The places in the answer count from the PDU's first byte, which is at the cursor's place.
 pub enum Stepped {
     Answered(Answer, Cursor),
     Ended,
@@ -41,8 +41,9 @@ impl Cursor {
     }
 }
 
-// One step of the walk: the node's answer for the PDU at the cursor, and the cursor of the next. Any cursor gets an answer; one past the batch's
-// end, or of a walk that ended, gets `Ended`, unless the batch is over the size limit: that gets `TooLong` at every cursor. The output is changed as the node changes it, and not at all where no PDU is answered.
+// One step of the walk: the node's answer for the PDU at the cursor, and the cursor of the next. With a number 1 to 6 or a fault of the lists that
+// cursor has ended, at the same place. Any cursor gets an answer; one past the batch's end, or of a walk that ended, gets `Ended`, unless the batch
+// is over the size limit: that gets `TooLong` at every cursor. The output is changed as the node changes it, and not at all where no PDU is answered.
 // Document 01, "A batch".
 pub fn step<'a>(
     settings: Settings,
@@ -82,8 +83,8 @@ pub fn step<'a>(
     Stepped::Answered(answer, next)
 }
 
-// The two numbers that go with a step: the answer's; 54 twice for a batch that is too long; 0 twice where no PDU is answered.
-// Document 01, "A batch", and "Numbers answered", 54.
+// The two numbers that go with a step: the answer's; 54 twice for a batch that is too long; 0 twice for a walk that ended. There 0 does not mean
+// done, so ask first which case it is. Document 01, "A batch", and "Numbers answered", 54.
 pub fn numbers_of(stepped: Stepped) -> Numbers
     ensures { λ r. ⌜ r ≡ numbersOf stepped ⌝ }
 {

@@ -13,17 +13,19 @@ pub enum Bound {
 
 const TOP: u64 = 18446744073709551615;
 
-// The most transmissions that one fresh message with that hop limit can cause among so many
-// repeating nodes, its own counted: 1 + N + N (N - 1) + ..
-// A hop limit above 7 is refused. Any numbers are answered within 21 turns of a loop. Document 01, "Checked by hand", the bound of demand 3.
+// The most transmissions that one fresh message with that hop limit can cause among so many repeating nodes, its own counted: 1 + N + N (N - 1) + ..
+// That holds where the message was originated with a path, echo is on at every node, and no two nodes have the same address. Any numbers are
+// answered, within 21 turns of a loop: `HopRefused` for a hop limit above 7, else `TooLarge` where 64 bits do not hold the number.
+// Document 01, "Checked by hand", the bound of demand 3.
 pub fn most_transmissions(nodes: u64, hop_limit: u64) -> Bound
     ensures { λ r. ⌜ r ≡ answer «hop_limit» (bound nodes «hop_limit») ⌝ }
 {
     at_hop_limit(nodes, hop_limit, 1, 0)
 }
 
-// The most bytes that those transmissions have together, if the fresh message has `length` bytes:
-// each entry of a path adds 2. Answered and refused as by most_transmissions. Document 01, "One PDU at one node", by how much a PDU grows.
+// The most bytes that those transmissions have together, if the fresh message has `length` bytes: each entry of a path adds 2. That holds where
+// `most_transmissions` does. Any length is answered, also one that no PDU has; `HopRefused` for a hop limit above 7, else `TooLarge` where 64 bits do
+// not hold the bytes, which may be so where they hold the transmissions. Document 01, "One PDU at one node", by how much a PDU grows.
 pub fn most_bytes(nodes: u64, hop_limit: u64, length: u64) -> Bound
     ensures { λ r. ⌜ r ≡ answer «hop_limit» (bytesBound nodes «hop_limit» length) ⌝ }
 {

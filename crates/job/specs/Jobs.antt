@@ -1,5 +1,5 @@
--- Document 01, "The program relay": one job, read left to right. The first fault met gives the answer: 50, 51, 52, 54, or 20 when a range has been
--- read; 53 last.
+-- Document 01, "The program `relay`": one job, from its first byte to its last. It is refused with the number of its first fault: 50, 51, 52, 54, or
+-- 20 for a range that is there whole; 53 comes after all of these.
 use Prim.Native.Nat.{ℕ, zero, suc, _+_, _*_, _/_, _%_}
 use mathlib.Core.Bool.{cond}
 use mathlib.Core.List.{List, _++_}

@@ -93,7 +93,8 @@ pub fn list_at(bytes: &[u8], place: usize) -> Taken
 }
 
 // The batch section at a place: its length in 2 bytes, then that many bytes.
-// 50 where the length is cut short, 54 for a length above 16,384, then 50 where the batch itself is cut short. What follows it is not looked at.
+// 50 where the length is cut short, 54 for a length above 16,384, then 50 where the batch itself is cut short. A place past the end is 50 too, and a
+// length of 0 is an empty batch. What follows the batch is not looked at.
 // Document 01, "The program `relay`", the batch after its length.
 pub fn batch_at(bytes: &[u8], place: usize) -> Taken
     ensures { λ r. ⌜ r ≡ batchAt (now (bytes .entry)) place ⌝ }

@@ -211,8 +211,9 @@ pub extern "C" fn mant_list_holds(list: &[u16], address: u16) -> bool
     lists::holds(list, address)
 }
 
-// What a node answers for the PDU at the start of the received bytes. The repeated PDU is written at the start of the output where the repeat
-// number is 0, and the output keeps its bytes past it; with any other repeat number the output is left as it was. Document 01, "One PDU at one node".
+// What a node answers for the PDU at the start of the received bytes. Faults of the lists (20 to 22) and of reading (1 to 6), 30 to 34 and 40 are
+// answered as both numbers, and nothing is delivered then. The repeated PDU is written at the start of the output where the repeat number is 0, and
+// the output keeps its bytes past it; with any other repeat number the output is left as it was. Document 01, "One PDU at one node".
 #[no_mangle]
 pub extern "C" fn mant_hear<'a>(
     settings: MantNode,
@@ -236,8 +237,9 @@ pub extern "C" fn mant_hear<'a>(
     ))
 }
 
-// One step of the walk over a batch: the node's answer for the PDU at the cursor, and the cursor of the next. Any cursor gets an answer; one
-// past the batch's end, or of a walk that ended, gets kind 1, unless the batch is too long: that gets kind 2 at every cursor. The output is changed as by `mant_hear`, and not at all with kinds 1 and 2.
+// One step of the walk over a batch: the node's answer for the PDU at the cursor, and the cursor of the next. With a number 1 to 6 or a fault of the
+// lists that cursor has ended, at the same place. Any cursor gets an answer; one past the batch's end, or of a walk that ended, gets kind 1, unless
+// the batch is too long: that gets kind 2 at every cursor. The output is changed as by `mant_hear`, and not at all with kinds 1 and 2.
 // Document 01, "A batch".
 #[no_mangle]
 pub extern "C" fn mant_step<'a>(
@@ -265,8 +267,9 @@ pub extern "C" fn mant_step<'a>(
     values::step_in_c(cursor, stepped)
 }
 
-// The most transmissions that one fresh message with that hop limit can cause among so many repeating nodes, its own counted. Number 10 for a
-// hop limit above 7. Document 01, "Checked by hand", the bound of demand 3.
+// The most transmissions that one fresh message with that hop limit can cause among so many repeating nodes, its own counted. That holds where
+// the message was originated with a path, echo is on at every node, and no two nodes have the same address. Any numbers are answered: number 10 for a
+// hop limit above 7, else `too_large` where 64 bits do not hold the value. Document 01, "Checked by hand", the bound of demand 3.
 #[no_mangle]
 pub extern "C" fn mant_most_transmissions(nodes: u64, hop_limit: u64) -> MantBound
     ensures { λ r. ⌜ r ≡ boundInC (answer «hop_limit» (bound nodes «hop_limit»)) ⌝ }
@@ -274,7 +277,8 @@ pub extern "C" fn mant_most_transmissions(nodes: u64, hop_limit: u64) -> MantBou
     values::bound_in_c(bound::most_transmissions(nodes, hop_limit))
 }
 
-// The most bytes that those transmissions have together, if the fresh message has `length` bytes. Number 10 for a hop limit above 7.
+// The most bytes that those transmissions have together, if the fresh message has `length` bytes. That holds where `mant_most_transmissions` does.
+// Any length is answered, also one that no PDU has: number 10 for a hop limit above 7, else `too_large` where 64 bits do not hold the value.
 // Document 01, "One PDU at one node", by how much a PDU grows.
 #[no_mangle]
 pub extern "C" fn mant_most_bytes(nodes: u64, hop_limit: u64, length: u64) -> MantBound
@@ -283,7 +287,7 @@ pub extern "C" fn mant_most_bytes(nodes: u64, hop_limit: u64, length: u64) -> Ma
     values::bound_in_c(bound::most_bytes(nodes, hop_limit, length))
 }
 
-// Document 01's sizes.
+// The sizes that the layer keeps to. Document 01, "Sizes", and for the list's values "Numbers answered", 22.
 #[no_mangle]
 pub extern "C" fn mant_limits() -> MantLimits
     ensures { λ r. ⌜ r ≡ limitsInC ⌝ }

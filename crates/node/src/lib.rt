@@ -177,8 +177,9 @@ fn path_is_full(header: Header) -> bool
 }
 
 // What the node answers for the PDU at the start of `received`: document 01's order, lists first, then reading, echo, the lists' tests, delivery and
-// repeating. Any settings, lists, bytes and output get an answer. The output changes only where the repeat number is 0, and then only the bytes of
-// the repeated PDU at its start. Document 01, "One PDU at one node", 1 to 6, and its last paragraph for the bytes of the repeat.
+// repeating. Faults of the lists (20 to 22) and of reading (1 to 6), 30 to 34 and 40 are answered as both numbers, and nothing is delivered then. Any
+// settings, lists, bytes and output get an answer. The output changes only where the repeat number is 0, and then only the bytes of the repeated PDU
+// at its start. Document 01, "One PDU at one node", 1 to 6, and its last paragraph for the bytes of the repeat.
 pub fn hear<'a>(
     settings: Settings,
     source_pass: &'a [u16],
@@ -272,8 +273,8 @@ fn answered(header: Header, delivery: u8, repeat: u8, length: usize) -> Answer
     }
 }
 
-// The delivered payload, as that part of the received bytes that the answer names; empty where nothing is delivered. Of an answer that is not this
-// node's for these bytes, what the bytes hold at that place, as far as they go. Document 01, "One PDU at one node", 5.
+// The payload that an answer names by place and length, in the caller's own bytes; empty where nothing is delivered. Of an answer that is not for
+// these bytes, what they hold at that place, as far as they go. Document 01, "One PDU at one node", 5.
 pub fn delivered(received: &[u8], answer: Answer) -> &[u8]
     ensures { λ r. ⌜ now r ≡ take (answer .«delivered_length») (drop (answer .«delivered_place») (now (received .entry))) ⌝ }
 {

@@ -1,11 +1,11 @@
-// Bytes, the numbers in them, and parts put into an output one after another.
+// Bytes, the numbers in them, a part of them shown, and parts put into an output one after another.
 ghost use mathlib.Core.Path.{_≡_};
 ghost use Prim.Native.Nat.{_/_, _%_, _<_, _≤_};
 ghost use lib.ListN.{take, drop};
 ghost use Rattle.octets.specs.Numbers.{flag};
 ghost use Rattle.octets.specs.Octets.{at, wordAt, wordBytes, placed, placeAfter};
 
-// Byte `i`, and 0 past the end. Document 01, "Header, byte by byte": fields are asked for by byte.
+// Byte `i`, and 0 past the end. Document 01, "Header, byte by byte", the table's column Byte; the 0 is this library's own choice.
 pub fn byte(bytes: &[u8], i: usize) -> u8
     ensures { λ r. ⌜ r ≡ at (now (bytes .entry)) i ⌝ }
 {

@@ -99,7 +99,7 @@ impl Header {
         }
     }
 
-    // Where the path's addresses begin, counted from the PDU's first byte.
+    // Where the path's addresses begin, counted from the PDU's first byte; without a path, where the payload begins.
     // Any header has such a place. Document 01, "Header, byte by byte", the fields called for.
     pub fn path_start(self) -> usize
         ensures { λ r. ⌜ (r ≡ pathStart self) × (r ≤ 10) ⌝ }
@@ -111,14 +111,14 @@ impl Header {
             + size(octets::flag(self.path_bit))
     }
 
-    // The header's length in bytes, its path included. Document 01, "Sizes": 520 at most.
+    // The header's length in bytes, its path included. Document 01, "Sizes": 6 + 2 + 1 + 1 + 510 at most.
     pub fn header_length(self) -> usize
         ensures { λ r. ⌜ (r ≡ headerLength self) × (r ≤ headerLimit) ⌝ }
     {
         self.path_start() + 2 * self.path_entries()
     }
 
-    // The PDU's length in bytes: header and payload. Document 01, "Sizes": 4,615 at most where the payload length has its 12 bits.
+    // The PDU's length in bytes: header and payload. Document 01, "Sizes": 4,615 at most where the payload length is within its 12 bits.
     pub fn pdu_length(self) -> usize
         ensures { λ r. ⌜ (r ≡ pduLength self) × (r ≤ headerLimit + 65535) ⌝ }
     {
@@ -149,7 +149,7 @@ pub fn destination_flag(destination: Destination) -> u8
 }
 
 // The header of the PDU at the start of `bytes`, or why there is none there. Any bytes get an answer; bytes after the PDU are not looked at.
-// Document 01, "Numbers answered", 1 to 6.
+// Document 01, "Header, byte by byte", and "Numbers answered", 1 to 6.
 pub fn read(bytes: &[u8]) -> Reading
     ensures { λ r. ⌜ r ≡ readOf (now (bytes .entry)) ⌝ }
 {

@@ -16,7 +16,8 @@ use node::Settings;
 use pdu::Header;
 
 // Writes what `relay` prints for a job's bytes into the text, line after line from its start, and answers where the lines end. Any bytes get an
-// answer. A line that no longer fits is left out; a text of 262,144 bytes has room for the lines of every job. Document 01, "The program `relay`".
+// answer. A line that does not fit is left out; a shorter one after it may still be put. That a text of 262,144 bytes has room for the lines of every
+// job is reckoned in docs/DECISIONS.md, not proved. Document 01, "The program `relay`".
 pub fn relay(bytes: &[u8], text: &mut [u8]) -> usize
     ensures { λ r. ⌜ (r ≡ placeWith (now (text .entry)) 0 (runLines (now (bytes .entry)))) × (now (text .exit) ≡ textWith (now (text .entry)) 0 (runLines (now (bytes .entry)))) × (r ≤ length (now (text .entry))) ⌝ }
 {

@@ -140,8 +140,9 @@ fn has_room(output: usize, place: usize, start: usize, repeated: usize) -> bool
     repeated <= (room - 1) / 2
 }
 
-// Puts a PDU line: the PDU's number, its offset, delivery number, repeat number, and the repeated PDU in hex or `-` where it is empty.
-// Answers the place after it. Where the line does not fit, nothing is written and the place stays. Document 01, "The program `relay`", a PDU line.
+// Puts the line of one PDU and answers the place after it: which PDU it is, where it begins, what was answered for delivery and for repeating, and
+// the bytes of the repeat in hex; with no such bytes `-`. Where the line does not fit, nothing is written and the place stays.
+// Document 01, "The program `relay`", a PDU line.
 pub fn put_pdu_line(
     output: &mut [u8],
     place: usize,

@@ -1,5 +1,5 @@
--- Document 01, "Numbers answered", its last sentence: the received PDU is held as one thing that carries the caller's bytes with it, and its fields are asked of that.
--- Each definition is over bytes and places, whichever they are: a view may be put together by hand too.
+-- Document 01, "Numbers answered", its last sentence: a received PDU, "held as one thing" with the caller's bytes, that is asked for its fields. Each
+-- definition is over bytes and places, whichever they are: a view may be put together by hand too.
 use Prim.Native.Nat.{ℕ, _-_}
 use mathlib.Core.Bool.{cond}
 use mathlib.Core.List.{List, []}

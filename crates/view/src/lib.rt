@@ -17,7 +17,8 @@ pub struct Places {
     pub end: usize,
 }
 
-// A received PDU. One put together by hand, of any bytes and places, is answered for as well.
+// A received PDU. What is said below of a PDU and of a refusal holds of a view that `open` made. One put together by hand, of any bytes and places,
+// is answered for as well, by these alone: its number, size and payload by its places, its fields by its bytes where its number is 0.
 pub struct Pdu<'a> {
     pub bytes: &'a [u8],
     pub at: Places,
@@ -182,7 +183,8 @@ pub fn path_has<'a>(pdu: Pdu<'a>, address: u16) -> bool
     path_has_at(pdu.bytes, pdu.at, address)
 }
 
-// The payload, as that part of the caller's bytes. Empty where it is, and after a refusal. Document 01, "One PDU at one node", 5, what is shown.
+// The payload, as that part of the caller's bytes. Empty where the PDU has none, and after a refusal.
+// Document 01, "One PDU at one node", 5, what is shown.
 pub fn payload<'a>(pdu: Pdu<'a>) -> &'a [u8]
     ensures { λ r. ⌜ now r ≡ payloadAt (now (pdu .entry .bytes)) (pdu .entry .at) ⌝ }
 {
@@ -354,7 +356,6 @@ fn payload_at(bytes: &[u8], places: Places) -> &[u8]
     )
 }
 
-// The bytes from `start` to `end`, as far as they are there; none where `end` comes first.
 // From one place to another; 0 where the second comes first.
 fn length_between(start: usize, end: usize) -> usize
     ensures { λ r. ⌜ r ≡ end - start ⌝ }
