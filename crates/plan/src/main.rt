@@ -74,7 +74,9 @@ fn print_transmissions(nodes: u64, hop_limit: u64) {
             say_network(nodes, hop_limit);
             say(b"one report goes out at most ");
             say_count(number, b" time");
-            say(b".\n");
+            say(
+                b",\nif it was originated with a path, every node has echo suppression on and no two nodes have the same address.\n",
+            );
         }
         Bound::TooLarge => {
             say_network(nodes, hop_limit);
