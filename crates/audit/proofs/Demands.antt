@@ -1,11 +1,11 @@
 -- The three demands, each from its parts.
 use Prim.Native.Nat.{ℕ, _≤_}
-use mathlib.Core.Bool.{Bool, true, false, cond}
+use mathlib.Core.Bool.{Bool, true, false, cond, _||_}
 use mathlib.Core.List.{List, [], _∷_, _++_}
 use mathlib.Core.Path.{_≡_, refl, ap, sym, _∙_}
 use lib.Dec.{ltb}
-use lib.ListN.{length}
-use borrow.Author.Tests.{ne-eqb}
+use lib.ListN.{length, take, drop}
+use borrow.Author.Tests.{ne-eqb, eqb-true, eqb-false, le-ltb}
 use Rattle.octets.specs.Octets.{over}
 use Rattle.pdu.specs.declared.Header.{Header}
 use Rattle.pdu.specs.declared.Reading.{Reading}
@@ -19,12 +19,17 @@ use Rattle.origin.specs.Origination.{originationNumber, originated, originatedO
 use Rattle.node.specs.declared.Settings.{Settings}
 use Rattle.node.specs.Decision.{Lists, repeatFault, repeatNumber}
 use Rattle.node.specs.Repeat.{repeatedHeader, repeated}
-use Rattle.node.specs.Answers.{outputAfter}
+use Rattle.node.specs.declared.Answer.{Answer}
+use Rattle.node.specs.Answers.{answerOf, outputAfter}
+use Rattle.batch.specs.declared.Cursor.{Cursor}
+use Rattle.batch.specs.declared.Stepped.the-variants.{TooLong, Ended, Answered}
+use Rattle.batch.specs.declared.Stepped.{Stepped}
+use Rattle.batch.specs.Walk.{isTooLong, isDone, nextCursor, stepOf, stepOutput}
 use Rattle.origin.proofs.ReadBack.{fresh-back}
 use Rattle.origin.proofs.Deciding.{hop-refused}
 use Rattle.writing.proofs.Same.{written-same, shown-well-formed}
 use Rattle.writing.proofs.Back.{read-encode, path-encode, payload-encode}
-use Rattle.node.proofs.Heard.{repeats}
+use Rattle.node.proofs.Heard.{repeats, delivered-part}
 use Rattle.node.proofs.Repeating.{ready}
 use Rattle.node.proofs.Encoded.{alone-reads, alone-path, alone-payload, repeat-short}
 use Rattle.batch.proofs.Walking as walking
@@ -32,6 +37,7 @@ use Rattle.flood.specs.Air.{address}
 use Rattle.flood.proofs.Demand.{demand-3, demand-3-bytes}
 use Rattle.flood.proofs.Demand as demand
 use Rattle.flood.proofs.Exact as exact
+use Rattle.flood.proofs.Sent.{sent-written, none-written}
 use Rattle.audit.specs.Demands.{AllBytes, Demand1, Demand2, Demand3}
 
 written-as-was : (reading : Reading) (bytes output : List ℕ) → (writtenOf reading (length output) .number ≡ 0 → ⊥) → outputOf reading bytes output ≡ output
@@ -47,15 +53,44 @@ writing-as-was : (bytes output : List ℕ) → (writeAgain bytes (length output)
 unfolding writeAgain writtenAgain
 writing-as-was bytes output ne = written-as-was (readOf bytes) bytes output ne
 
+node-as-was : (settings : Settings) (lists : Lists) (received output : List ℕ) → (repeatNumber settings lists (length output) received ≡ 0 → ⊥)
+    → outputAfter settings lists received output ≡ output
+unfolding outputAfter
+node-as-was settings lists received output ne = rw (ne-eqb (repeatNumber settings lists (length output) received) 0 ne)
+
+step-as-was : (settings : Settings) (lists : Lists) (batch : List ℕ) (cursor : Cursor) (output : List ℕ)
+    → ((answer : Answer) (next : Cursor) → stepOf settings lists (length output) batch cursor ≡ Answered answer next → answer .repeat ≡ 0 → ⊥)
+    → stepOutput settings lists batch cursor output ≡ output
+unfolding stepOf stepOutput answerOf
+step-as-was settings lists batch cursor output ne = go (isTooLong batch) (isDone batch cursor) ne
+  where
+    go : (long done : Bool)
+        → ((answer : Answer) (next : Cursor)
+        → cond long TooLong (cond done Ended (Answered (answerOf settings lists (length output) (drop (cursor .place) batch)) (nextCursor lists batch (cursor .place))))
+        ≡ Answered answer next → answer .repeat ≡ 0 → ⊥)
+        → cond (long || done) output (outputAfter settings lists (drop (cursor .place) batch) output) ≡ output
+    go true done n = refl
+    go false true n = refl
+    go false false n = node-as-was settings lists (drop (cursor .place) batch) output (n _ _ refl)
+
 pub total : Demand1
-unfolding originated originatedOutput outputAfter
+unfolding originated originatedOutput
 total =
     record {
       hop-refused = λ settings payload output h. rw (← hop-refused settings payload (length output) h) (refl, refl);
       origination-untouched = λ settings payload output ne. rw (ne-eqb (originationNumber settings payload (length output)) 0 ne);
       writing-untouched = λ bytes output ne. writing-as-was bytes output ne;
-      node-untouched = λ settings lists received output ne. rw (ne-eqb (repeatNumber settings lists (length output) received) 0 ne);
+      node-untouched = λ settings lists received output ne. node-as-was settings lists received output ne;
+      step-untouched = λ settings lists batch cursor output ne. step-as-was settings lists batch cursor output ne;
     }
+
+again-same : (bytes output : List ℕ) (header : Header) → AllBytes bytes → readOf bytes ≡ Pdu header → pduLength header ≤ length output
+    → (writeAgain bytes (length output) ≡ record { number = 0; length = pduLength header })
+    × (writtenAgain bytes output ≡ over (take (pduLength header) bytes) output)
+unfolding writeAgain writtenAgain
+again-same bytes output header small e fits =
+    let room = le-ltb (length output) (pduLength header) fits in
+    (rw (e, room), rw (e, room) (ap (λ (front : List ℕ). over front output) (written-same bytes header small e)))
 
 same-header : (a b : Header) → Pdu a ≡ Pdu b → a ≡ b
 same-header a b e = cc
@@ -79,13 +114,14 @@ repeat-back settings lists room received header small e z =
 pub exactly : Demand2
 exactly =
     record {
-      written-again = λ bytes header small e. written-same bytes header small e;
+      written-again = λ bytes output header small e fits. again-same bytes output header small e fits;
       reads-back = λ header path payload rest ok. (read-encode ok rest, path-encode ok rest, payload-encode ok rest);
       fresh-reads-back = λ settings payload rest room e.
           let back = fresh-back settings payload room e rest in
           (back .reads, back .no-path, back .carries);
       read-well-formed = λ bytes header small e. shown-well-formed bytes header small e;
       repeat-reads-back = λ settings lists room received header small e z. repeat-back settings lists room received header small e z;
+      delivered-part = λ settings lists room received. delivered-part settings lists room received;
       stepping-walks = λ settings lists room batch. walking.stepping-walks settings lists room batch;
     }
 
@@ -99,4 +135,6 @@ bounded =
         exact.reached-bytes nodes all settings payload room message free roomy (λ n m. exact.for-everyone (address n) (settings .destination) everyone) fits receptions once complete,
       );
       schedule = λ nodes all settings payload room message. demand.schedule nodes all settings payload room message;
+      sent-is-left = λ node received output sent long e. sent-written node received output long sent e;
+      silent-is-left = λ node received output long e. none-written node received output long e;
     }

@@ -3,9 +3,10 @@ use Prim.Native.Nat.{ℕ, _+_, _*_, _<_, _≤_}
 use mathlib.Core.Bool.{false, cond}
 use mathlib.Core.List.{List, [], _∷_, _++_, map, List·Memᴰ, List·Nodup}
 use mathlib.Core.Logic.{_⊎_}
+use mathlib.Core.Option.{none, some}
 use mathlib.Core.Path.{_≡_}
 use lib.ListN.{length, take, drop}
-use Rattle.octets.specs.Octets.{at}
+use Rattle.octets.specs.Octets.{at, over}
 use Rattle.pdu.specs.declared.Destination.the-variants.{Everyone}
 use Rattle.pdu.specs.declared.Header.{Header}
 use Rattle.pdu.specs.declared.Reading.the-variants.{Pdu}
@@ -16,10 +17,13 @@ use Rattle.writing.specs.Writing.{encode, writeAgain, writtenAgain, WellFormed}
 use Rattle.origin.specs.declared.Settings as asked
 use Rattle.origin.specs.Origination.{freshHeader, fresh, originationNumber, originated, originatedOutput}
 use Rattle.node.specs.declared.Settings.{Settings}
-use Rattle.node.specs.Decision.{Lists, repeatNumber}
+use Rattle.node.specs.declared.Answer.{Answer}
+use Rattle.node.specs.Decision.{Lists, repeatNumber, delivered}
 use Rattle.node.specs.Repeat.{repeatedHeader, repeated}
-use Rattle.node.specs.Answers.{outputAfter}
-use Rattle.batch.specs.Walk.{walk, steps}
+use Rattle.node.specs.Answers.{answerOf, outputAfter}
+use Rattle.batch.specs.declared.Cursor.{Cursor}
+use Rattle.batch.specs.declared.Stepped.the-variants.{Answered}
+use Rattle.batch.specs.Walk.{stepOf, stepOutput, walk, steps}
 use Rattle.bound.specs.Bound.{terms, bound, bytesBound}
 use Rattle.flood.specs.Flood.{Reception, Bounded}
 use Rattle.flood.specs.Complete.{Complete}
@@ -34,18 +38,22 @@ AllBytes bytes = (i : ℕ) → at bytes i < 256
 pub record Demand1 : Type 0 where
   pub hop-refused : (settings : asked.Settings) (payload output : List ℕ) → 7 < settings .«hop_limit»
       → (originated settings payload (length output) ≡ record { number = 10; length = 0 }) × (originatedOutput settings payload output ≡ output)
-  -- with a number other than 0 no output is touched: at origination, in writing again, at a node
+  -- with a number other than 0 no output is touched: at origination, in writing again, at a node, in a step of the walk
   pub origination-untouched : (settings : asked.Settings) (payload output : List ℕ) → (originationNumber settings payload (length output) ≡ 0 → ⊥)
       → originatedOutput settings payload output ≡ output
   pub writing-untouched : (bytes output : List ℕ) → (writeAgain bytes (length output) .number ≡ 0 → ⊥) → writtenAgain bytes output ≡ output
   pub node-untouched : (settings : Settings) (lists : Lists) (received output : List ℕ) → (repeatNumber settings lists (length output) received ≡ 0 → ⊥)
       → outputAfter settings lists received output ≡ output
+  pub step-untouched : (settings : Settings) (lists : Lists) (batch : List ℕ) (cursor : Cursor) (output : List ℕ)
+      → ((answer : Answer) (next : Cursor) → stepOf settings lists (length output) batch cursor ≡ Answered answer next → answer .repeat ≡ 0 → ⊥)
+      → stepOutput settings lists batch cursor output ≡ output
 
 -- Demand 2, exact. The contracts say that reading, writing and the node's decision are the definitions; these say that the definitions fit together.
 pub record Demand2 : Type 0 where
-  -- what is read and written again is the same bytes
-  pub written-again : (bytes : List ℕ) (header : Header) → AllBytes bytes → readOf bytes ≡ Pdu header
-      → encode header (pathIn header bytes) (payloadIn header bytes) ≡ take (pduLength header) bytes
+  -- what is read and written again is the same bytes, at the start of an output that has room for them
+  pub written-again : (bytes output : List ℕ) (header : Header) → AllBytes bytes → readOf bytes ≡ Pdu header → pduLength header ≤ length output
+      → (writeAgain bytes (length output) ≡ record { number = 0; length = pduLength header })
+      × (writtenAgain bytes output ≡ over (take (pduLength header) bytes) output)
   -- what is written reads back, whatever follows it
   pub reads-back : (header : Header) (path payload rest : List ℕ) → WellFormed header path payload
       → (readOf (encode header path payload ++ rest) ≡ Pdu header) × (pathIn header (encode header path payload ++ rest) ≡ path)
@@ -66,6 +74,10 @@ pub record Demand2 : Type 0 where
       × (pathIn (repeatedHeader header) (repeated (settings .own) received) ≡ pathIn header received ++ cond (header .«path_bit») (settings .own ∷ []) [])
       × (payloadIn (repeatedHeader header) (repeated (settings .own) received) ≡ payloadIn header received)
       × (length (repeated (settings .own) received) ≤ pduLimit)
+  -- the delivered payload is the part of the received bytes that the node's answer names
+  pub delivered-part : (settings : Settings) (lists : Lists) (room : ℕ) (received : List ℕ)
+      → take (answerOf settings lists room received .«delivered_length») (drop (answerOf settings lists room received .«delivered_place») received)
+      ≡ delivered settings lists room received
   -- stepping over a batch gives exactly its walk
   pub stepping-walks : (settings : Settings) (lists : Lists) (room : ℕ) (batch : List ℕ)
       → steps settings lists room batch (length batch) (record { place = 0; ended = false }) ≡ walk settings lists room batch
@@ -91,3 +103,10 @@ pub record Demand3 : Type 0 where
   -- and such receptions exist
   pub schedule : (nodes : List Node) → Nodes nodes → (settings : asked.Settings) (payload : List ℕ) (room : ℕ) → Originated settings payload room
       → (receptions : List Reception) × List·Nodup receptions × Complete sends nodes (fresh settings payload ∷ []) receptions
+  -- what a node of the model sends is what `hear` leaves at the start of its output; where it sends nothing, `hear` repeats nothing
+  pub sent-is-left : (node : Node) (received output sent : List ℕ) → length output ≡ node .room → sends node received ≡ some sent
+      → take (answerOf (node .settings) (node .lists) (length output) received .«repeated_length») (outputAfter (node .settings) (node .lists) received output)
+      ≡ sent
+  pub silent-is-left : (node : Node) (received output : List ℕ) → length output ≡ node .room → sends node received ≡ none
+      → (answerOf (node .settings) (node .lists) (length output) received .«repeated_length» ≡ 0)
+      × (outputAfter (node .settings) (node .lists) received output ≡ output)
