@@ -6,8 +6,12 @@
  * The library needs memcpy and memset, and about 5 KB of stack.
  *
  * Slices. A slice is passed as a pointer and then a length, which counts elements: bytes, or uint16_t values of a list. Only so many elements
- * are ever read or written. With length 0 the pointer may be anything, NULL too: it is not followed. With any other length it must point to that
- * many elements, aligned for them. An output must share no memory with the other slices of the call. A bool holds 0 or 1, as C's does.
+ * are ever read or written.
+ *
+ * What a caller owes, since no code can look whether it holds. A pointer with a length other than 0 points to that many elements, aligned for them
+ * (a list at an even address), which nothing else changes during the call; with length 0 it may be anything, NULL too, and is not followed. An
+ * output shares no memory with another slice of the call. Structs are those declared here, passed by value and so aligned by the compiler, and a bool
+ * in them holds 0 or 1, as C's does unless it was written by other means, such as memcpy.
  *
  * Output. It changes only where a PDU is written (number 0), or, at a node, where the repeat number is 0. It then begins with that PDU, and keeps
  * its bytes past the PDU's end. With every other number the output is left as it was. MANT_PDU_LIMIT bytes are room for every PDU.
@@ -16,6 +20,10 @@
  */
 #ifndef MANT_H
 #define MANT_H
+
+#if !defined(__x86_64__) || !defined(__linux__)
+#error "libmant.a is for x86-64 Linux only"
+#endif
 
 #include <stdbool.h>
 #include <stddef.h>
@@ -209,7 +217,7 @@ typedef struct MantLimits {
     size_t batch;
 } MantLimits;
 
-/* The library is for x86-64: elsewhere these fail. */
+/* As the library has them. */
 #ifdef __cplusplus
 #define MANT_SIZE(type, size) static_assert(sizeof(type) == (size), #type " is laid out otherwise in the library")
 #else
