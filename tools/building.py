@@ -12,6 +12,7 @@ import time
 TOP = pathlib.Path(__file__).resolve().parent.parent
 TARGET = TOP / 'target'
 QUIET = 1.5  # seconds before a build says that it goes on
+SIGNALS = (signal.SIGINT, signal.SIGTERM, signal.SIGHUP)
 
 
 class Failed(Exception):
@@ -31,8 +32,9 @@ def say(words, end='\n'):
 def stop_by_signals():
     def stopped(number, frame):
         raise Stopped(number)
-    for number in (signal.SIGINT, signal.SIGTERM, signal.SIGHUP):
-        signal.signal(number, stopped)
+    for number in SIGNALS:
+        if signal.getsignal(number) is not signal.SIG_IGN:
+            signal.signal(number, stopped)
 
 
 @contextlib.contextmanager
@@ -57,7 +59,7 @@ def started(words, **more):
     try:
         yield child
     except BaseException:
-        for number in (signal.SIGINT, signal.SIGTERM, signal.SIGHUP):
+        for number in SIGNALS:
             signal.signal(number, signal.SIG_IGN)
         for number in (signal.SIGTERM, signal.SIGKILL):
             with contextlib.suppress(ProcessLookupError, subprocess.TimeoutExpired):
