@@ -45,7 +45,7 @@ int main(void)
     print_hex("repeated", repeated, answer.repeated_length);
 
     MantHeader header = mant_read(repeated, answer.repeated_length);
-    printf("its hop limit: %u, its path: %u address, %u\n", header.hop_limit, header.path_count,
+    printf("its hop limit is %u, its path has %u address: %u\n", header.hop_limit, header.path_count,
            mant_path_address(repeated, answer.repeated_length, 0));
 
     /* The node hears its own repeat. */

@@ -6,49 +6,24 @@
  * The library needs memcpy and memset, and about 5 KB of stack.
  *
  * Slices. A slice is passed as a pointer and then a length, which counts elements: bytes, or uint16_t values of a list. Only so many elements
- * are ever read or written. With length 0 the pointer may be anything, NULL too: it is not followed. With any other length it must point to that
- * many elements, aligned for them. An output must share no memory with the other slices of the call. A bool holds 0 or 1, as C's does.
+ * are ever read or written.
+ *
+ * What a caller owes, since no code can look whether it holds. A pointer with a length other than 0 points to that many elements, aligned for them
+ * (a list at an even address), which nothing else changes during the call; with length 0 it may be anything, NULL too, and is not followed. An
+ * output shares no memory with another slice of the call. Structs are those declared here, passed by value and so aligned by the compiler, and a bool
+ * in them holds 0 or 1, as C's does unless it was written by other means, such as memcpy.
  *
  * Output. It changes only where a PDU is written (number 0), or, at a node, where the repeat number is 0. It then begins with that PDU, and keeps
  * its bytes past the PDU's end. With every other number the output is left as it was. MANT_PDU_LIMIT bytes are room for every PDU.
  *
- * Numbers. Every refusal has one; mant_meaning gives its words.
- *
- *    0  done
- *    1  fewer than 6 bytes
- *    2  version not 0
- *    3  protocol not 0 or 1
- *    4  protocol 1 and no destination
- *    5  a header field after byte 5 runs past the end
- *    6  the payload runs past the end
- *   10  hop setting above 7
- *   11  port setting above 15
- *   12  payload above 4,095
- *   13  reliable service asked without a destination
- *   14  writing: output shorter than the PDU
- *   20  a list range with low above high
- *   21  a list with an odd number of values
- *   22  a list of more than 128 values
- *   30  echo: own address in the path
- *   31  the source pass list is on and does not hold the source
- *   32  the source reject list is on and holds the source
- *   33  the destination pass list is on and does not hold the destination
- *   34  the destination reject list is on and holds the destination
- *   35  not delivered: added header
- *   36  not repeated: repeating off
- *   37  not repeated: hop limit 0
- *   38  not repeated: path has 255
- *   39  not delivered: for another address
- *   40  output shorter than the repeated PDU
- *   41  not repeated: this node is the destination
- *   50  job cut short                          (50 to 53 are given by the program relay only)
- *   51  job flags, bit 6 or 7 set
- *   52  job list count above 64
- *   53  job bytes left over
- *   54  batch above 16,384
+ * Numbers. Every refusal has one: enum MantNumber below, and mant_meaning gives its words.
  */
 #ifndef MANT_H
 #define MANT_H
+
+#if !defined(__x86_64__) || !defined(__linux__)
+#error "libmant.a is for x86-64 Linux only"
+#endif
 
 #include <stdbool.h>
 #include <stddef.h>
@@ -58,39 +33,40 @@
 extern "C" {
 #endif
 
+/* Those that begin with JOB are given by the program relay only. */
 enum MantNumber {
-    MANT_DONE = 0,
-    MANT_TOO_SHORT = 1,
-    MANT_WRONG_VERSION = 2,
-    MANT_UNKNOWN_PROTOCOL = 3,
-    MANT_NO_DESTINATION = 4,
-    MANT_HEADER_CUT = 5,
-    MANT_PAYLOAD_CUT = 6,
-    MANT_HOP_LIMIT_ABOVE_7 = 10,
-    MANT_PORT_ABOVE_15 = 11,
-    MANT_PAYLOAD_TOO_LONG = 12,
-    MANT_RELIABLE_WITHOUT_DESTINATION = 13,
-    MANT_OUTPUT_TOO_SHORT = 14,
-    MANT_LOW_ABOVE_HIGH = 20,
-    MANT_LIST_ODD = 21,
-    MANT_LIST_TOO_LONG = 22,
-    MANT_ECHO = 30,
-    MANT_SOURCE_NOT_PASSED = 31,
-    MANT_SOURCE_REJECTED = 32,
-    MANT_DESTINATION_NOT_PASSED = 33,
-    MANT_DESTINATION_REJECTED = 34,
-    MANT_ADDED_HEADER = 35,
-    MANT_REPEATING_OFF = 36,
-    MANT_HOP_LIMIT_0 = 37,
-    MANT_PATH_FULL = 38,
-    MANT_FOR_ANOTHER = 39,
-    MANT_REPEAT_OUTPUT_TOO_SHORT = 40,
-    MANT_FOR_THIS_NODE = 41,
-    MANT_JOB_CUT = 50,
-    MANT_JOB_FLAGS = 51,
-    MANT_JOB_LIST_COUNT = 52,
-    MANT_JOB_LEFT_OVER = 53,
-    MANT_BATCH_TOO_LONG = 54
+    MANT_DONE = 0,                          /* done */
+    MANT_TOO_SHORT = 1,                     /* too short: every PDU has 6 bytes or more */
+    MANT_WRONG_VERSION = 2,                 /* its version is not 0 */
+    MANT_UNKNOWN_PROTOCOL = 3,              /* its protocol is neither 0 nor 1 */
+    MANT_NO_DESTINATION = 4,                /* it is reliable and has no destination */
+    MANT_HEADER_CUT = 5,                    /* the bytes end within its header */
+    MANT_PAYLOAD_CUT = 6,                   /* the bytes end within its payload */
+    MANT_HOP_LIMIT_ABOVE_7 = 10,            /* the hop limit asked for is above 7 */
+    MANT_PORT_ABOVE_15 = 11,                /* the port asked for is above 15 */
+    MANT_PAYLOAD_TOO_LONG = 12,             /* the payload has more than 4,095 bytes */
+    MANT_RELIABLE_WITHOUT_DESTINATION = 13, /* reliable service needs a destination */
+    MANT_OUTPUT_TOO_SHORT = 14,             /* the output has no room for the PDU */
+    MANT_LOW_ABOVE_HIGH = 20,               /* a list has a range whose low is above its high */
+    MANT_LIST_ODD = 21,                     /* the last value of a list has no partner */
+    MANT_LIST_TOO_LONG = 22,                /* a list has more than 128 values */
+    MANT_ECHO = 30,                         /* echo: this node is in the path */
+    MANT_SOURCE_NOT_PASSED = 31,            /* the source pass list does not hold the source */
+    MANT_SOURCE_REJECTED = 32,              /* the source reject list holds the source */
+    MANT_DESTINATION_NOT_PASSED = 33,       /* the destination pass list does not hold the destination */
+    MANT_DESTINATION_REJECTED = 34,         /* the destination reject list holds the destination */
+    MANT_ADDED_HEADER = 35,                 /* not delivered: it has an added header */
+    MANT_REPEATING_OFF = 36,                /* not repeated: this node has repeating off */
+    MANT_HOP_LIMIT_0 = 37,                  /* not repeated: its hop limit is 0 */
+    MANT_PATH_FULL = 38,                    /* not repeated: its path is full, with 255 addresses */
+    MANT_FOR_ANOTHER = 39,                  /* not delivered: it is for another node */
+    MANT_REPEAT_OUTPUT_TOO_SHORT = 40,      /* the output has no room for the repeated PDU */
+    MANT_FOR_THIS_NODE = 41,                /* not repeated: it is for this node */
+    MANT_JOB_CUT = 50,                      /* the job ends too early */
+    MANT_JOB_FLAGS = 51,                    /* bit 6 or 7 of the job's flags is set */
+    MANT_JOB_LIST_COUNT = 52,               /* a list of the job has more than 64 ranges */
+    MANT_JOB_LEFT_OVER = 53,                /* the job goes on after its batch */
+    MANT_BATCH_TOO_LONG = 54                /* the batch has more than 16,384 bytes */
 };
 
 /* What a number means, in words; "no such number" for any other. */
@@ -98,37 +74,37 @@ static inline const char *mant_meaning(uint8_t number)
 {
     switch (number) {
     case MANT_DONE: return "done";
-    case MANT_TOO_SHORT: return "fewer than 6 bytes";
-    case MANT_WRONG_VERSION: return "version not 0";
-    case MANT_UNKNOWN_PROTOCOL: return "protocol not 0 or 1";
-    case MANT_NO_DESTINATION: return "protocol 1 and no destination";
-    case MANT_HEADER_CUT: return "a header field after byte 5 runs past the end";
-    case MANT_PAYLOAD_CUT: return "the payload runs past the end";
-    case MANT_HOP_LIMIT_ABOVE_7: return "hop setting above 7";
-    case MANT_PORT_ABOVE_15: return "port setting above 15";
-    case MANT_PAYLOAD_TOO_LONG: return "payload above 4,095";
-    case MANT_RELIABLE_WITHOUT_DESTINATION: return "reliable service asked without a destination";
-    case MANT_OUTPUT_TOO_SHORT: return "output shorter than the PDU";
-    case MANT_LOW_ABOVE_HIGH: return "a list range with low above high";
-    case MANT_LIST_ODD: return "a list with an odd number of values";
-    case MANT_LIST_TOO_LONG: return "a list of more than 128 values";
-    case MANT_ECHO: return "echo: own address in the path";
+    case MANT_TOO_SHORT: return "too short: every PDU has 6 bytes or more";
+    case MANT_WRONG_VERSION: return "its version is not 0";
+    case MANT_UNKNOWN_PROTOCOL: return "its protocol is neither 0 nor 1";
+    case MANT_NO_DESTINATION: return "it is reliable and has no destination";
+    case MANT_HEADER_CUT: return "the bytes end within its header";
+    case MANT_PAYLOAD_CUT: return "the bytes end within its payload";
+    case MANT_HOP_LIMIT_ABOVE_7: return "the hop limit asked for is above 7";
+    case MANT_PORT_ABOVE_15: return "the port asked for is above 15";
+    case MANT_PAYLOAD_TOO_LONG: return "the payload has more than 4,095 bytes";
+    case MANT_RELIABLE_WITHOUT_DESTINATION: return "reliable service needs a destination";
+    case MANT_OUTPUT_TOO_SHORT: return "the output has no room for the PDU";
+    case MANT_LOW_ABOVE_HIGH: return "a list has a range whose low is above its high";
+    case MANT_LIST_ODD: return "the last value of a list has no partner";
+    case MANT_LIST_TOO_LONG: return "a list has more than 128 values";
+    case MANT_ECHO: return "echo: this node is in the path";
     case MANT_SOURCE_NOT_PASSED: return "the source pass list does not hold the source";
     case MANT_SOURCE_REJECTED: return "the source reject list holds the source";
     case MANT_DESTINATION_NOT_PASSED: return "the destination pass list does not hold the destination";
     case MANT_DESTINATION_REJECTED: return "the destination reject list holds the destination";
-    case MANT_ADDED_HEADER: return "not delivered: added header";
-    case MANT_REPEATING_OFF: return "not repeated: repeating off";
-    case MANT_HOP_LIMIT_0: return "not repeated: hop limit 0";
-    case MANT_PATH_FULL: return "not repeated: path has 255";
-    case MANT_FOR_ANOTHER: return "not delivered: for another address";
-    case MANT_REPEAT_OUTPUT_TOO_SHORT: return "output shorter than the repeated PDU";
-    case MANT_FOR_THIS_NODE: return "not repeated: this node is the destination";
-    case MANT_JOB_CUT: return "job cut short";
-    case MANT_JOB_FLAGS: return "job flags, bit 6 or 7 set";
-    case MANT_JOB_LIST_COUNT: return "job list count above 64";
-    case MANT_JOB_LEFT_OVER: return "job bytes left over";
-    case MANT_BATCH_TOO_LONG: return "batch above 16,384";
+    case MANT_ADDED_HEADER: return "not delivered: it has an added header";
+    case MANT_REPEATING_OFF: return "not repeated: this node has repeating off";
+    case MANT_HOP_LIMIT_0: return "not repeated: its hop limit is 0";
+    case MANT_PATH_FULL: return "not repeated: its path is full, with 255 addresses";
+    case MANT_FOR_ANOTHER: return "not delivered: it is for another node";
+    case MANT_REPEAT_OUTPUT_TOO_SHORT: return "the output has no room for the repeated PDU";
+    case MANT_FOR_THIS_NODE: return "not repeated: it is for this node";
+    case MANT_JOB_CUT: return "the job ends too early";
+    case MANT_JOB_FLAGS: return "bit 6 or 7 of the job's flags is set";
+    case MANT_JOB_LIST_COUNT: return "a list of the job has more than 64 ranges";
+    case MANT_JOB_LEFT_OVER: return "the job goes on after its batch";
+    case MANT_BATCH_TOO_LONG: return "the batch has more than 16,384 bytes";
     default: return "no such number";
     }
 }
@@ -241,7 +217,7 @@ typedef struct MantLimits {
     size_t batch;
 } MantLimits;
 
-/* The library is for x86-64: elsewhere these fail. */
+/* As the library has them. */
 #ifdef __cplusplus
 #define MANT_SIZE(type, size) static_assert(sizeof(type) == (size), #type " is laid out otherwise in the library")
 #else

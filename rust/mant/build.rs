@@ -5,6 +5,12 @@ use std::env;
 use std::path::{Path, PathBuf};
 
 fn main() {
+    let target = ["CARGO_CFG_TARGET_ARCH", "CARGO_CFG_TARGET_OS"]
+        .map(|name| env::var(name).unwrap_or_default());
+    assert!(
+        target == ["x86_64", "linux"],
+        "libmant.a is for x86-64 Linux only"
+    );
     println!("cargo:rerun-if-env-changed=MANT_LIB_DIR");
     let folder = folder();
     let library = folder.join("libmant.a");

@@ -1,4 +1,4 @@
--- Demand 3 in runs that are computed, byte by byte: the bound is met, and each condition is needed. Assumes nothing.
+-- Demand 3 in runs that are computed, byte by byte: the bound is met, and no condition can be left out. Assumes nothing.
 use mathlib.Core.Path.{_≡_, refl, ap, sym, subst}
 use mathlib.Core.Bool.{Bool, true, false}
 use mathlib.Core.List.{List, [], _∷_, map, List·Memᴰ, Memᴰ·of-map, List·Nodup}
@@ -105,12 +105,13 @@ pub record Computed : Type 0 where
   pub hop-7 : length (air three true 7 16) ≡ 16
   pub no-nodes : length (onTheAir [] (begun true 7) (rounds 3 1)) ≡ 1
   pub bytes-2 : total length (air three true 2 10) ≡ bytesBound 3 2 8
-  -- each condition is needed: one node, whose bound is 2, goes past it with echo off, and without the path bit; two nodes of one address
-  -- send one path twice
+  -- one node, whose bound is 2, goes past it with echo off, and without the path bit. Two nodes of one address stay below their 5 transmissions
+  -- here, but two of these carry the same path
   pub alone : bound 1 7 ≡ 2
   pub echo-off : length (air (plain false 1 ∷ []) true 7 3) ≡ 4
   pub no-path-bit : length (air (plain true 1 ∷ []) false 7 3) ≡ 4
-  pub one-address : map pathOf (air (plain true 1 ∷ plain true 1 ∷ []) true 7 1) ≡ [] ∷ (1 ∷ []) ∷ (1 ∷ []) ∷ []
+  pub two : bound 2 7 ≡ 5
+  pub one-address : map pathOf (air (plain true 1 ∷ plain true 1 ∷ []) true 7 5) ≡ [] ∷ (1 ∷ []) ∷ (1 ∷ []) ∷ []
   -- the bytes themselves, from hop limit 2: node 1's repeat, then node 2's of that, and none of node 3, since the hop limit is 0 by then
   pub in-a-row : onTheAir three (begun true 2) (record { node = 0; transmission = 0 } ∷ record { node = 1; transmission = 1 } ∷ record { node = 2; transmission = 2 } ∷ [])
       ≡ (0x02 ∷ 0x00 ∷ 0x20 ∷ 0x01 ∷ 0x03 ∷ 0xE8 ∷ 0x00 ∷ 0x70 ∷ [])
@@ -130,6 +131,7 @@ computed =
       alone = refl;
       echo-off = refl;
       no-path-bit = refl;
+      two = refl;
       one-address = refl;
       in-a-row = refl;
     }

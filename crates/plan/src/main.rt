@@ -13,6 +13,9 @@ use libc::STDERR_FILENO;
 use libc::STDOUT_FILENO;
 use table::print_table;
 
+// No more nodes have different addresses.
+const ADDRESSES: u64 = 65536;
+
 // A fresh PDU with a path: the fixed part and the path count; with a destination, a PDU ID and the longest payload too.
 const SHORTEST: u64 = 7;
 
@@ -37,6 +40,9 @@ fn answer(with_bytes: bool) {
     let Argument::Number(nodes) = first else {
         return complain_of(b"N, the number of repeating nodes, ", first);
     };
+    if ADDRESSES < nodes {
+        return complain(b"N: there are only 65536 addresses, so no more nodes of different ones");
+    }
     let second = argument_at(2);
     let Argument::Number(hop_limit) = second else {
         return complain_of(b"H, the hop limit, ", second);
@@ -74,13 +80,12 @@ fn print_transmissions(nodes: u64, hop_limit: u64) {
             say_network(nodes, hop_limit);
             say(b"one report goes out at most ");
             say_count(number, b" time");
-            say(
-                b",\nif it was originated with a path, every node has echo suppression on and no two nodes have the same address.\n",
-            );
+            say_conditions(b",\nif ");
         }
         Bound::TooLarge => {
             say_network(nodes, hop_limit);
-            say(b"one report can go out more times than 64 bits hold.\n");
+            say(b"one report can go out more times than 64 bits hold");
+            say_conditions(b",\neven if ");
         }
         Bound::HopRefused => complain_hop_limit(),
     }
@@ -109,6 +114,13 @@ fn say_network(nodes: u64, hop_limit: u64) {
     say(b", ");
 }
 
+fn say_conditions(before: &[u8]) {
+    say(before);
+    say(
+        b"it was originated with a path, every node has echo suppression on and no two nodes have the same address.\n",
+    );
+}
+
 fn say_count(number: u64, what: &[u8]) {
     io::print_decimal(STDOUT_FILENO, number);
     say(what);
@@ -118,12 +130,9 @@ fn say_count(number: u64, what: &[u8]) {
 }
 
 fn complain_hop_limit() {
-    io::write_all(
-        STDERR_FILENO,
-        b"plan: H, the hop limit, is above 7 and is refused with ",
-    );
+    io::write_all(STDERR_FILENO, b"plan: H is refused with ");
     io::print_decimal(STDERR_FILENO, bound::refusal(Bound::HopRefused));
-    io::write_all(STDERR_FILENO, b"\n");
+    io::write_all(STDERR_FILENO, b": the hop limit asked for is above 7\n");
 }
 
 fn complain_of(what: &[u8], read: Argument) {

@@ -37,33 +37,33 @@ macro_rules! refusals {
 }
 
 refusals! {
-    TooShort = 1, "fewer than 6 bytes";
-    WrongVersion = 2, "version not 0";
-    UnknownProtocol = 3, "protocol not 0 or 1";
-    NoDestination = 4, "protocol 1 and no destination";
-    HeaderCut = 5, "a header field after byte 5 runs past the end";
-    PayloadCut = 6, "the payload runs past the end";
-    HopLimitAbove7 = 10, "hop setting above 7";
-    PortAbove15 = 11, "port setting above 15";
-    PayloadTooLong = 12, "payload above 4,095";
-    ReliableWithoutDestination = 13, "reliable service asked without a destination";
-    OutputTooShort = 14, "output shorter than the PDU";
-    LowAboveHigh = 20, "a list range with low above high";
-    ListOdd = 21, "a list with an odd number of values";
-    ListTooLong = 22, "a list of more than 128 values";
-    Echo = 30, "echo: own address in the path";
+    TooShort = 1, "too short: every PDU has 6 bytes or more";
+    WrongVersion = 2, "its version is not 0";
+    UnknownProtocol = 3, "its protocol is neither 0 nor 1";
+    NoDestination = 4, "it is reliable and has no destination";
+    HeaderCut = 5, "the bytes end within its header";
+    PayloadCut = 6, "the bytes end within its payload";
+    HopLimitAbove7 = 10, "the hop limit asked for is above 7";
+    PortAbove15 = 11, "the port asked for is above 15";
+    PayloadTooLong = 12, "the payload has more than 4,095 bytes";
+    ReliableWithoutDestination = 13, "reliable service needs a destination";
+    OutputTooShort = 14, "the output has no room for the PDU";
+    LowAboveHigh = 20, "a list has a range whose low is above its high";
+    ListOdd = 21, "the last value of a list has no partner";
+    ListTooLong = 22, "a list has more than 128 values";
+    Echo = 30, "echo: this node is in the path";
     SourceNotPassed = 31, "the source pass list does not hold the source";
     SourceRejected = 32, "the source reject list holds the source";
     DestinationNotPassed = 33, "the destination pass list does not hold the destination";
     DestinationRejected = 34, "the destination reject list holds the destination";
-    AddedHeader = 35, "not delivered: added header";
-    RepeatingOff = 36, "not repeated: repeating off";
-    HopLimit0 = 37, "not repeated: hop limit 0";
-    PathFull = 38, "not repeated: path has 255";
-    ForAnother = 39, "not delivered: for another address";
-    RepeatOutputTooShort = 40, "output shorter than the repeated PDU";
-    ForThisNode = 41, "not repeated: this node is the destination";
-    BatchTooLong = 54, "batch above 16,384";
+    AddedHeader = 35, "not delivered: it has an added header";
+    RepeatingOff = 36, "not repeated: this node has repeating off";
+    HopLimit0 = 37, "not repeated: its hop limit is 0";
+    PathFull = 38, "not repeated: its path is full, with 255 addresses";
+    ForAnother = 39, "not delivered: it is for another node";
+    RepeatOutputTooShort = 40, "the output has no room for the repeated PDU";
+    ForThisNode = 41, "not repeated: it is for this node";
+    BatchTooLong = 54, "the batch has more than 16,384 bytes";
 }
 
 impl Refusal {

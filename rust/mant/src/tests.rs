@@ -154,7 +154,10 @@ fn bounds_and_limits() {
 #[test]
 fn refusals_print_number_and_meaning() {
     let refusal: Box<dyn std::error::Error> = Box::new(Refusal::TooShort);
-    assert_eq!(refusal.to_string(), "1 (fewer than 6 bytes)");
+    assert_eq!(
+        refusal.to_string(),
+        "1 (too short: every PDU has 6 bytes or more)"
+    );
     for refusal in Refusal::ALL {
         assert_eq!(Refusal::from_number(refusal.number()), Some(*refusal));
     }

@@ -2,7 +2,7 @@
 //!
 //! Nothing here is fast or clever. Each module cites the section of 01 that
 //! it reads, and uses the names of 01. It shares nothing with the library it
-//! is compared with.
+//! is compared with but the words of the numbers, in docs/NUMBERS.md.
 
 mod batch;
 mod flood;

@@ -346,6 +346,9 @@ fn bound_at_its_limits() {
 #[test]
 fn the_table_is_in_order() {
     assert!(TABLE.windows(2).all(|rows| rows[0].0 < rows[1].0));
-    assert_eq!(described(38), "38 (not repeated: path has 255)");
+    assert_eq!(
+        described(38),
+        "38 (not repeated: its path is full, with 255 addresses)"
+    );
     assert_eq!(meaning(7), "not a number of the table");
 }

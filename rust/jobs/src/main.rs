@@ -1,0 +1,58 @@
+//! Jobs of the program `relay` by the independent reading of document 01.
+//!
+//! `jobs print` prints what `relay` must print for the job on standard input.
+//! `jobs compare PROGRAM [seed [count [first]]]` relays generated jobs by the
+//! program and compares its whole text with the reading's: the seed of the
+//! jobs (1), how many (1,000), and the first (0), so that one can be run alone.
+
+mod compare;
+
+use compare::{compare_all, Asked};
+use std::io::{self, Read, Write};
+use std::process::ExitCode;
+
+const USE: &str = "use: jobs print, or jobs compare PROGRAM [seed [count [first]]]";
+
+fn main() -> ExitCode {
+    let words: Vec<String> = std::env::args().skip(1).collect();
+    let done = match words.first().map(String::as_str) {
+        Some("print") if words.len() == 1 => print().map_err(|error| error.to_string()),
+        Some("compare") => asked(&words[1..]).and_then(|asked| compare_all(&asked)),
+        _ => Err(String::from(USE)),
+    };
+    match done {
+        Ok(()) => ExitCode::SUCCESS,
+        Err(words) => {
+            eprintln!("jobs: {words}");
+            ExitCode::FAILURE
+        }
+    }
+}
+
+/// Prints the reading's text for the job on standard input.
+fn print() -> io::Result<()> {
+    let mut job = vec![];
+    io::stdin().read_to_end(&mut job)?;
+    io::stdout().write_all(reference::relay(&job).as_bytes())
+}
+
+/// Reads the arguments of a comparison.
+fn asked(words: &[String]) -> Result<Asked, String> {
+    let (program, words) = words.split_first().ok_or(USE)?;
+    let mut numbers = [1, 1_000, 0];
+    if words.len() > numbers.len() {
+        return Err(String::from(USE));
+    }
+    for (number, word) in numbers.iter_mut().zip(words) {
+        let parsed = word.parse();
+        *number = parsed.map_err(|_| format!("`{word}` is not a number; {USE}"))?;
+    }
+    let [seed, count, first] = numbers;
+    let program = program.clone();
+    Ok(Asked {
+        program,
+        seed,
+        count,
+        first,
+    })
+}

@@ -1,0 +1,146 @@
+"""Builds from the present sources, for ./relay, tools/build and the tests: one build at a time in a clone, and none left running."""
+import contextlib
+import fcntl
+import hashlib
+import os
+import pathlib
+import signal
+import subprocess
+import sys
+import time
+
+TOP = pathlib.Path(__file__).resolve().parent.parent
+TARGET = TOP / 'target'
+QUIET = 1.5  # seconds before a build says that it goes on
+SIGNALS = (signal.SIGINT, signal.SIGTERM, signal.SIGHUP)
+
+
+class Failed(Exception):
+    """Why nothing was built, in words."""
+
+
+class Stopped(BaseException):
+    """A signal that asks to end."""
+
+
+def say(words, end='\n'):
+    with contextlib.suppress(OSError):
+        if sys.stderr is not None:
+            print(words, end=end, file=sys.stderr, flush=True)
+
+
+def stop_by_signals():
+    def stopped(number, frame):
+        raise Stopped(number)
+    for number in SIGNALS:
+        if signal.getsignal(number) is not signal.SIG_IGN:
+            signal.signal(number, stopped)
+
+
+@contextlib.contextmanager
+def alone(name):
+    """Holds the clone: whoever else wants to build or run what is built here waits."""
+    folder = os.open(TOP, os.O_RDONLY)
+    try:
+        try:
+            fcntl.flock(folder, fcntl.LOCK_EX | fcntl.LOCK_NB)
+        except BlockingIOError:
+            say(f'{name}: another build goes on in {TOP}; waiting for it')
+            fcntl.flock(folder, fcntl.LOCK_EX)
+        yield
+    finally:
+        os.close(folder)
+
+
+@contextlib.contextmanager
+def started(words, **more):
+    """A child in a process group of its own. If this process is stopped, so is all of that group."""
+    child = subprocess.Popen(words, start_new_session=True, **more)
+    try:
+        yield child
+    except BaseException:
+        for number in SIGNALS:
+            signal.signal(number, signal.SIG_IGN)
+        for number in (signal.SIGTERM, signal.SIGKILL):
+            with contextlib.suppress(ProcessLookupError, subprocess.TimeoutExpired):
+                os.killpg(child.pid, number)
+                child.wait(timeout=5)
+        raise
+
+
+def run_rt(name, words):
+    """Runs rt; after a while, with a line on standard error that grows. Its status and what it said."""
+    began, told = time.monotonic(), False
+    with started(['rt', *words], cwd=TOP, stdout=subprocess.PIPE, stderr=subprocess.STDOUT) as child:
+        while True:
+            try:
+                said = child.communicate(timeout=QUIET)[0]
+                break
+            except subprocess.TimeoutExpired:
+                say('.' if told else f'{name}: proving and building {words[-1]} ', end='')
+                told = True
+            except BaseException:
+                if told:
+                    say('')
+                raise
+    if told:
+        say(f' {"done" if child.returncode == 0 else "failed"}, {time.monotonic() - began:.0f} s')
+    return child.returncode, said.decode(errors='replace')
+
+
+def rt(name, *words):
+    try:
+        status, said = run_rt(name, words)
+    except OSError as error:
+        raise Failed(f'`rt`, of the Rattle kit, cannot be run: {error.strerror}') from error
+    if status != 0:
+        raise Failed(f'{said[-2000:]}`rt {" ".join(words)}` failed')
+
+
+def programs(name, *crates):
+    """Proves and builds programs. rt does not look whether what it built is still there, so a stamp without its file is taken away."""
+    for stamp in (TARGET / 'stamp').glob('*'):
+        if not (TARGET / 'bin' / stamp.name).is_file() and not (TARGET / 'rlib' / f'{stamp.name}.rlib').exists():
+            stamp.unlink()
+    rt(name, 'check', *crates)
+    for crate in crates:
+        if not os.access(TARGET / 'bin' / crate, os.X_OK):
+            raise Failed(f'`rt check {crate}` left no program target/bin/{crate}')
+
+
+def sources_of(crate):
+    """The files that a library is made of, its own and those of the crates below it."""
+    lines = [line.split('#')[0] for line in (TOP / 'crates.txt').read_text().splitlines()]
+    below = {line.split(':')[0].strip(): line.split(':')[1] for line in lines if ':' in line}
+    wanted, seen = [crate], set()
+    while wanted:
+        crate = wanted.pop()
+        if crate in below and crate not in seen:
+            seen.add(crate)
+            wanted += below[crate].split()
+    folders = [TOP / 'crates' / name / part for name in seen for part in ('src', 'specs', 'proofs')]
+    return [TOP / 'crates.txt', *sorted(file for folder in folders for file in folder.rglob('*') if file.is_file())]
+
+
+def state_of(crate, archive):
+    """A sum over the kit's name, the sources and the archive made from them."""
+    kit = subprocess.run(['rt', 'version'], capture_output=True).stdout
+    total = hashlib.sha256(kit)
+    for file in [*sources_of(crate), archive]:
+        content = file.read_bytes()
+        total.update(f'{file.relative_to(TOP)} {len(content)}\n'.encode() + content)
+    return total.hexdigest()
+
+
+def library(name, crate):
+    """Proves a library and writes its archive for C, unless the one that is there was made here from the same sources."""
+    archive = TARGET / 'staticlib' / f'lib{crate}.a'
+    made_from = archive.with_suffix('.from')
+    try:
+        if archive.is_file() and made_from.is_file() and made_from.read_text() == state_of(crate, archive):
+            return
+    except OSError as error:
+        raise Failed(f'{error.filename}: {error.strerror}') from error
+    made_from.unlink(missing_ok=True)
+    rt(name, 'staticlib', crate)
+    made_from.write_text(state_of(crate, archive))
