@@ -4,7 +4,13 @@ ghost use Prim.Native.Nat.{_+_, _*_, _%_, _<_, _≤_, _^_};
 ghost use lib.Dec.{eqb};
 ghost use lib.ListN.{length, getD};
 ghost use Rattle.job.specs.declared.Reading.the-variants.{Refused};
-ghost use Rattle.job.specs.Jobs.{rangesNumber, listAt, batchAt, andThen, listEnd, sectionsOf, jobOf, settingsOf, valuesIn, padded, batchIn};
+ghost use Rattle.job.specs.Jobs.{headNumber, headOf, rangesNumber, listAt, batchAt, andThen, listEnd, sectionsOf, jobOf, settingsOf, valuesIn, padded, batchIn};
+
+// Own address and flags, or the number they were refused with.
+enum Head {
+    Found { own: u16, flags: u8 },
+    Refused(u8),
+}
 
 // Where a section's contents begin, and how many they are: ranges of 4 bytes, or the batch's bytes.
 pub struct Section {
@@ -45,6 +51,32 @@ fn wide(x: u16) -> usize
     ensures { λ r. ⌜ (r ≡ x) × (r < 65536) ⌝ }
 {
     x as usize
+}
+
+// Own address and flags: 50 where they are cut short, 51 for flags with bit 6 or 7 set.
+fn head_of(bytes: &[u8]) -> Head
+    ensures { λ r. ⌜ r ≡ headOf (now (bytes .entry)) ⌝ }
+{
+    if bytes.len() < 3 {
+        return Head::Refused(50);
+    }
+    let flags = bytes[2];
+    if flags > 63 {
+        return Head::Refused(51);
+    }
+    Head::Found {
+        own: octets::word(bytes, 0),
+        flags: flags,
+    }
+}
+
+fn head_number(head: Head) -> u8
+    ensures { λ r. ⌜ r ≡ headNumber head ⌝ }
+{
+    match head {
+        Head::Found { own: _, flags: _ } => 0,
+        Head::Refused(number) => number,
+    }
 }
 
 // The first fault of so many ranges: 50 for one cut short, 20 for one whose low is above its high, else 0.
@@ -138,8 +170,8 @@ fn refusal(taken: Taken) -> Reading
 }
 
 // The job's sections, from byte 3 on: what `list_at` gives for each list and `batch_at` for the batch, then 53 for bytes after the batch.
-fn sections(bytes: &[u8]) -> Reading
-    ensures { λ r. ⌜ r ≡ sectionsOf (now (bytes .entry)) ⌝ }
+fn sections(bytes: &[u8], own: u16, flags: u8) -> Reading
+    ensures { λ r. ⌜ r ≡ sectionsOf own flags (now (bytes .entry)) ⌝ }
 {
     let first = list_at(bytes, 3);
     let Taken::At(source_pass) = first else {
@@ -165,8 +197,8 @@ fn sections(bytes: &[u8]) -> Reading
         return Reading::Refused(53);
     }
     Reading::Job(Job {
-        own: octets::word(bytes, 0),
-        flags: octets::byte(bytes, 2),
+        own: own,
+        flags: flags,
         source_pass: source_pass,
         source_reject: source_reject,
         destination_pass: destination_pass,
@@ -181,13 +213,11 @@ fn sections(bytes: &[u8]) -> Reading
 pub fn read(bytes: &[u8]) -> Reading
     ensures { λ r. ⌜ r ≡ jobOf (now (bytes .entry)) ⌝ }
 {
-    if bytes.len() < 3 {
-        return Reading::Refused(50);
-    }
-    if bytes[2] > 63 {
-        return Reading::Refused(51);
-    }
-    sections(bytes)
+    let head = head_of(bytes);
+    let Head::Found { own, flags } = head else {
+        return Reading::Refused(head_number(head));
+    };
+    sections(bytes, own, flags)
 }
 
 fn is_odd(x: u8) -> bool
