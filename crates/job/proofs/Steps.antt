@@ -3,7 +3,7 @@ use Prim.Native.Nat.{ℕ, _+_, _^_, _≤_, _<_}
 use native.Mathlib.Omega.{arith}
 use mathlib.Core.Bool.{cond}
 use mathlib.Core.List.{List}
-use mathlib.Core.Path.{_≡_, sym, _∙_}
+use mathlib.Core.Path.{_≡_, ap, sym, _∙_}
 use lib.Dec.{ltb}
 use lib.ListN.{length}
 use borrow.Author.Tests.{lt-ltb, le-ltb}
@@ -15,7 +15,7 @@ use Rattle.job.specs.declared.Taken.{Taken}
 use Rattle.job.specs.declared.Taken.the-variants as taken
 use Rattle.job.specs.declared.Reading.{Reading}
 use Rattle.job.specs.declared.Reading.the-variants as reading
-use Rattle.job.specs.Jobs.{headOf, headNumber, listAt, batchAt, andThen, listEnd, sectionsOf, jobOf}
+use Rattle.job.specs.Jobs.{headNumber, takenNumber, headOf, listAt, batchAt, andThen, listEnd, sectionsOf, jobOf}
 use Rattle.job.proofs.Taking.{list-in, batch-in}
 
 -- own address and flags
@@ -46,9 +46,9 @@ pub record Come (job : Reading) (one : Taken) (later : Section → Reading) : Ty
   pub is : job ≡ andThen one later
 
 -- the section is refused, and its number is the job's
-pub refused-here : {job : Reading} {one : Taken} {later : Section → Reading} {number : ℕ} {result : Reading}
-    → Come job one later → one ≡ taken.Refused number → result ≡ andThen one (λ section. reading.Refused 0) → result ≡ job
-refused-here here refused e = e ∙ rw refused (sym (here .is ∙ rw refused))
+pub refused-here : {job : Reading} {one : Taken} {later : Section → Reading} {number given : ℕ}
+    → Come job one later → one ≡ taken.Refused number → given ≡ takenNumber one → reading.Refused given ≡ job
+refused-here here refused e = ap reading.Refused e ∙ rw refused (sym (here .is ∙ rw refused))
 
 -- a section was taken, and the next one begins where it ends
 module _ (bytes : List ℕ) {job : Reading} {one next : Taken} {section : Section} {place : ℕ} (later : Section → Section → Reading) where

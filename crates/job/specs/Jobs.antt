@@ -21,15 +21,23 @@ use Rattle.job.specs.declared.Job.{Job}
 use Rattle.job.specs.declared.Reading.{Reading}
 use Rattle.job.specs.declared.Reading.the-variants as reading
 
+-- the number that each answer has ("Numbers answered"): 0 where it shows own address and flags, a section or a job, else that of the refusal
+abbrev pub headNumber : Head → ℕ
+headNumber (head.Found own flags) = 0
+headNumber (head.Refused number) = number
+
+abbrev pub takenNumber : Taken → ℕ
+takenNumber (taken.At section) = 0
+takenNumber (taken.Refused number) = number
+
+abbrev pub readingNumber : Reading → ℕ
+readingNumber (reading.Job job) = 0
+readingNumber (reading.Refused number) = number
+
 -- own address and flags: 50 where they are cut short, 51 for flags above 63, which have bit 6 or 7 set
 unfoldable pub headOf : List ℕ → Head
 headOf bytes =
     cond (ltb (length bytes) 3) (head.Refused 50) (cond (ltb 63 (at bytes 2)) (head.Refused 51) (head.Found (wordAt bytes 0) (at bytes 2)))
-
--- the number of each case
-abbrev pub headNumber : Head → ℕ
-headNumber (head.Found own flags) = 0
-headNumber (head.Refused number) = number
 
 -- so many ranges of 4 bytes from a place on: 50 where one is cut short, 20 where one that was read has its low above its high, or 0
 unfoldable pub rangesNumber : ℕ → List ℕ → ℕ → ℕ

@@ -3,8 +3,8 @@ ghost use mathlib.Core.Path.{_≡_};
 ghost use Prim.Native.Nat.{_+_, _*_, _%_, _<_, _≤_, _^_};
 ghost use lib.Dec.{eqb};
 ghost use lib.ListN.{length, getD};
-ghost use Rattle.job.specs.declared.Reading.the-variants.{Refused};
-ghost use Rattle.job.specs.Jobs.{headNumber, headOf, rangesNumber, listAt, batchAt, andThen, listEnd, sectionsOf, jobOf, settingsOf, valuesIn, padded, batchIn};
+ghost use Rattle.job.specs.Jobs.{headNumber, takenNumber, readingNumber, headOf, rangesNumber, listAt, batchAt, listEnd, sectionsOf, jobOf};
+ghost use Rattle.job.specs.Jobs.{settingsOf, valuesIn, padded, batchIn};
 
 // Own address and flags, or the number they were refused with.
 enum Head {
@@ -70,12 +70,34 @@ fn head_of(bytes: &[u8]) -> Head
     }
 }
 
+// The number of own address and flags; 0 where they were found.
 fn head_number(head: Head) -> u8
     ensures { λ r. ⌜ r ≡ headNumber head ⌝ }
 {
     match head {
         Head::Found { own: _, flags: _ } => 0,
         Head::Refused(number) => number,
+    }
+}
+
+// The number of a section: 20, 50, 52 or 54 as `list_at` and `batch_at` give it, 0 for one that was taken.
+// Document 01, "Numbers answered".
+pub fn taken_number(taken: Taken) -> u8
+    ensures { λ r. ⌜ r ≡ takenNumber taken ⌝ }
+{
+    match taken {
+        Taken::At(_) => 0,
+        Taken::Refused(number) => number,
+    }
+}
+
+// The number of a job: 20 or 50 to 54 as `read` gives it, 0 for one that has no fault. Document 01, "Numbers answered".
+pub fn reading_number(reading: Reading) -> u8
+    ensures { λ r. ⌜ r ≡ readingNumber reading ⌝ }
+{
+    match reading {
+        Reading::Job(_) => 0,
+        Reading::Refused(number) => number,
     }
 }
 
@@ -159,39 +181,29 @@ fn list_end(section: Section) -> usize
     section.place + 4 * section.count
 }
 
-// The refusal of a section that was not taken.
-fn refusal(taken: Taken) -> Reading
-    ensures { λ r. ⌜ r ≡ andThen taken (λ section. Refused 0) ⌝ }
-{
-    match taken {
-        Taken::At(_) => Reading::Refused(0),
-        Taken::Refused(number) => Reading::Refused(number),
-    }
-}
-
 // The job's sections, from byte 3 on: what `list_at` gives for each list and `batch_at` for the batch, then 53 for bytes after the batch.
 fn sections(bytes: &[u8], own: u16, flags: u8) -> Reading
     ensures { λ r. ⌜ r ≡ sectionsOf own flags (now (bytes .entry)) ⌝ }
 {
     let first = list_at(bytes, 3);
     let Taken::At(source_pass) = first else {
-        return refusal(first);
+        return Reading::Refused(taken_number(first));
     };
     let second = list_at(bytes, list_end(source_pass));
     let Taken::At(source_reject) = second else {
-        return refusal(second);
+        return Reading::Refused(taken_number(second));
     };
     let third = list_at(bytes, list_end(source_reject));
     let Taken::At(destination_pass) = third else {
-        return refusal(third);
+        return Reading::Refused(taken_number(third));
     };
     let fourth = list_at(bytes, list_end(destination_pass));
     let Taken::At(destination_reject) = fourth else {
-        return refusal(fourth);
+        return Reading::Refused(taken_number(fourth));
     };
     let last = batch_at(bytes, list_end(destination_reject));
     let Taken::At(batch) = last else {
-        return refusal(last);
+        return Reading::Refused(taken_number(last));
     };
     if batch.place + batch.count < bytes.len() {
         return Reading::Refused(53);

@@ -16,14 +16,14 @@ use Rattle.job.proofs.sections.Lts as lts
 use Rattle.job.proofs.batch_at.Reads as batch-at-reads
 use Rattle.job.proofs.list_at.Reads as list-at-reads
 use Rattle.job.proofs.list_end.Reads as list-end-reads
-use Rattle.job.proofs.refusal.Reads as refusal-reads
+use Rattle.job.proofs.taken_number.Reads as taken-number-reads
 
 abbrev claims : lts.Claims
 claims = (
   list-at-reads.Asked,
   list-at-reads.Learnt,
-  refusal-reads.Asked,
-  refusal-reads.Learnt,
+  taken-number-reads.Asked,
+  taken-number-reads.Learnt,
   list-end-reads.Asked,
   list-end-reads.Learnt,
   batch-at-reads.Asked,
@@ -129,11 +129,11 @@ enum-known-first c = search needs
 enum-told : tie.Need-enum-told
 enum-told c = search needs
 
-refusal-requires : tie.Need-refusal-requires
-refusal-requires c κs = search needs
+taken-number-requires : tie.Need-taken-number-requires
+taken-number-requires c κs = search needs
 
 returns : tie.Need-returns
-returns c = refused-here (first-step (c .before .before .before)) (c .before .enum-told .given .1) (c .refusal .ensures)
+returns c = refused-here (first-step (c .before .before .before)) (c .before .enum-told .given .1) (c .taken-number .ensures)
 
 list-end-requires : tie.Need-list-end-requires
 list-end-requires c κs =
@@ -148,11 +148,11 @@ enum-known-second c = search needs
 enum-told-2 : tie.Need-enum-told-2
 enum-told-2 c = search needs
 
-refusal-requires-2 : tie.Need-refusal-requires-2
-refusal-requires-2 c κs = search needs
+taken-number-requires-2 : tie.Need-taken-number-requires-2
+taken-number-requires-2 c κs = search needs
 
 returns-2 : tie.Need-returns-2
-returns-2 c = refused-here (second-step (c .before .before .before)) (c .before .enum-told2 .given .1) (c .refusal2 .ensures)
+returns-2 c = refused-here (second-step (c .before .before .before)) (c .before .enum-told2 .given .1) (c .taken-number2 .ensures)
 
 list-end-requires-2 : tie.Need-list-end-requires-2
 list-end-requires-2 c κs =
@@ -168,11 +168,11 @@ enum-known-third c = search needs
 enum-told-3 : tie.Need-enum-told-3
 enum-told-3 c = search needs
 
-refusal-requires-3 : tie.Need-refusal-requires-3
-refusal-requires-3 c κs = search needs
+taken-number-requires-3 : tie.Need-taken-number-requires-3
+taken-number-requires-3 c κs = search needs
 
 returns-3 : tie.Need-returns-3
-returns-3 c = refused-here (third-step (c .before .before .before)) (c .before .enum-told3 .given .1) (c .refusal3 .ensures)
+returns-3 c = refused-here (third-step (c .before .before .before)) (c .before .enum-told3 .given .1) (c .taken-number3 .ensures)
 
 list-end-requires-3 : tie.Need-list-end-requires-3
 list-end-requires-3 c κs =
@@ -188,11 +188,11 @@ enum-known-fourth c = search needs
 enum-told-4 : tie.Need-enum-told-4
 enum-told-4 c = search needs
 
-refusal-requires-4 : tie.Need-refusal-requires-4
-refusal-requires-4 c κs = search needs
+taken-number-requires-4 : tie.Need-taken-number-requires-4
+taken-number-requires-4 c κs = search needs
 
 returns-4 : tie.Need-returns-4
-returns-4 c = refused-here (fourth-step (c .before .before .before)) (c .before .enum-told4 .given .1) (c .refusal4 .ensures)
+returns-4 c = refused-here (fourth-step (c .before .before .before)) (c .before .enum-told4 .given .1) (c .taken-number4 .ensures)
 
 list-end-requires-4 : tie.Need-list-end-requires-4
 list-end-requires-4 c κs =
@@ -208,11 +208,11 @@ enum-known-last c = search needs
 enum-told-5 : tie.Need-enum-told-5
 enum-told-5 c = search needs
 
-refusal-requires-5 : tie.Need-refusal-requires-5
-refusal-requires-5 c κs = search needs
+taken-number-requires-5 : tie.Need-taken-number-requires-5
+taken-number-requires-5 c κs = search needs
 
 returns-5 : tie.Need-returns-5
-returns-5 c = refused-here (last-step (c .before .before .before)) (c .before .enum-told5 .given .1) (c .refusal5 .ensures)
+returns-5 c = refused-here (last-step (c .before .before .before)) (c .before .enum-told5 .given .1) (c .taken-number5 .ensures)
 
 add-if1 : tie.Need-add-if1
 add-if1 c =
@@ -239,31 +239,31 @@ sections-spec =
     list-at-requires
     enum-known-first
     enum-told
-    refusal-requires
+    taken-number-requires
     returns
     list-end-requires
     list-at-requires-2
     enum-known-second
     enum-told-2
-    refusal-requires-2
+    taken-number-requires-2
     returns-2
     list-end-requires-2
     list-at-requires-3
     enum-known-third
     enum-told-3
-    refusal-requires-3
+    taken-number-requires-3
     returns-3
     list-end-requires-3
     list-at-requires-4
     enum-known-fourth
     enum-told-4
-    refusal-requires-4
+    taken-number-requires-4
     returns-4
     list-end-requires-4
     batch-at-requires
     enum-known-last
     enum-told-5
-    refusal-requires-5
+    taken-number-requires-5
     returns-5
     add-if1
     returns-6
