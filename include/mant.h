@@ -69,6 +69,9 @@ enum MantNumber {
     MANT_BATCH_TOO_LONG = 54                /* the batch has more than 16,384 bytes */
 };
 
+/* No number: what delivery and repeat hold in a step that has no answer, MANT_ENDED. */
+#define MANT_NO_NUMBER 255
+
 /* What a number means, in words; "no such number" for any other. */
 static inline const char *mant_meaning(uint8_t number)
 {
@@ -189,7 +192,7 @@ typedef struct MantCursor {
 
 enum MantKind {
     MANT_ANSWERED = 0,        /* the answer for the PDU at the cursor, and the cursor of the next */
-    MANT_ENDED = 1,           /* no more PDU; every field of the answer is 0 */
+    MANT_ENDED = 1,           /* no more PDU, and so no answer: its numbers are MANT_NO_NUMBER, the rest of it is 0 */
     MANT_REFUSED = 2          /* the batch is above 16,384 bytes; both numbers are 54, the rest of the answer is 0 */
 };
 

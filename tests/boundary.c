@@ -104,7 +104,8 @@ static void lists_and_walk(void)
     s = mant_step(node, NO_LISTS, batch, 26, s.next, output, sizeof output);
     CHECK(s.answer.delivery == 0 && s.answer.repeat == 37 && s.answer.delivered_place == 6 && s.answer.delivered_length == 0 && s.next.place == 26);
     s = mant_step(node, NO_LISTS, batch, 26, s.next, output, sizeof output);
-    CHECK(s.kind == MANT_ENDED && s.answer.delivery == 0 && s.next.place == 26 && s.next.ended);
+    CHECK(s.kind == MANT_ENDED && s.answer.delivery == MANT_NO_NUMBER && s.answer.repeat == 255 && s.answer.taken == 0);
+    CHECK(s.next.place == 26 && s.next.ended);
     s = mant_step(node, NO_LISTS, batch, sizeof batch, (MantCursor){3, false}, output, sizeof output);
     CHECK(s.kind == MANT_REFUSED && s.answer.delivery == MANT_BATCH_TOO_LONG && s.answer.repeat == 54 && s.answer.taken == 0 && s.next.place == 3);
 }

@@ -2,6 +2,10 @@
 use mathlib.Core.Path.{sym, _∙_}
 use denote.Ref.{now}
 use Rattle.audit.specs.Promise.{Promised}
+use Rattle.job.proofs.taken_number.Reads as taken-number-reads
+use Rattle.job.proofs.taken_number.Kinds as taken-number-kinds
+use Rattle.job.proofs.reading_number.Reads as reading-number-reads
+use Rattle.job.proofs.reading_number.Kinds as reading-number-kinds
 use Rattle.job.proofs.list_at.Reads as list-at-reads
 use Rattle.job.proofs.list_at.Kinds as list-at-kinds
 use Rattle.job.proofs.batch_at.Reads as batch-at-reads
@@ -14,6 +18,12 @@ use Rattle.job.proofs.values.Reads as values-reads
 use Rattle.job.proofs.values.Kinds as values-kinds
 use Rattle.job.proofs.batch.Reads as batch-reads
 use Rattle.job.proofs.batch.Kinds as batch-kinds
+
+pub taken-number : Promised 0 taken-number-kinds.ps taken-number-kinds.r taken-number-reads.Asked taken-number-reads.Post (λ κs x. x)
+taken-number = (λ κs a. tt, λ κs a x y s t p q. p ∙ sym q)
+
+pub reading-number : Promised 0 reading-number-kinds.ps reading-number-kinds.r reading-number-reads.Asked reading-number-reads.Post (λ κs x. x)
+reading-number = (λ κs a. tt, λ κs a x y s t p q. p ∙ sym q)
 
 pub list-at : Promised 1 list-at-kinds.ps list-at-kinds.r list-at-reads.Asked list-at-reads.Post (λ κs x. x)
 list-at = (λ κs a. tt, λ κs a x y s t p q. p ∙ sym q)

@@ -11,6 +11,7 @@ use Rattle.node.specs.Decision.{Lists, listOrReadingFault, taken}
 use Rattle.node.specs.Answers.{answerOf, outputAfter}
 use Rattle.batch.specs.declared.Cursor.{Cursor}
 use Rattle.batch.specs.declared.Numbers.{Numbers}
+use Rattle.batch.specs.declared.Numbers.the-variants.{Two, Alone, NoAnswer}
 use Rattle.batch.specs.declared.Stepped.{Stepped}
 use Rattle.batch.specs.declared.Stepped.the-variants.{TooLong, Ended, Answered}
 
@@ -39,11 +40,11 @@ unfoldable pub stepOutput : Settings → Lists → List ℕ → Cursor → List 
 stepOutput settings lists batch cursor output =
     cond (isTooLong batch || isDone batch cursor) output (outputAfter settings lists (drop (cursor .place) batch) output)
 
--- the two numbers of each outcome: 54 alone for a batch that is too long, none where no PDU is answered
+-- the numbers of each outcome: the PDU's two; 54 alone for a batch that is too long; no answer, and so no number, where the walk ends
 abbrev pub numbersOf : Stepped → Numbers
-numbersOf TooLong = record { delivery = 54; repeat = 54 }
-numbersOf Ended = record { delivery = 0; repeat = 0 }
-numbersOf (Answered answer cursor) = record { delivery = answer .delivery; repeat = answer .repeat }
+numbersOf (Answered answer cursor) = Two (answer .delivery) (answer .repeat)
+numbersOf TooLong = Alone 54
+numbersOf Ended = NoAnswer
 
 -- the whole walk: 54 for a batch that is too long, else 0; each PDU's offset and answer; the offset of the first byte not taken
 pub record Walk : Type 0 where

@@ -21,10 +21,11 @@ pub enum Stepped {
     TooLong,
 }
 
-// The delivery number and the repeat number.
-pub struct Numbers {
-    pub delivery: u8,
-    pub repeat: u8,
+// The numbers that a step answers with: a PDU's two, one that comes alone, or none.
+pub enum Numbers {
+    Two { delivery: u8, repeat: u8 },
+    Alone(u8),
+    NoAnswer,
 }
 
 impl Cursor {
@@ -83,23 +84,17 @@ pub fn step<'a>(
     Stepped::Answered(answer, next)
 }
 
-// The two numbers that go with a step: the answer's; 54 twice for a batch that is too long; 0 twice for a walk that ended. There 0 does not mean
-// done, so ask first which case it is. Document 01, "A batch", and "Numbers answered", 54.
+// The numbers that a step answers with: the PDU's two; 54 alone for a batch that is too long; none for a walk that ended, since that is no answer.
+// Document 01, "A batch", and "Numbers answered", 54.
 pub fn numbers_of(stepped: Stepped) -> Numbers
     ensures { λ r. ⌜ r ≡ numbersOf stepped ⌝ }
 {
     match stepped {
-        Stepped::Answered(answer, _) => Numbers {
+        Stepped::Answered(answer, _) => Numbers::Two {
             delivery: answer.delivery,
             repeat: answer.repeat,
         },
-        Stepped::Ended => Numbers {
-            delivery: 0,
-            repeat: 0,
-        },
-        Stepped::TooLong => Numbers {
-            delivery: 54,
-            repeat: 54,
-        },
+        Stepped::Ended => Numbers::NoAnswer,
+        Stepped::TooLong => Numbers::Alone(54),
     }
 }

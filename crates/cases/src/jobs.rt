@@ -1,6 +1,5 @@
 // Jobs, numbers 50 to 54, and 20.
 use crate::tally::Tally;
-use job::Reading;
 
 pub fn cases(mut tally: Tally) -> Tally {
     tally = reads(tally, b"job, empty:", b"", 50);
@@ -41,13 +40,6 @@ pub fn cases(mut tally: Tally) -> Tally {
 }
 
 fn reads(tally: Tally, name: &[u8], bytes: &[u8], expected: u8) -> Tally {
-    let number = number_of(job::read(bytes));
+    let number = job::reading_number(job::read(bytes));
     tally.one(name, number as u64, number == expected)
-}
-
-fn number_of(reading: Reading) -> u8 {
-    match reading {
-        Reading::Job(_) => 0,
-        Reading::Refused(number) => number,
-    }
 }

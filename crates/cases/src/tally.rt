@@ -11,6 +11,12 @@ impl Tally {
         Tally { cases: 0, wrong: 0 }
     }
 
+    // Prints a case that answered no number.
+    pub fn none(self, name: &[u8], right: bool) -> Tally {
+        io::write_all(1, name);
+        self.ended(right)
+    }
+
     // Prints a case that answered one number.
     pub fn one(self, name: &[u8], number: u64, right: bool) -> Tally {
         io::write_all(1, name);

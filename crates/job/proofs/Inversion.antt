@@ -11,14 +11,45 @@ use Rattle.octets.specs.Octets.{at, wordAt}
 use Rattle.octets.proofs.Numbering.{orElse-later}
 use Rattle.octets.proofs.Words.{Bytes}
 use Rattle.lists.specs.Lists.{four, firstFault}
+use Rattle.job.specs.declared.Head.{Head}
+use Rattle.job.specs.declared.Head.the-variants as head
 use Rattle.job.specs.declared.Section.{Section}
 use Rattle.job.specs.declared.Taken.{Taken}
 use Rattle.job.specs.declared.Taken.the-variants as taken
 use Rattle.job.specs.declared.Job.{Job}
 use Rattle.job.specs.declared.Reading.{Reading}
 use Rattle.job.specs.declared.Reading.the-variants as reading
-use Rattle.job.specs.Jobs.{listAt, batchAt, andThen, listEnd, sectionsOf, jobOf, listsIn}
+use Rattle.job.specs.Jobs.{headOf, listAt, batchAt, andThen, listEnd, sectionsOf, afterHead, jobOf, listsIn}
 use Rattle.job.proofs.Taking.{ListIn, list-in, list-right, batch-in}
+
+-- what follows of own address and flags that were found
+record HeadIn (bytes : List ℕ) (own flags : ℕ) : Type 0 where
+  is-own : own ≡ wordAt bytes 0
+  is-flags : flags ≡ at bytes 2
+  known : flags ≤ 63
+
+head-in : (bytes : List ℕ) (own flags : ℕ) → headOf bytes ≡ head.Found own flags → HeadIn bytes own flags
+unfolding headOf
+head-in bytes own flags e = go (ltb (length bytes) 3) (ltb 63 (at bytes 2)) refl e
+  where
+    go : (short wrong : Bool) → ltb 63 (at bytes 2) ≡ wrong
+        → cond short (head.Refused 50) (cond wrong (head.Refused 51) (head.Found (wordAt bytes 0) (at bytes 2))) ≡ head.Found own flags → HeadIn bytes own flags
+    go true wrong f e = let z : _≡_ {A = ℕ} 0 1 = cc in absurd (omega arith)
+    go false true f e = let z : _≡_ {A = ℕ} 0 1 = cc in absurd (omega arith)
+    go false false f e =
+        let is-flags : flags ≡ at bytes 2 = cc in
+        record { is-own = cc; is-flags = is-flags; known = omega (arith, ltb-false 63 (at bytes 2) f) }
+
+-- own address and flags that were found on the way to a job
+record Began (bytes : List ℕ) (one : Head) (job : Job) : Type 0 where
+  own : ℕ
+  flags : ℕ
+  is : one ≡ head.Found own flags
+  on : sectionsOf own flags bytes ≡ reading.Job job
+
+began : (bytes : List ℕ) (one : Head) (job : Job) → afterHead one bytes ≡ reading.Job job → Began bytes one job
+began bytes (head.Found own flags) job e = record { own = own; flags = flags; is = refl; on = e }
+began bytes (head.Refused number) job e = let z : _≡_ {A = ℕ} 0 1 = cc in absurd (omega arith)
 
 passed : (test : Bool) (number : ℕ) (later : Reading) (job : Job) → cond test (reading.Refused number) later ≡ reading.Job job → (test ≡ false) × (later ≡ reading.Job job)
 passed true number later job e = let z : _≡_ {A = ℕ} 0 1 = cc in absurd (omega arith)
@@ -52,9 +83,9 @@ pub record JobIn (bytes : List ℕ) (job : Job) : Type 0 where
 pub job-in : (bytes : List ℕ) (job : Job) → jobOf bytes ≡ reading.Job job → JobIn bytes job
 unfolding jobOf sectionsOf
 job-in bytes job e =
-    let t1 = passed (ltb (length bytes) 3) 50 _ job e in
-    let t2 = passed (ltb 63 (at bytes 2)) 51 _ job (t1 .1) in
-    let a = went (listAt bytes 3) _ job (t2 .1) in
+    let start = began bytes (headOf bytes) job e in
+    let found = head-in bytes (start .own) (start .flags) (start .is) in
+    let a = went (listAt bytes 3) _ job (start .on) in
     let b = went (listAt bytes (listEnd (a .it))) _ job (a .on) in
     let c = went (listAt bytes (listEnd (b .it))) _ job (b .on) in
     let d = went (listAt bytes (listEnd (c .it))) _ job (c .on) in
@@ -64,9 +95,9 @@ job-in bytes job e =
     let left : length bytes ≤ e .it .place + e .it .count = ltb-false _ _ (t3 .0) in
     rw (same-job _ _ (t3 .1))
     (record {
-      own = refl;
-      flags = refl;
-      known = ltb-false 63 (at bytes 2) (t2 .0);
+      own = found .is-own;
+      flags = found .is-flags;
+      known = found .known;
       source-pass = list-in bytes _ (a .it) (a .is);
       source-reject = list-in bytes _ (b .it) (b .is);
       destination-pass = list-in bytes _ (c .it) (c .is);

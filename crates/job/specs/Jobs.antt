@@ -12,12 +12,32 @@ use Rattle.pdu.specs.Parts.{addressesAt}
 use Rattle.lists.specs.Lists.{valueLimit}
 use Rattle.node.specs.declared.Settings.{Settings}
 use Rattle.node.specs.Decision.{Lists}
+use Rattle.job.specs.declared.Head.{Head}
+use Rattle.job.specs.declared.Head.the-variants as head
 use Rattle.job.specs.declared.Section.{Section}
 use Rattle.job.specs.declared.Taken.{Taken}
 use Rattle.job.specs.declared.Taken.the-variants as taken
 use Rattle.job.specs.declared.Job.{Job}
 use Rattle.job.specs.declared.Reading.{Reading}
 use Rattle.job.specs.declared.Reading.the-variants as reading
+
+-- the number that each answer has ("Numbers answered"): 0 where it shows own address and flags, a section or a job, else that of the refusal
+abbrev pub headNumber : Head → ℕ
+headNumber (head.Found own flags) = 0
+headNumber (head.Refused number) = number
+
+abbrev pub takenNumber : Taken → ℕ
+takenNumber (taken.At section) = 0
+takenNumber (taken.Refused number) = number
+
+abbrev pub readingNumber : Reading → ℕ
+readingNumber (reading.Job job) = 0
+readingNumber (reading.Refused number) = number
+
+-- own address and flags: 50 where they are cut short, 51 for flags above 63, which have bit 6 or 7 set
+unfoldable pub headOf : List ℕ → Head
+headOf bytes =
+    cond (ltb (length bytes) 3) (head.Refused 50) (cond (ltb 63 (at bytes 2)) (head.Refused 51) (head.Found (wordAt bytes 0) (at bytes 2)))
 
 -- so many ranges of 4 bytes from a place on: 50 where one is cut short, 20 where one that was read has its low above its high, or 0
 unfoldable pub rangesNumber : ℕ → List ℕ → ℕ → ℕ
@@ -61,19 +81,23 @@ abbrev pub listEnd : Section → ℕ
 listEnd section = section .place + 4 * section .count
 
 -- from byte 3 on: four list sections, the batch; nothing after it
-unfoldable pub sectionsOf : List ℕ → Reading
-sectionsOf bytes =
+unfoldable pub sectionsOf : ℕ → ℕ → List ℕ → Reading
+sectionsOf own flags bytes =
     andThen (listAt bytes 3)
     (λ a. andThen (listAt bytes (listEnd a))
     (λ b. andThen (listAt bytes (listEnd b))
     (λ c. andThen (listAt bytes (listEnd c))
     (λ d. andThen (batchAt bytes (listEnd d))
     (λ e. cond (ltb (e .place + e .count) (length bytes)) (reading.Refused 53)
-    (reading.Job (record { own = wordAt bytes 0; flags = at bytes 2; «source_pass» = a; «source_reject» = b; «destination_pass» = c; «destination_reject» = d; batch = e })))))))
+    (reading.Job (record { own = own; flags = flags; «source_pass» = a; «source_reject» = b; «destination_pass» = c; «destination_reject» = d; batch = e })))))))
 
--- own address and flags, then the sections; bit 6 or 7 is set in flags above 63
+-- what follows own address and flags, or their refusal
+abbrev pub afterHead : Head → List ℕ → Reading
+afterHead (head.Found own flags) bytes = sectionsOf own flags bytes
+afterHead (head.Refused number) bytes = reading.Refused number
+
 unfoldable pub jobOf : List ℕ → Reading
-jobOf bytes = cond (ltb (length bytes) 3) (reading.Refused 50) (cond (ltb 63 (at bytes 2)) (reading.Refused 51) (sectionsOf bytes))
+jobOf bytes = afterHead (headOf bytes) bytes
 
 -- the flags: bit 0 echo, 1 repeating, 2 source pass on, 3 source reject on, 4 destination pass on, 5 destination reject on
 unfoldable pub settingsOf : Job → Settings

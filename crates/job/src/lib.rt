@@ -3,8 +3,14 @@ ghost use mathlib.Core.Path.{_≡_};
 ghost use Prim.Native.Nat.{_+_, _*_, _%_, _<_, _≤_, _^_};
 ghost use lib.Dec.{eqb};
 ghost use lib.ListN.{length, getD};
-ghost use Rattle.job.specs.declared.Reading.the-variants.{Refused};
-ghost use Rattle.job.specs.Jobs.{rangesNumber, listAt, batchAt, andThen, listEnd, sectionsOf, jobOf, settingsOf, valuesIn, padded, batchIn};
+ghost use Rattle.job.specs.Jobs.{headNumber, takenNumber, readingNumber, headOf, rangesNumber, listAt, batchAt, listEnd, sectionsOf, jobOf};
+ghost use Rattle.job.specs.Jobs.{settingsOf, valuesIn, padded, batchIn};
+
+// Own address and flags, or the number they were refused with.
+enum Head {
+    Found { own: u16, flags: u8 },
+    Refused(u8),
+}
 
 // Where a section's contents begin, and how many they are: ranges of 4 bytes, or the batch's bytes.
 pub struct Section {
@@ -45,6 +51,54 @@ fn wide(x: u16) -> usize
     ensures { λ r. ⌜ (r ≡ x) × (r < 65536) ⌝ }
 {
     x as usize
+}
+
+// Own address and flags: 50 where they are cut short, 51 for flags with bit 6 or 7 set.
+fn head_of(bytes: &[u8]) -> Head
+    ensures { λ r. ⌜ r ≡ headOf (now (bytes .entry)) ⌝ }
+{
+    if bytes.len() < 3 {
+        return Head::Refused(50);
+    }
+    let flags = bytes[2];
+    if flags > 63 {
+        return Head::Refused(51);
+    }
+    Head::Found {
+        own: octets::word(bytes, 0),
+        flags: flags,
+    }
+}
+
+// The number of own address and flags; 0 where they were found.
+fn head_number(head: Head) -> u8
+    ensures { λ r. ⌜ r ≡ headNumber head ⌝ }
+{
+    match head {
+        Head::Found { own: _, flags: _ } => 0,
+        Head::Refused(number) => number,
+    }
+}
+
+// The number of a section: 20, 50, 52 or 54 as `list_at` and `batch_at` give it, 0 for one that was taken.
+// Document 01, "Numbers answered".
+pub fn taken_number(taken: Taken) -> u8
+    ensures { λ r. ⌜ r ≡ takenNumber taken ⌝ }
+{
+    match taken {
+        Taken::At(_) => 0,
+        Taken::Refused(number) => number,
+    }
+}
+
+// The number of a job: 20 or 50 to 54 as `read` gives it, 0 for one that has no fault. Document 01, "Numbers answered".
+pub fn reading_number(reading: Reading) -> u8
+    ensures { λ r. ⌜ r ≡ readingNumber reading ⌝ }
+{
+    match reading {
+        Reading::Job(_) => 0,
+        Reading::Refused(number) => number,
+    }
 }
 
 // The first fault of so many ranges: 50 for one cut short, 20 for one whose low is above its high, else 0.
@@ -127,46 +181,36 @@ fn list_end(section: Section) -> usize
     section.place + 4 * section.count
 }
 
-// The refusal of a section that was not taken.
-fn refusal(taken: Taken) -> Reading
-    ensures { λ r. ⌜ r ≡ andThen taken (λ section. Refused 0) ⌝ }
-{
-    match taken {
-        Taken::At(_) => Reading::Refused(0),
-        Taken::Refused(number) => Reading::Refused(number),
-    }
-}
-
 // The job's sections, from byte 3 on: what `list_at` gives for each list and `batch_at` for the batch, then 53 for bytes after the batch.
-fn sections(bytes: &[u8]) -> Reading
-    ensures { λ r. ⌜ r ≡ sectionsOf (now (bytes .entry)) ⌝ }
+fn sections(bytes: &[u8], own: u16, flags: u8) -> Reading
+    ensures { λ r. ⌜ r ≡ sectionsOf own flags (now (bytes .entry)) ⌝ }
 {
     let first = list_at(bytes, 3);
     let Taken::At(source_pass) = first else {
-        return refusal(first);
+        return Reading::Refused(taken_number(first));
     };
     let second = list_at(bytes, list_end(source_pass));
     let Taken::At(source_reject) = second else {
-        return refusal(second);
+        return Reading::Refused(taken_number(second));
     };
     let third = list_at(bytes, list_end(source_reject));
     let Taken::At(destination_pass) = third else {
-        return refusal(third);
+        return Reading::Refused(taken_number(third));
     };
     let fourth = list_at(bytes, list_end(destination_pass));
     let Taken::At(destination_reject) = fourth else {
-        return refusal(fourth);
+        return Reading::Refused(taken_number(fourth));
     };
     let last = batch_at(bytes, list_end(destination_reject));
     let Taken::At(batch) = last else {
-        return refusal(last);
+        return Reading::Refused(taken_number(last));
     };
     if batch.place + batch.count < bytes.len() {
         return Reading::Refused(53);
     }
     Reading::Job(Job {
-        own: octets::word(bytes, 0),
-        flags: octets::byte(bytes, 2),
+        own: own,
+        flags: flags,
         source_pass: source_pass,
         source_reject: source_reject,
         destination_pass: destination_pass,
@@ -181,13 +225,11 @@ fn sections(bytes: &[u8]) -> Reading
 pub fn read(bytes: &[u8]) -> Reading
     ensures { λ r. ⌜ r ≡ jobOf (now (bytes .entry)) ⌝ }
 {
-    if bytes.len() < 3 {
-        return Reading::Refused(50);
-    }
-    if bytes[2] > 63 {
-        return Reading::Refused(51);
-    }
-    sections(bytes)
+    let head = head_of(bytes);
+    let Head::Found { own, flags } = head else {
+        return Reading::Refused(head_number(head));
+    };
+    sections(bytes, own, flags)
 }
 
 fn is_odd(x: u8) -> bool

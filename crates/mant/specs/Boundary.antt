@@ -155,15 +155,19 @@ cursorFromC cursor = record { place = cursor .place; ended = cursor .ended }
 abbrev pub cursorInC : Cursor → MantCursor
 cursorInC cursor = record { place = cursor .place; ended = cursor .ended }
 
--- a number that comes alone, given twice
+-- a number that comes alone, in both fields for numbers
 abbrev pub numberAlone : ℕ → MantAnswer
 numberAlone number =
     record { delivery = number; repeat = number; «delivered_place» = 0; «delivered_length» = 0; «repeated_length» = 0; taken = 0 }
 
+-- a walk that ends has no answer and so no number; C's two fields for numbers are there all the same, and hold 255, which 01 gives to nothing
+abbrev pub noNumber : ℕ
+noNumber = 255
+
 -- a step ("A batch"): kind 0 with an answer; 1 where the walk ends with no answer; 2 with 54 alone. After 1 and 2 the cursor stays and has ended
 abbrev pub stepInC : MantCursor → Stepped → MantStep
 stepInC cursor (Answered answer next) = record { kind = 0; answer = answerInC answer; next = cursorInC next }
-stepInC cursor Ended = record { kind = 1; answer = numberAlone 0; next = record { place = cursor .place; ended = true } }
+stepInC cursor Ended = record { kind = 1; answer = numberAlone noNumber; next = record { place = cursor .place; ended = true } }
 stepInC cursor TooLong = record { kind = 2; answer = numberAlone 54; next = record { place = cursor .place; ended = true } }
 
 -- a bound: the value, that it is too large, or number 10 ("Numbers answered"); the value is 0 where there is none

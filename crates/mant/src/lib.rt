@@ -92,8 +92,9 @@ pub struct MantCursor {
     pub ended: bool,
 }
 
-// What one step of a walk finds. Kind 0: a PDU's answer and the cursor of the next. Kind 1: no more PDU. Kind 2: the batch is too long, both
-// numbers are 54. With kinds 1 and 2 the rest of the answer is 0 and the next cursor is the one given, ended.
+// What one step of a walk finds. Kind 0: a PDU's answer and the cursor of the next. Kind 1: no more PDU, so no answer; its fields for numbers hold
+// 255, which is no number. Kind 2: the batch is too long, both numbers are 54. With kinds 1 and 2 the rest of the answer is 0 and the next cursor
+// is the one given, ended.
 #[repr(C)]
 pub struct MantStep {
     pub kind: u8,

@@ -17,6 +17,9 @@ use pdu::Written;
 ghost use mathlib.Core.Path.{_≡_};
 ghost use Rattle.mant.specs.Boundary.{hasDestination, destinationAddress, refusedHeader, shownHeader, writtenInC, destinationFromC, freshFromC, nodeFromC, answerInC, cursorInC, cursorFromC, numberAlone, stepInC, boundInC};
 
+// What the fields for numbers hold where there is no answer.
+const NO_NUMBER: u8 = 255;
+
 pub(crate) fn shown_header(header: Header) -> MantHeader
     ensures { λ r. ⌜ r ≡ shownHeader header ⌝ }
 {
@@ -193,7 +196,7 @@ pub(crate) fn step_in_c(cursor: MantCursor, stepped: Stepped) -> MantStep
         },
         Stepped::Ended => MantStep {
             kind: 1,
-            answer: number_alone(0),
+            answer: number_alone(NO_NUMBER),
             next: ended,
         },
         Stepped::TooLong => MantStep {

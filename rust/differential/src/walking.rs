@@ -86,7 +86,7 @@ fn compare_walk(case: &Case, input: &Input, output: &Output) -> Compared {
     }
     input.same("end of the walk", cursor.place, walked.end)?;
     let last = case.step(cursor, &mut library);
-    input.same("last step", last, ended(raw::ENDED, 0, cursor))?;
+    input.same("last step", last, ended(raw::ENDED, raw::NO_NUMBER, cursor))?;
     input.same_bytes("output of the walk", library.all(), reference.all())
 }
 
@@ -156,7 +156,7 @@ fn compare_any(random: &mut Random, case: &Case, input: &Input, output: &Output)
     let wanted = if length > MOST_BATCH {
         ended(raw::REFUSED, BATCH_SIZE, cursor)
     } else if cursor.ended || cursor.place >= length {
-        ended(raw::ENDED, 0, cursor)
+        ended(raw::ENDED, raw::NO_NUMBER, cursor)
     } else {
         let rest = &case.batch[cursor.place..];
         let heard = hear(&case.settings, &case.four.lists(), rest, reference.room());

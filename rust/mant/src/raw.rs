@@ -122,6 +122,9 @@ pub const ENDED: u8 = 1;
 /// `MANT_REFUSED`.
 pub const REFUSED: u8 = 2;
 
+/// `MANT_NO_NUMBER`.
+pub const NO_NUMBER: u8 = 255;
+
 // The sizes that the header asserts.
 const _: () = {
     assert!(size_of::<Header>() == 40);

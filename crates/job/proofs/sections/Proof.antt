@@ -3,8 +3,10 @@ use mathlib.Core.List.{List}
 use denote.Ref.{now}
 use lib.ListN.{length}
 use Rattle.job.specs.declared.Section.{Section}
+use Rattle.job.specs.declared.Reading.{Reading}
 use Rattle.job.specs.Jobs.{sectionsOf}
-use Rattle.job.proofs.Steps.{Come, afterFirst, afterSecond, afterThird, afterFourth, afterBatch, begun, next-list, next-batch, end-fits, batch-end-fits, left-over, whole, refused-here}
+use Rattle.job.proofs.Steps.{Come, refused-here, next-list, next-batch, end-fits, batch-end-fits}
+use Rattle.job.proofs.Steps.{afterFirst, afterSecond, afterThird, afterFourth, afterBatch, begun, left-over, whole}
 use native.Mathlib.Omega.{arith}
 use borrow.Author.Needs.{needs}
 use Rattle.job.proofs.sections.Statement.{statement}
@@ -14,24 +16,18 @@ use Rattle.job.proofs.sections.Lts as lts
 use Rattle.job.proofs.batch_at.Reads as batch-at-reads
 use Rattle.job.proofs.list_at.Reads as list-at-reads
 use Rattle.job.proofs.list_end.Reads as list-end-reads
-use Rattle.job.proofs.refusal.Reads as refusal-reads
-use Rattle.octets.proofs.byte.Reads as byte-reads
-use Rattle.octets.proofs.word.Reads as word-reads
+use Rattle.job.proofs.taken_number.Reads as taken-number-reads
 
 abbrev claims : lts.Claims
 claims = (
   list-at-reads.Asked,
   list-at-reads.Learnt,
-  refusal-reads.Asked,
-  refusal-reads.Learnt,
+  taken-number-reads.Asked,
+  taken-number-reads.Learnt,
   list-end-reads.Asked,
   list-end-reads.Learnt,
   batch-at-reads.Asked,
   batch-at-reads.Learnt,
-  word-reads.Asked,
-  word-reads.Learnt,
-  byte-reads.Asked,
-  byte-reads.Learnt,
 )
 
 -- the five places where a section has been looked at, and the way back from each to the one before it
@@ -62,9 +58,15 @@ to-third c = c .before .before .before .before .before
 abbrev to-fourth : Last → Fourth
 to-fourth c = c .before .before .before .before .before
 
--- the bytes, and the section taken on the way to each place
+-- the bytes, own address and flags, and the section taken on the way to each place
 abbrev bytes-of : First → List ℕ
 bytes-of c = now (c .before .before .args .bytes)
+
+abbrev own : First → ℕ
+own c = c .before .before .args .own
+
+abbrev flags : First → ℕ
+flags c = c .before .before .args .flags
 
 abbrev source-pass : Second → Section
 source-pass c = c .before .before .before .first .given .0 .0
@@ -81,20 +83,42 @@ destination-reject c = c .before .before .before .fourth .given .0 .0
 few-bytes : (c : First) → length (bytes-of c) < 2 ^ 64
 few-bytes c = omega arith
 
-first-step : (c : First) → Come (sectionsOf (bytes-of c)) (c .list-at .result) (afterFirst (bytes-of c))
-first-step c = begun (bytes-of c) (c .list-at .ensures)
+abbrev job-of : First → Reading
+job-of c = sectionsOf (own c) (flags c) (bytes-of c)
 
-second-step : (c : Second) → let bytes = bytes-of (to-first c) in Come (sectionsOf bytes) (c .list-at2 .result) (afterSecond bytes (source-pass c))
-second-step c = next-list _ (afterSecond (bytes-of (to-first c))) (first-step (to-first c)) (c .before .before .before .first .given .1) (c .before .list-end .ensures) (c .list-at2 .ensures)
+first-step : (c : First) → Come (job-of c) (c .list-at .result) (afterFirst (own c) (flags c) (bytes-of c))
+first-step c = begun (own c) (flags c) (bytes-of c) (c .list-at .ensures)
 
-third-step : (c : Third) → let s = to-second c in let bytes = bytes-of (to-first s) in Come (sectionsOf bytes) (c .list-at3 .result) (afterThird bytes (source-pass s) (source-reject c))
-third-step c = let s = to-second c in next-list _ (afterThird (bytes-of (to-first s)) (source-pass s)) (second-step s) (c .before .before .before .second .given .1) (c .before .list-end2 .ensures) (c .list-at3 .ensures)
+abbrev left-second : (c : Second) → Section → Section → Reading
+left-second c = let f = to-first c in afterSecond (own f) (flags f) (bytes-of f)
 
-fourth-step : (c : Fourth) → let t = to-third c in let s = to-second t in let bytes = bytes-of (to-first s) in Come (sectionsOf bytes) (c .list-at4 .result) (afterFourth bytes (source-pass s) (source-reject t) (destination-pass c))
-fourth-step c = let t = to-third c in let s = to-second t in next-list _ (afterFourth (bytes-of (to-first s)) (source-pass s) (source-reject t)) (third-step t) (c .before .before .before .third .given .1) (c .before .list-end3 .ensures) (c .list-at4 .ensures)
+second-step : (c : Second) → Come (job-of (to-first c)) (c .list-at2 .result) (left-second c (source-pass c))
+second-step c =
+    next-list _ (left-second c) (first-step (to-first c)) (c .before .before .before .first .given .1) (c .before .list-end .ensures) (c .list-at2 .ensures)
 
-last-step : (c : Last) → let f = to-fourth c in let t = to-third f in let s = to-second t in let bytes = bytes-of (to-first s) in Come (sectionsOf bytes) (c .batch-at .result) (afterBatch bytes (source-pass s) (source-reject t) (destination-pass f) (destination-reject c))
-last-step c = let f = to-fourth c in let t = to-third f in let s = to-second t in next-batch _ (afterBatch (bytes-of (to-first s)) (source-pass s) (source-reject t) (destination-pass f)) (fourth-step f) (c .before .before .before .fourth .given .1) (c .before .list-end4 .ensures) (c .batch-at .ensures)
+abbrev left-third : (c : Third) → Section → Section → Reading
+left-third c = let s = to-second c in let f = to-first s in afterThird (own f) (flags f) (bytes-of f) (source-pass s)
+
+third-step : (c : Third) → Come (job-of (to-first (to-second c))) (c .list-at3 .result) (left-third c (source-reject c))
+third-step c =
+    next-list _ (left-third c) (second-step (to-second c)) (c .before .before .before .second .given .1) (c .before .list-end2 .ensures) (c .list-at3 .ensures)
+
+abbrev left-fourth : (c : Fourth) → Section → Section → Reading
+left-fourth c =
+    let t = to-third c in let s = to-second t in let f = to-first s in afterFourth (own f) (flags f) (bytes-of f) (source-pass s) (source-reject t)
+
+fourth-step : (c : Fourth) → Come (job-of (to-first (to-second (to-third c)))) (c .list-at4 .result) (left-fourth c (destination-pass c))
+fourth-step c =
+    next-list _ (left-fourth c) (third-step (to-third c)) (c .before .before .before .third .given .1) (c .before .list-end3 .ensures) (c .list-at4 .ensures)
+
+abbrev left-last : (c : Last) → Section → Section → Reading
+left-last c =
+    let d = to-fourth c in let t = to-third d in let s = to-second t in let f = to-first s in
+    afterBatch (own f) (flags f) (bytes-of f) (source-pass s) (source-reject t) (destination-pass d)
+
+last-step : (c : Last) → Come (job-of (to-first (to-second (to-third (to-fourth c))))) (c .batch-at .result) (left-last c (destination-reject c))
+last-step c =
+    next-batch _ (left-last c) (fourth-step (to-fourth c)) (c .before .before .before .fourth .given .1) (c .before .list-end4 .ensures) (c .batch-at .ensures)
 
 list-at-requires : tie.Need-list-at-requires
 list-at-requires c κs = search needs
@@ -105,14 +129,15 @@ enum-known-first c = search needs
 enum-told : tie.Need-enum-told
 enum-told c = search needs
 
-refusal-requires : tie.Need-refusal-requires
-refusal-requires c κs = search needs
+taken-number-requires : tie.Need-taken-number-requires
+taken-number-requires c κs = search needs
 
 returns : tie.Need-returns
-returns c = refused-here (first-step (c .before .before .before)) (c .before .enum-told .given .1) (c .refusal .ensures)
+returns c = refused-here (first-step (c .before .before .before)) (c .before .enum-told .given .1) (c .taken-number .ensures)
 
 list-end-requires : tie.Need-list-end-requires
-list-end-requires c κs = end-fits _ 3 (few-bytes (c .before .before .before)) (c .before .before .before .list-at .ensures) (c .before .first .given .1)
+list-end-requires c κs =
+    end-fits _ 3 (few-bytes (c .before .before .before)) (c .before .before .before .list-at .ensures) (c .before .first .given .1)
 
 list-at-requires-2 : tie.Need-list-at-requires-2
 list-at-requires-2 c κs = search needs
@@ -123,14 +148,16 @@ enum-known-second c = search needs
 enum-told-2 : tie.Need-enum-told-2
 enum-told-2 c = search needs
 
-refusal-requires-2 : tie.Need-refusal-requires-2
-refusal-requires-2 c κs = search needs
+taken-number-requires-2 : tie.Need-taken-number-requires-2
+taken-number-requires-2 c κs = search needs
 
 returns-2 : tie.Need-returns-2
-returns-2 c = refused-here (second-step (c .before .before .before)) (c .before .enum-told2 .given .1) (c .refusal2 .ensures)
+returns-2 c = refused-here (second-step (c .before .before .before)) (c .before .enum-told2 .given .1) (c .taken-number2 .ensures)
 
 list-end-requires-2 : tie.Need-list-end-requires-2
-list-end-requires-2 c κs = end-fits _ (c .before .before .before .before .list-end .result) (few-bytes (to-first (c .before .before .before))) (c .before .before .before .list-at2 .ensures) (c .before .second .given .1)
+list-end-requires-2 c κs =
+    let s = c .before .before .before in
+    end-fits _ (s .before .list-end .result) (few-bytes (to-first s)) (s .list-at2 .ensures) (c .before .second .given .1)
 
 list-at-requires-3 : tie.Need-list-at-requires-3
 list-at-requires-3 c κs = search needs
@@ -141,14 +168,16 @@ enum-known-third c = search needs
 enum-told-3 : tie.Need-enum-told-3
 enum-told-3 c = search needs
 
-refusal-requires-3 : tie.Need-refusal-requires-3
-refusal-requires-3 c κs = search needs
+taken-number-requires-3 : tie.Need-taken-number-requires-3
+taken-number-requires-3 c κs = search needs
 
 returns-3 : tie.Need-returns-3
-returns-3 c = refused-here (third-step (c .before .before .before)) (c .before .enum-told3 .given .1) (c .refusal3 .ensures)
+returns-3 c = refused-here (third-step (c .before .before .before)) (c .before .enum-told3 .given .1) (c .taken-number3 .ensures)
 
 list-end-requires-3 : tie.Need-list-end-requires-3
-list-end-requires-3 c κs = end-fits _ (c .before .before .before .before .list-end2 .result) (few-bytes (to-first (to-second (c .before .before .before)))) (c .before .before .before .list-at3 .ensures) (c .before .third .given .1)
+list-end-requires-3 c κs =
+    let t = c .before .before .before in
+    end-fits _ (t .before .list-end2 .result) (few-bytes (to-first (to-second t))) (t .list-at3 .ensures) (c .before .third .given .1)
 
 list-at-requires-4 : tie.Need-list-at-requires-4
 list-at-requires-4 c κs = search needs
@@ -159,14 +188,16 @@ enum-known-fourth c = search needs
 enum-told-4 : tie.Need-enum-told-4
 enum-told-4 c = search needs
 
-refusal-requires-4 : tie.Need-refusal-requires-4
-refusal-requires-4 c κs = search needs
+taken-number-requires-4 : tie.Need-taken-number-requires-4
+taken-number-requires-4 c κs = search needs
 
 returns-4 : tie.Need-returns-4
-returns-4 c = refused-here (fourth-step (c .before .before .before)) (c .before .enum-told4 .given .1) (c .refusal4 .ensures)
+returns-4 c = refused-here (fourth-step (c .before .before .before)) (c .before .enum-told4 .given .1) (c .taken-number4 .ensures)
 
 list-end-requires-4 : tie.Need-list-end-requires-4
-list-end-requires-4 c κs = end-fits _ (c .before .before .before .before .list-end3 .result) (few-bytes (to-first (to-second (to-third (c .before .before .before))))) (c .before .before .before .list-at4 .ensures) (c .before .fourth .given .1)
+list-end-requires-4 c κs =
+    let d = c .before .before .before in
+    end-fits _ (d .before .list-end3 .result) (few-bytes (to-first (to-second (to-third d)))) (d .list-at4 .ensures) (c .before .fourth .given .1)
 
 batch-at-requires : tie.Need-batch-at-requires
 batch-at-requires c κs = search needs
@@ -177,26 +208,29 @@ enum-known-last c = search needs
 enum-told-5 : tie.Need-enum-told-5
 enum-told-5 c = search needs
 
-refusal-requires-5 : tie.Need-refusal-requires-5
-refusal-requires-5 c κs = search needs
+taken-number-requires-5 : tie.Need-taken-number-requires-5
+taken-number-requires-5 c κs = search needs
 
 returns-5 : tie.Need-returns-5
-returns-5 c = refused-here (last-step (c .before .before .before)) (c .before .enum-told5 .given .1) (c .refusal5 .ensures)
+returns-5 c = refused-here (last-step (c .before .before .before)) (c .before .enum-told5 .given .1) (c .taken-number5 .ensures)
 
 add-if1 : tie.Need-add-if1
-add-if1 c = record { fits = batch-end-fits _ (c .before .before .before .before .before .list-end4 .result) (few-bytes (to-first (to-second (to-third (to-fourth (c .before .before .before .before)))))) (c .before .before .before .before .batch-at .ensures) (c .before .before .last .given .1) }
+add-if1 c =
+    let l = c .before .before .before .before in
+    let few = few-bytes (to-first (to-second (to-third (to-fourth l)))) in
+    record { fits = batch-end-fits _ (l .before .list-end4 .result) few (l .batch-at .ensures) (c .before .before .last .given .1) }
 
 returns-6 : tie.Need-returns-6
-returns-6 c = let l = c .before .before .before .before .before in let f = to-fourth l in let t = to-third f in let s = to-second t in left-over (bytes-of (to-first s)) (source-pass s) (source-reject t) (destination-pass f) (destination-reject l) (c .before .before .before .last .given .0 .0) (last-step l) (c .before .before .before .last .given .1) (c .if1 .taken)
-
-word-requires : tie.Need-word-requires
-word-requires c κs = search needs
-
-byte-requires : tie.Need-byte-requires
-byte-requires c κs = search needs
+returns-6 c =
+    let l = c .before .before .before .before .before in
+    let d = to-fourth l in let t = to-third d in let s = to-second t in let f = to-first s in let e = c .before .before .before .last .given in
+    left-over (own f) (flags f) (bytes-of f) (source-pass s) (source-reject t) (destination-pass d) (destination-reject l) (e .0 .0) (last-step l) (e .1) (c .if1 .taken)
 
 returns-7 : tie.Need-returns-7
-returns-7 c = let l = c .before .before .before .before .before .before .before in let f = to-fourth l in let t = to-third f in let s = to-second t in whole (bytes-of (to-first s)) (source-pass s) (source-reject t) (destination-pass f) (destination-reject l) (c .before .before .before .before .before .last .given .0 .0) (last-step l) (c .before .before .before .before .before .last .given .1) (c .before .word .ensures) (c .byte .ensures) (c .before .before .if1 .left)
+returns-7 c =
+    let l = c .before .before .before .before .before in
+    let d = to-fourth l in let t = to-third d in let s = to-second t in let f = to-first s in let e = c .before .before .before .last .given in
+    whole (own f) (flags f) (bytes-of f) (source-pass s) (source-reject t) (destination-pass d) (destination-reject l) (e .0 .0) (last-step l) (e .1) (c .if1 .left)
 
 pub sections-spec : {M : Type 1} → statement M
 sections-spec =
@@ -205,34 +239,32 @@ sections-spec =
     list-at-requires
     enum-known-first
     enum-told
-    refusal-requires
+    taken-number-requires
     returns
     list-end-requires
     list-at-requires-2
     enum-known-second
     enum-told-2
-    refusal-requires-2
+    taken-number-requires-2
     returns-2
     list-end-requires-2
     list-at-requires-3
     enum-known-third
     enum-told-3
-    refusal-requires-3
+    taken-number-requires-3
     returns-3
     list-end-requires-3
     list-at-requires-4
     enum-known-fourth
     enum-told-4
-    refusal-requires-4
+    taken-number-requires-4
     returns-4
     list-end-requires-4
     batch-at-requires
     enum-known-last
     enum-told-5
-    refusal-requires-5
+    taken-number-requires-5
     returns-5
     add-if1
     returns-6
-    word-requires
-    byte-requires
     returns-7)
