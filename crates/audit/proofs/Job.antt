@@ -1,7 +1,7 @@
 -- Every public function of `job`: its promise asks nothing of the caller and determines what the caller sees.
 use mathlib.Core.Path.{sym, _∙_}
-use denote.Ref.{now}
-use Rattle.audit.specs.Promise.{Promised}
+use Rattle.octets.proofs.Parting.{one-part}
+use Rattle.audit.specs.Promise.{slice, Promised}
 use Rattle.job.proofs.taken_number.Reads as taken-number-reads
 use Rattle.job.proofs.taken_number.Kinds as taken-number-kinds
 use Rattle.job.proofs.reading_number.Reads as reading-number-reads
@@ -40,5 +40,5 @@ job-settings = (λ κs a. tt, λ κs a x y s t p q. p ∙ sym q)
 pub values : Promised 1 values-kinds.ps values-kinds.r values-reads.Asked values-reads.Post (λ κs x. x)
 values = (λ κs a. tt, λ κs a x y s t p q. p ∙ sym q)
 
-pub batch : Promised 1 batch-kinds.ps batch-kinds.r batch-reads.Asked batch-reads.Post (λ κs x. now x)
-batch = (λ κs a. tt, λ κs a x y s t p q. p ∙ sym q)
+pub batch : Promised 1 batch-kinds.ps batch-kinds.r batch-reads.Asked batch-reads.Post (λ κs x. slice x)
+batch = (λ κs a. tt, λ κs a x y s t p q. one-part _ _ _ x y p q)

@@ -1,7 +1,8 @@
 -- Every public function of `octets`: its promise asks nothing of the caller and determines what the caller sees.
 use mathlib.Core.Path.{sym, _∙_}
 use denote.Ref.{now}
-use Rattle.audit.specs.Promise.{Promised, PromisedWithOutput}
+use Rattle.octets.proofs.Parting.{one-part}
+use Rattle.audit.specs.Promise.{slice, Promised, PromisedWithOutput}
 use Rattle.octets.proofs.byte.Reads as byte-reads
 use Rattle.octets.proofs.byte.Kinds as byte-kinds
 use Rattle.octets.proofs.word.Reads as word-reads
@@ -34,8 +35,8 @@ low = (λ κs a. tt, λ κs a x y s t p q. p ∙ sym q)
 pub flag : Promised 0 flag-kinds.ps flag-kinds.r flag-reads.Asked flag-reads.Post (λ κs x. x)
 flag = (λ κs a. tt, λ κs a x y s t p q. p .0 ∙ sym (q .0))
 
-pub part : Promised 1 part-kinds.ps part-kinds.r part-reads.Asked part-reads.Post (λ κs x. now x)
-part = (λ κs a. tt, λ κs a x y s t p q. p ∙ sym q)
+pub part : Promised 1 part-kinds.ps part-kinds.r part-reads.Asked part-reads.Post (λ κs x. slice x)
+part = (λ κs a. tt, λ κs a x y s t p q. one-part _ _ _ x y p q)
 
 pub put : PromisedWithOutput 2 put-kinds.ps put-kinds.r put-reads.Asked put-reads.Post (λ κs s. now (s .0))
 put = (λ κs a. tt, λ κs a x y s t p q. (p .0 ∙ sym (q .0), p .1 ∙ sym (q .1)))

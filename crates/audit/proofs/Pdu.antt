@@ -1,7 +1,7 @@
 -- Every public function of `pdu`: its promise asks nothing of the caller and determines what the caller sees.
 use mathlib.Core.Path.{sym, _∙_}
-use denote.Ref.{now}
-use Rattle.audit.specs.Promise.{Promised}
+use Rattle.octets.proofs.Parting.{one-part}
+use Rattle.audit.specs.Promise.{slice, Promised}
 use Rattle.pdu.proofs.Header.limits.Reads as header-limits-reads
 use Rattle.pdu.proofs.Header.limits.Kinds as header-limits-kinds
 use Rattle.pdu.proofs.Header.path_entries.Reads as header-path-entries-reads
@@ -67,8 +67,8 @@ parts-path-address = (λ κs a. tt, λ κs a x y s t p q. p ∙ sym q)
 pub parts-path-has : Promised 1 parts-path-has-kinds.ps parts-path-has-kinds.r parts-path-has-reads.Asked parts-path-has-reads.Post (λ κs x. x)
 parts-path-has = (λ κs a. tt, λ κs a x y s t p q. p ∙ sym q)
 
-pub parts-payload : Promised 1 parts-payload-kinds.ps parts-payload-kinds.r parts-payload-reads.Asked parts-payload-reads.Post (λ κs x. now x)
-parts-payload = (λ κs a. tt, λ κs a x y s t p q. p ∙ sym q)
+pub parts-payload : Promised 1 parts-payload-kinds.ps parts-payload-kinds.r parts-payload-reads.Asked parts-payload-reads.Post (λ κs x. slice x)
+parts-payload = (λ κs a. tt, λ κs a x y s t p q. one-part _ _ _ x y p q)
 
 pub destination-flag : Promised 0 destination-flag-kinds.ps destination-flag-kinds.r destination-flag-reads.Asked destination-flag-reads.Post (λ κs x. x)
 destination-flag = (λ κs a. tt, λ κs a x y s t p q. p .0 ∙ sym (q .0))

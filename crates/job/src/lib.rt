@@ -4,7 +4,8 @@ ghost use Prim.Native.Nat.{_+_, _*_, _%_, _<_, _≤_, _^_};
 ghost use lib.Dec.{eqb};
 ghost use lib.ListN.{length, getD};
 ghost use Rattle.job.specs.Jobs.{headNumber, takenNumber, readingNumber, headOf, rangesNumber, listAt, batchAt, listEnd, sectionsOf, jobOf};
-ghost use Rattle.job.specs.Jobs.{settingsOf, valuesIn, padded, batchIn};
+ghost use Rattle.octets.specs.Octets.{IsPart};
+ghost use Rattle.job.specs.Jobs.{settingsOf, valuesIn, padded};
 
 // Own address and flags, or the number they were refused with.
 enum Head {
@@ -288,7 +289,7 @@ pub fn values(bytes: &[u8], section: Section) -> [u16; 128]
 // The job's batch, as that part of the bytes. Where the bytes are not those that the job was read from, only what is there.
 // Document 01, "The program `relay`", the batch.
 pub fn batch(bytes: &[u8], job: Job) -> &[u8]
-    ensures { λ r. ⌜ now r ≡ batchIn (now (bytes .entry)) job ⌝ }
+    ensures { λ r. ⌜ IsPart (bytes .entry) (job .batch .place) (job .batch .count) r ⌝ }
 {
     octets::part(bytes, job.batch.place, job.batch.count)
 }

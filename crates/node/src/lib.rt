@@ -4,8 +4,8 @@ ghost use mathlib.Core.Bool.{true, not, cond, _&&_};
 ghost use Prim.Native.Nat.{_<_, _≤_};
 ghost use lib.Dec.{eqb, ltb};
 ghost use Rattle.pdu.specs.Sizes.{pathLimit, headerLength, pduLength};
-ghost use lib.ListN.{length, take, drop};
-ghost use Rattle.octets.specs.Octets.{over};
+ghost use lib.ListN.{length};
+ghost use Rattle.octets.specs.Octets.{over, IsPart};
 ghost use Rattle.pdu.specs.declared.Reading.the-variants.{Pdu};
 ghost use Rattle.pdu.specs.Reading.{readOf};
 ghost use Rattle.lists.specs.Lists.{four, firstFault, holds};
@@ -276,7 +276,7 @@ fn answered(header: Header, delivery: u8, repeat: u8, length: usize) -> Answer
 // The payload that an answer names by place and length, in the caller's own bytes; empty where nothing is delivered. Of an answer that is not for
 // these bytes, what they hold at that place, as far as they go. Document 01, "One PDU at one node", 5.
 pub fn delivered(received: &[u8], answer: Answer) -> &[u8]
-    ensures { λ r. ⌜ now r ≡ take (answer .«delivered_length») (drop (answer .«delivered_place») (now (received .entry))) ⌝ }
+    ensures { λ r. ⌜ IsPart (received .entry) (answer .«delivered_place») (answer .«delivered_length») r ⌝ }
 {
     octets::part(received, answer.delivered_place, answer.delivered_length)
 }

@@ -1,9 +1,8 @@
 // Bytes, the numbers in them, a part of them shown, and parts put into an output one after another.
 ghost use mathlib.Core.Path.{_≡_};
 ghost use Prim.Native.Nat.{_/_, _%_, _<_, _≤_};
-ghost use lib.ListN.{take, drop};
 ghost use Rattle.octets.specs.Numbers.{flag};
-ghost use Rattle.octets.specs.Octets.{at, wordAt, wordBytes, placed, placeAfter};
+ghost use Rattle.octets.specs.Octets.{at, wordAt, wordBytes, IsPart, placed, placeAfter};
 
 // Byte `i`, and 0 past the end. Document 01, "Header, byte by byte", the table's column Byte; the 0 is this library's own choice.
 pub fn byte(bytes: &[u8], i: usize) -> u8
@@ -51,18 +50,19 @@ pub fn low(x: u16) -> u8
     (x % 256) as u8
 }
 
-// The part of `bytes` that begins at `place` and has `length` bytes, as far as they go; empty where the place is past the end.
-// Document 01, "One PDU at one node", 5: what is shown is part of the bytes received.
-pub fn part(bytes: &[u8], place: usize, length: usize) -> &[u8]
-    ensures { λ r. ⌜ now r ≡ take length (drop place (now (bytes .entry))) ⌝ }
+// The part of `bytes` that begins at `place` and has `size` bytes, as far as they go: that very stretch of the caller's slice. Where the place is past
+// the end, the empty part at the end. Document 01, "One PDU at one node", 5: what is shown is part of the bytes received.
+pub fn part(bytes: &[u8], place: usize, size: usize) -> &[u8]
+    ensures { λ r. ⌜ IsPart (bytes .entry) place size r ⌝ }
 {
-    if bytes.len() < place {
-        return &bytes[0..0];
+    let end = bytes.len();
+    if end < place {
+        return &bytes[end..];
     }
-    if bytes.len() - place < length {
+    if end - place < size {
         return &bytes[place..];
     }
-    &bytes[place..place + length]
+    &bytes[place..place + size]
 }
 
 // Puts `part` into the output at `place`, and answers the place after it. Where it does not fit, nothing is written and the place stays.

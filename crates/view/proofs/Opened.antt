@@ -4,7 +4,6 @@ use native.Mathlib.Omega.{arith}
 use mathlib.Core.Bool.{false}
 use mathlib.Core.List.{List, []}
 use mathlib.Core.Path.{_≡_, refl, ap, _∙_}
-use lib.ListN.{take, drop}
 use denote.Ref.{RefT, now}
 use Rattle.pdu.specs.declared.Header.{Header}
 use Rattle.pdu.specs.declared.Refusal.{Refusal}
@@ -12,11 +11,12 @@ use Rattle.pdu.specs.declared.Refusal.the-variants.{TooShort, WrongVersion, Unk
 use Rattle.pdu.specs.declared.Reading.{Reading}
 use Rattle.pdu.specs.declared.Reading.the-variants.{Pdu, Refused}
 use Rattle.view.specs.declared.Pdu.{Pdu as View}
+use Rattle.octets.specs.Octets.{IsPart}
 use Rattle.pdu.specs.Header.{headerOf}
 use Rattle.pdu.specs.Sizes.{headerLength, pduLength}
 use Rattle.pdu.specs.Reading.{readOf, readingNumber, refusalNumber}
-use Rattle.pdu.specs.Parts.{addressesAt, pathIn, inPath, payloadIn}
-use Rattle.view.specs.View.{placesOf, shownIn, headerIn, payloadAt}
+use Rattle.pdu.specs.Parts.{addressesAt, pathIn, inPath}
+use Rattle.view.specs.View.{placesOf, shownIn, headerIn}
 use Rattle.pdu.proofs.Inversion.{shown}
 
 -- what `open` ensures of its view
@@ -24,21 +24,25 @@ pub record Opened (view : View) (bytes : RefT (List ℕ)) : Type 0 where
   pub keeps : view .bytes ≡ bytes
   pub finds : view .at ≡ placesOf (readOf (now bytes))
 
--- a view that says what a header says of bytes: `fields` is every field at once
-pub record Says (view : View) (header : Header) (bytes : List ℕ) : Type 0 where
+-- what `payload` ensures of the part that it shows
+abbrev pub Shows : View → RefT (List ℕ) → Type 0
+Shows view part = IsPart (view .bytes) (view .at .payload) (view .at .end - view .at .payload) part
+
+-- a view that says what a header says of bytes: `fields` is every field at once, and the payload is the stretch that `pdu::parts::payload` shows
+pub record Says (view : View) (header : Header) (bytes : RefT (List ℕ)) : Type 0 where
   pub number : view .at .number ≡ 0
   pub fields : headerIn (now (view .bytes)) (view .at) ≡ header
   pub size : view .at .end ≡ pduLength header
-  pub payload : payloadAt (now (view .bytes)) (view .at) ≡ payloadIn header bytes
-  pub path : pathIn (headerIn (now (view .bytes)) (view .at)) (now (view .bytes)) ≡ pathIn header bytes
-  pub path-has : (address : ℕ) → inPath address (pathIn (headerIn (now (view .bytes)) (view .at)) (now (view .bytes))) ≡ inPath address (pathIn header bytes)
+  pub payload : (part : RefT (List ℕ)) → Shows view part → IsPart bytes (headerLength header) (header .«payload_length») part
+  pub path : pathIn (headerIn (now (view .bytes)) (view .at)) (now (view .bytes)) ≡ pathIn header (now bytes)
+  pub path-has : (address : ℕ) → inPath address (pathIn (headerIn (now (view .bytes)) (view .at)) (now (view .bytes))) ≡ inPath address (pathIn header (now bytes))
 
 -- a view of bytes that are no PDU: the refusal's number, and nothing else
 pub record Nothing (view : View) (refusal : Refusal) : Type 0 where
   pub number : view .at .number ≡ refusalNumber refusal
   pub fields : headerIn (now (view .bytes)) (view .at) ≡ headerOf []
   pub size : view .at .end ≡ 0
-  pub payload : payloadAt (now (view .bytes)) (view .at) ≡ []
+  pub payload : (part : RefT (List ℕ)) → Shows view part → now part ≡ []
   pub path-has : (address : ℕ) → inPath address (pathIn (headerIn (now (view .bytes)) (view .at)) (now (view .bytes))) ≡ false
 
 found-number : (reading : Reading) → placesOf reading .number ≡ readingNumber reading
@@ -48,18 +52,16 @@ found-number (Refused refusal) = refl
 pub opened-number : (view : View) (bytes : RefT (List ℕ)) → Opened view bytes → view .at .number ≡ readingNumber (readOf (now bytes))
 opened-number view bytes o = rw (o .finds) (found-number (readOf (now bytes)))
 
-part-payload : (header : Header) (bytes : List ℕ) → take (pduLength header - headerLength header) (drop (headerLength header) bytes) ≡ payloadIn header bytes
-part-payload header bytes = let n : pduLength header - headerLength header ≡ header .«payload_length» = omega arith in rw n
-
-pub opened-says : (view : View) (bytes : RefT (List ℕ)) (header : Header) → Opened view bytes → readOf (now bytes) ≡ Pdu header → Says view header (now bytes)
+pub opened-says : (view : View) (bytes : RefT (List ℕ)) (header : Header) → Opened view bytes → readOf (now bytes) ≡ Pdu header → Says view header bytes
 opened-says view bytes header o e =
     let at = o .finds ∙ ap placesOf e in
+    let size : pduLength header - headerLength header ≡ header .«payload_length» = omega arith in
     let is : headerOf (now bytes) ≡ header = rw (shown (now bytes) header e .is) in
     record {
       number = rw at;
       fields = rw (o .keeps, at) is;
       size = rw at;
-      payload = rw (o .keeps, at) (part-payload header (now bytes));
+      payload = λ part p. rw (o .keeps, at, size) at p;
       path = rw (o .keeps, at) (ap (λ (h : Header). pathIn h (now bytes)) is);
       path-has = λ address. rw (o .keeps, at) (ap (λ (h : Header). inPath address (pathIn h (now bytes))) is);
     }
@@ -88,6 +90,6 @@ opened-nothing view bytes refusal o e =
       number = rw at;
       fields = fields;
       size = rw at;
-      payload = rw at;
+      payload = λ part p. rw at at p .bytes;
       path-has = λ address. rw (fields, no-path (now (view .bytes))) (not-in-none address);
     }

@@ -1,11 +1,10 @@
 -- Document 01, "Numbers answered", its last sentence: a received PDU, "held as one thing" with the caller's bytes, that is asked for its fields. Each
 -- definition is over bytes and places, whichever they are: a view may be put together by hand too.
-use Prim.Native.Nat.{ℕ, _-_}
+use Prim.Native.Nat.{ℕ}
 use mathlib.Core.Bool.{cond}
 use mathlib.Core.List.{List, []}
 use mathlib.Core.Path.{_≡_}
 use lib.Dec.{eqb}
-use lib.ListN.{take, drop}
 use Rattle.pdu.specs.declared.Header.{Header}
 use Rattle.pdu.specs.declared.Reading.{Reading}
 use Rattle.pdu.specs.declared.Reading.the-variants.{Pdu, Refused}
@@ -27,14 +26,6 @@ shownIn bytes places = cond (eqb (places .number) 0) bytes []
 -- the header ("Header, byte by byte"); the path is that of this header in the bytes
 abbrev pub headerIn : List ℕ → Places → Header
 headerIn bytes places = headerOf (shownIn bytes places)
-
--- the bytes from a place to another, as far as they are there
-abbrev pub part : List ℕ → ℕ → ℕ → List ℕ
-part bytes place end = take (end - place) (drop place bytes)
-
--- the payload ("One PDU at one node", 5: "shown as that part of the received bytes")
-abbrev pub payloadAt : List ℕ → Places → List ℕ
-payloadAt bytes places = part bytes (places .payload) (places .end)
 
 -- what is asked of a view most, as one value: number, length and header
 abbrev pub summaryAt : List ℕ → Places → Summary

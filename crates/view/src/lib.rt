@@ -5,9 +5,10 @@ use pdu::Header;
 use pdu::Reading;
 ghost use mathlib.Core.Path.{_≡_};
 ghost use Prim.Native.Nat.{_-_};
+ghost use Rattle.octets.specs.Octets.{IsPart};
 ghost use Rattle.pdu.specs.Reading.{readOf};
 ghost use Rattle.pdu.specs.Parts.{pathIn, pathAddress, inPath};
-ghost use Rattle.view.specs.View.{placesOf, shownIn, headerIn, payloadAt, summaryAt, agree};
+ghost use Rattle.view.specs.View.{placesOf, shownIn, headerIn, summaryAt, agree};
 
 // What reading found: its number, the offset of the payload's first byte, and the offset of the byte after the PDU.
 // After a refusal both offsets are 0.
@@ -186,7 +187,7 @@ pub fn path_has<'a>(pdu: Pdu<'a>, address: u16) -> bool
 // The payload, as that part of the caller's bytes. Empty where the PDU has none, and after a refusal.
 // Document 01, "One PDU at one node", 5, what is shown.
 pub fn payload<'a>(pdu: Pdu<'a>) -> &'a [u8]
-    ensures { λ r. ⌜ now r ≡ payloadAt (now (pdu .entry .bytes)) (pdu .entry .at) ⌝ }
+    ensures { λ r. ⌜ IsPart (pdu .entry .bytes) (pdu .entry .at .payload) (pdu .entry .at .end - pdu .entry .at .payload) r ⌝ }
 {
     payload_at(pdu.bytes, pdu.at)
 }
@@ -347,13 +348,11 @@ fn path_has_at(bytes: &[u8], places: Places, address: u16) -> bool
 }
 
 fn payload_at(bytes: &[u8], places: Places) -> &[u8]
-    ensures { λ r. ⌜ now r ≡ payloadAt (now (bytes .entry)) places ⌝ }
+    ensures { λ r. ⌜ IsPart (bytes .entry) (places .payload) (places .end - places .payload) r ⌝ }
 {
-    octets::part(
-        bytes,
-        places.payload,
-        length_between(places.payload, places.end),
-    )
+    let place = places.payload;
+    let size = length_between(place, places.end);
+    octets::part(bytes, place, size)
 }
 
 // From one place to another; 0 where the second comes first.

@@ -1,5 +1,6 @@
 use mathlib.Core.Path.{refl}
 use denote.Ref.{now}
+use lib.ListN.{length-take, length-drop}
 use Rattle.octets.proofs.Parting.{part-none, part-cut, part-whole}
 use native.Mathlib.Omega.{arith}
 use borrow.Author.Needs.{needs}
@@ -16,10 +17,7 @@ part-result-end : tie.Need-part-result-end
 part-result-end c = search needs
 
 returns : tie.Need-returns
-returns c = let a = c .before .before .args in part-none (now (a .bytes)) (a .place) (a .length) (c .before .if1 .taken)
-
-sub-if2 : tie.Need-sub-if2
-sub-if2 c = search needs
+returns c = let a = c .before .before .args in record { bytes = part-none (now (a .bytes)) (a .place) (a .size) _ (simp (length-take, length-drop) (omega arith)) (omega arith); block = refl; offset = omega arith }
 
 sub-result-2 : tie.Need-sub-result-2
 sub-result-2 c = search needs
@@ -31,7 +29,7 @@ part-result-end-2 : tie.Need-part-result-end-2
 part-result-end-2 c = search needs
 
 returns-2 : tie.Need-returns-2
-returns-2 c = let a = c .before .before .before .args in part-cut (now (a .bytes)) (a .place) (a .length) (omega arith)
+returns-2 c = let a = c .before .before .before .args in record { bytes = part-cut (now (a .bytes)) (a .place) (a .size) (omega arith); block = refl; offset = omega arith }
 
 add-result : tie.Need-add-result
 add-result c = search needs
@@ -46,7 +44,7 @@ part-result-end-3 : tie.Need-part-result-end-3
 part-result-end-3 c = search needs
 
 returns-3 : tie.Need-returns-3
-returns-3 c = let a = c .before .before .before .args in part-whole (now (a .bytes)) (a .place) (a .length) _ refl
+returns-3 c = let a = c .before .before .before .args in record { bytes = part-whole (now (a .bytes)) (a .place) (a .size) _ refl; block = refl; offset = omega arith }
 
 pub part-spec : {M : Type 1} → statement M
 part-spec =
@@ -56,7 +54,6 @@ part-spec =
     part-result-start
     part-result-end
     returns
-    sub-if2
     sub-result-2
     part-result-start-2
     part-result-end-2

@@ -64,13 +64,13 @@ batch-requires : tie.Need-batch-requires
 batch-requires c κs = search needs
 
 put-walk-requires : tie.Need-put-walk-requires
-put-walk-requires c κs = let a = c .before .before .before .before .before .before .before .before .before .before .before .before .before .before .before .before .before .before .before .before .before .args in batch-short (now (a .bytes)) (a .job) _ (c .before .before .before .before .before .before .before .before .before .before .before .before .before .before .before .before .before .before .before .before .before .pre) (c .batch .ensures)
+put-walk-requires c κs = let a = c .before .before .before .before .before .before .before .before .before .before .before .before .before .before .before .before .before .before .before .before .before .args in batch-short (now (a .bytes)) (a .job) _ (c .before .before .before .before .before .before .before .before .before .before .before .before .before .before .before .before .before .before .before .before .before .pre) (c .batch .ensures .bytes)
 
 same-length : tie.Need-same-length
 same-length c = search needs
 
 returns : tie.Need-returns
-returns c = let a = c .before .before .before .before .before .before .before .before .before .before .before .before .before .before .before .before .before .before .before .before .before .before .before .before .args in let i = job-in (now (a .bytes)) (a .job) (c .before .before .before .before .before .before .before .before .before .before .before .before .before .before .before .before .before .before .before .before .before .before .before .before .pre) in job-put (now (a .bytes)) (a .job) _ _ _ (now (a .text)) _ _ _ _ (c .before .before .before .before .before .before .before .before .settings .ensures) (lists-are (now (a .bytes)) (a .job) _ _ _ _ (list-is (now (a .bytes)) (a .job .«source_pass») (i .source-pass .limit) _ (c .before .before .before .before .before .before .before .before .before .before .before .before .before .before .before .before .before .before .before .before .before .values .ensures)) (list-is (now (a .bytes)) (a .job .«source_reject») (i .source-reject .limit) _ (c .before .before .before .before .before .before .before .before .before .before .before .before .before .before .before .before .before .before .before .before .values2 .ensures)) (list-is (now (a .bytes)) (a .job .«destination_pass») (i .destination-pass .limit) _ (c .before .before .before .before .before .before .before .before .before .before .before .before .before .before .before .before .before .before .before .values3 .ensures)) (list-is (now (a .bytes)) (a .job .«destination_reject») (i .destination-reject .limit) _ (c .before .before .before .before .before .before .before .before .before .before .before .before .before .before .before .before .before .before .values4 .ensures))) (c .before .before .before .batch .ensures) (c .before .before .before .before .before .before .before .before .before .before .before .before .put-first-line .ensures) (c .before .before .put-walk .ensures)
+returns c = let a = c .before .before .before .before .before .before .before .before .before .before .before .before .before .before .before .before .before .before .before .before .before .before .before .before .args in let i = job-in (now (a .bytes)) (a .job) (c .before .before .before .before .before .before .before .before .before .before .before .before .before .before .before .before .before .before .before .before .before .before .before .before .pre) in job-put (now (a .bytes)) (a .job) _ _ _ (now (a .text)) _ _ _ _ (c .before .before .before .before .before .before .before .before .settings .ensures) (lists-are (now (a .bytes)) (a .job) _ _ _ _ (list-is (now (a .bytes)) (a .job .«source_pass») (i .source-pass .limit) _ (c .before .before .before .before .before .before .before .before .before .before .before .before .before .before .before .before .before .before .before .before .before .values .ensures)) (list-is (now (a .bytes)) (a .job .«source_reject») (i .source-reject .limit) _ (c .before .before .before .before .before .before .before .before .before .before .before .before .before .before .before .before .before .before .before .before .values2 .ensures)) (list-is (now (a .bytes)) (a .job .«destination_pass») (i .destination-pass .limit) _ (c .before .before .before .before .before .before .before .before .before .before .before .before .before .before .before .before .before .before .before .values3 .ensures)) (list-is (now (a .bytes)) (a .job .«destination_reject») (i .destination-reject .limit) _ (c .before .before .before .before .before .before .before .before .before .before .before .before .before .before .before .before .before .before .values4 .ensures))) (c .before .before .before .batch .ensures .bytes) (c .before .before .before .before .before .before .before .before .before .before .before .before .put-first-line .ensures) (c .before .before .put-walk .ensures)
 
 pub put-job-spec : {M : Type 1} → statement M
 put-job-spec =

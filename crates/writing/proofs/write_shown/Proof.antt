@@ -34,7 +34,7 @@ same-length : tie.Need-same-length
 same-length c = search needs
 
 returns-2 : tie.Need-returns-2
-returns-2 c = let a = c .before .before .before .before .before .before .before .before .before .before .before .before .before .before .before .before .before .args in let h = c .before .before .before .before .before .before .before .before .before .before .before in let whole = shown (now (a .bytes)) (a .header) (c .before .before .before .before .before .before .before .before .before .before .before .before .before .before .before .before .before .pre) in let room : pduLength (a .header) ≤ length (now (a .output)) = omega (arith, c .before .before .before .before .before .before .before .before .before .before .before .before .before .before .pdu-length .ensures .0) in let put = encode-put (a .header) (now (a .output)) (shown-within _ _ (λ i. c .before .before .before .before .before .before .before .before .before .before .before .before .before .before .before .before .shared-slice-known .given i .fits) whole) (now (a .bytes)) _ _ room (whole .ends) (h .put-header .ensures) _ _ _ _ (c .before .before .before .before .before .before .before .put-path .ensures) (c .before .before .before .payload .ensures) (c .before .before .put .ensures .1) in rw (le-ltb _ _ room) (ap (λ (n : ℕ). record { number = 0; length = n }) (c .before .before .before .before .before .before .before .before .before .before .before .before .before .before .pdu-length .ensures .0), put)
+returns-2 c = let a = c .before .before .before .before .before .before .before .before .before .before .before .before .before .before .before .before .before .args in let h = c .before .before .before .before .before .before .before .before .before .before .before in let whole = shown (now (a .bytes)) (a .header) (c .before .before .before .before .before .before .before .before .before .before .before .before .before .before .before .before .before .pre) in let room : pduLength (a .header) ≤ length (now (a .output)) = omega (arith, c .before .before .before .before .before .before .before .before .before .before .before .before .before .before .pdu-length .ensures .0) in let put = encode-put (a .header) (now (a .output)) (shown-within _ _ (λ i. c .before .before .before .before .before .before .before .before .before .before .before .before .before .before .before .before .shared-slice-known .given i .fits) whole) (now (a .bytes)) _ _ room (whole .ends) (h .put-header .ensures) _ _ _ _ (c .before .before .before .before .before .before .before .put-path .ensures) (c .before .before .before .payload .ensures .bytes) (c .before .before .put .ensures .1) in rw (le-ltb _ _ room) (ap (λ (n : ℕ). record { number = 0; length = n }) (c .before .before .before .before .before .before .before .before .before .before .before .before .before .before .pdu-length .ensures .0), put)
 
 pub write-shown-spec : {M : Type 1} → statement M
 write-shown-spec =

@@ -22,7 +22,7 @@ same-length : tie.Need-same-length
 same-length c = search needs
 
 returns : tie.Need-returns
-returns c = let p = c .before .before .before .before .before .before .before .before .before .before .before .before .before .before .before .pre in let a = c .before .before .before .before .before .before .before .before .before .before .before .before .before .before .before .args in let s = shown (now (a .received)) (a .header) (p .0) in fill-is (now (a .received)) (now (a .scratch)) (a .settings .own) (a .header) (s .is) (s .ends) (p .2) _ _ _ _ _ _ (c .before .before .before .before .before .before .before .before .before .before .before .put-lowered .ensures .0) (c .before .before .before .before .before .before .before .before .before .before .before .put-lowered .ensures .1) (c .before .before .before .before .before .before .before .put-own .ensures) (c .before .before .before .payload .ensures) (c .before .before .put .ensures .1)
+returns c = let p = c .before .before .before .before .before .before .before .before .before .before .before .before .before .before .before .pre in let a = c .before .before .before .before .before .before .before .before .before .before .before .before .before .before .before .args in let s = shown (now (a .received)) (a .header) (p .0) in fill-is (now (a .received)) (now (a .scratch)) (a .settings .own) (a .header) (s .is) (s .ends) (p .2) _ _ _ _ _ _ (c .before .before .before .before .before .before .before .before .before .before .before .put-lowered .ensures .0) (c .before .before .before .before .before .before .before .before .before .before .before .put-lowered .ensures .1) (c .before .before .before .before .before .before .before .put-own .ensures) (c .before .before .before .payload .ensures .bytes) (c .before .before .put .ensures .1)
 
 pub fill-spec : {M : Type 1} → statement M
 fill-spec =
