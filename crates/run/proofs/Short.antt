@@ -1,4 +1,4 @@
--- How many characters a job prints: at most 6 for each byte of its batch, and 46 more.
+-- How many characters a job prints: at most 5 for each byte of its batch, and 46 more.
 use Prim.Native.Nat.{ℕ, zero, suc, _+_, _*_, _≤_, _<_}
 use native.Mathlib.Omega.{arith}
 use mathlib.Core.Bool.{Bool, true, false, cond}
@@ -6,7 +6,7 @@ use mathlib.Core.List.{List, [], _∷_, _++_, flatten}
 use mathlib.Core.Path.{_≡_, refl, ap, _∙_}
 use lib.Dec.{leb, eqb}
 use lib.ListN.{length, drop, length-append, length-drop}
-use borrow.Author.Tests.{le-ltb, leb-false, eq-eqb, eqb-true, eqb-false}
+use borrow.Author.Tests.{le-ltb, leb-false, eq-eqb, ne-eqb, eqb-true, eqb-false}
 use Rattle.octets.specs.Numbers.{flag}
 use Rattle.octets.proofs.Numbering.{orElse-zero}
 use Rattle.octets.proofs.Words.{Bytes}
@@ -24,7 +24,8 @@ use Rattle.node.proofs.Repeating.{length-repeated}
 use Rattle.batch.specs.Walk.{Walk, endingAt, before, walkFrom, walk}
 use Rattle.batch.proofs.Stepping.{taken-within}
 use Rattle.batch.proofs.Walking.{answer, walk-none, walk-end, walk-more}
-use Rattle.text.specs.Text.{shown, firstLine, lastLine, refusedLine}
+use Rattle.text.specs.Text.{decimal, shown, firstLine, lastLine, refusedLine}
+use Rattle.text.proofs.Decimal.{length-decimal}
 use Rattle.text.proofs.Shown.{length-shown, shown-within}
 use Rattle.text.proofs.Lines.{first-line-at-most, refused-line-at-most, pdu-line-at-most, last-line-at-most}
 use Rattle.job.specs.declared.Job.{Job}
@@ -93,28 +94,6 @@ module _ (settings : Settings) (lists : Lists) (received : List ℕ) where
       (orElse-within _ _ (gives-within _ (omega arith))
       (orElse-within _ _ (gives-within _ (omega arith)) (orElse-within _ _ (gives-within _ (omega arith)) (gives-within _ (omega arith)))))
 
-  -- a repeat is at most 2 bytes longer than what was received
-  repeated-within : length (repeatedOrNone settings lists received) ≤ pduLength (headerOf received) + 2
-  repeated-within = go (eqb (repeatNumber settings lists roomForOne received) 0) refl
-    where
-      go : (yes : Bool) → eqb (repeatNumber settings lists roomForOne received) 0 ≡ yes
-          → length (cond yes (repeated (settings .own) received) []) ≤ pduLength (headerOf received) + 2
-      go true e =
-          let r = repeats settings lists roomForOne received (eqb-true _ 0 e) in
-          let s = r .ready .shown in
-          let long = length-repeated received [] (settings .own) (r .header) (s .is) (s .ends) in
-          omega (arith, long ∙ ap repeatedLength (s .is), flag-within (headerOf received .«path_bit»))
-      go false e = omega arith
-
-  -- a PDU that can't be read is not repeated
-  none-repeated : (listOrReadingFault lists received ≡ 0 → ⊥) → repeatedOrNone settings lists received ≡ []
-  unfolding repeatNumber givenTwice
-  none-repeated h = go (eqb (repeatNumber settings lists roomForOne received) 0) refl
-    where
-      go : (yes : Bool) → eqb (repeatNumber settings lists roomForOne received) 0 ≡ yes → cond yes (repeated (settings .own) received) [] ≡ []
-      go true e = absurd (h (orElse-zero _ _ (orElse-zero _ _ (eqb-true _ 0 e) .0) .0))
-      go false e = refl
-
 -- how long a PDU is that was read
 read-taken : (lists : Lists) (received : List ℕ) → listOrReadingFault lists received ≡ 0 → taken lists received ≡ pduLength (headerOf received)
 unfolding taken
@@ -125,28 +104,52 @@ module _ (settings : Settings) (lists : Lists) (batch : List ℕ) (number offset
   abbrev received : List ℕ
   received = drop offset batch
 
-  line-within : length (lineAt settings lists batch number offset) ≤ 18 + length (shown (repeatedOrNone settings lists received))
+  abbrev repeatOf : ℕ
+  repeatOf = repeatNumber settings lists roomForOne received
+
+  line-within : length (lineAt settings lists batch number offset)
+      ≤ 16 + length (decimal repeatOf) + length (shown (repeatedOrNone settings lists received))
   line-within =
       let d : deliveryNumber settings lists roomForOne received < 100 = omega (arith, delivery-within settings lists received) in
-      let r : repeatNumber settings lists roomForOne received < 100 = omega (arith, repeat-within settings lists received) in
-      pdu-line-at-most number offset _ _ (repeatedOrNone settings lists received) few near d r
+      pdu-line-at-most number offset _ repeatOf (repeatedOrNone settings lists received) few near d
 
-  -- of a PDU that was read: 6 characters a byte
+  line-not-repeated : eqb repeatOf 0 ≡ false → length (lineAt settings lists batch number offset) ≤ 19
+  line-not-repeated e =
+      let none : repeatedOrNone settings lists received ≡ [] = rw e in
+      let digits = length-decimal 1 repeatOf (omega (arith, repeat-within settings lists received)) in
+      omega (arith, line-within, digits, ap length (ap shown none), length-shown [])
+
+  -- a repeat is 2 bytes longer than what was received, with the path bit, and that has 7 bytes at least
+  line-repeated : eqb repeatOf 0 ≡ true → length (lineAt settings lists batch number offset) ≤ 5 * pduLength (headerOf received)
+  line-repeated e =
+      let z = eqb-true repeatOf 0 e in
+      let r = repeats settings lists roomForOne received z in
+      let s = r .ready .shown in
+      let one : repeatedOrNone settings lists received ≡ repeated (settings .own) received = rw e in
+      let long = ap length one ∙ length-repeated received [] (settings .own) (r .header) (s .is) (s .ends) ∙ ap repeatedLength (s .is) in
+      let hex = shown-within (repeatedOrNone settings lists received) (repeatedLength (headerOf received)) (omega (arith, long)) (omega arith) in
+      omega (arith, line-within, hex, length-decimal 0 repeatOf (omega arith), flag-within (headerOf received .«path_bit»))
+
+  -- of a PDU that was read: 5 characters a byte
   line-of-read : listOrReadingFault lists received ≡ 0
-      → (length (lineAt settings lists batch number offset) ≤ 6 * taken lists received) × (6 ≤ taken lists received)
-  line-of-read z =
-      let size = read-taken lists received z in
-      let hex = shown-within (repeatedOrNone settings lists received) (pduLength (headerOf received) + 2) (repeated-within settings lists received)
-      (omega arith) in
-      (omega (arith, line-within, size), omega (arith, size))
+      → (length (lineAt settings lists batch number offset) ≤ 5 * taken lists received) × (6 ≤ taken lists received)
+  line-of-read z = (go (eqb repeatOf 0) refl, omega (arith, size))
+    where
+      size : taken lists received ≡ pduLength (headerOf received)
+      size = read-taken lists received z
+
+      go : (yes : Bool) → eqb repeatOf 0 ≡ yes → length (lineAt settings lists batch number offset) ≤ 5 * taken lists received
+      go true e = omega (arith, line-repeated e, size)
+      go false e = omega (arith, line-not-repeated e, size)
 
   line-of-fault : (listOrReadingFault lists received ≡ 0 → ⊥) → length (lineAt settings lists batch number offset) ≤ 19
-  line-of-fault h = omega (arith, line-within, ap length (ap shown (none-repeated settings lists received h)), length-shown [])
+  unfolding repeatNumber givenTwice
+  line-of-fault h = line-not-repeated (ne-eqb repeatOf 0 (λ z. h (orElse-zero _ _ (orElse-zero _ _ z .0) .0)))
 
 -- the lines of a walk
 module _ (settings : Settings) (lists : Lists) (batch : List ℕ) (short : length batch ≤ batchLimit) where
   record Few (printed offset : ℕ) (w : Walk) : Type 0 where
-    all : characters (pduLines settings lists batch (printed + 1) (w .offsets)) + 6 * offset ≤ 6 * w .end + 19
+    all : characters (pduLines settings lists batch (printed + 1) (w .offsets)) + 5 * offset ≤ 5 * w .end + 19
     within : w .end ≤ length batch
     lines : 6 * length (w .offsets) + offset ≤ w .end + 6
 

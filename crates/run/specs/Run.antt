@@ -74,9 +74,9 @@ runLines bytes = jobLines bytes (jobOf bytes)
 unfoldable pub printed : List ℕ → List ℕ
 printed bytes = flatten (runLines bytes)
 
--- room for all that a job prints: 6 characters for each byte of the longest batch, and 46 for own address, a PDU that can't be read, and the end
+-- room for all that a job prints: 5 characters for each byte of the longest batch, and 46 for own address, a PDU that can't be read, and the end
 abbrev pub textRoom : ℕ
-textRoom = 6 * batchLimit + 46
+textRoom = 5 * batchLimit + 46
 
 -- room for the start of the input that decides what is printed: one byte more than the longest job has, so that a longer one is told (53)
 abbrev pub inputRoom : ℕ

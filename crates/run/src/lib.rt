@@ -15,7 +15,7 @@ use node::Settings;
 use pdu::Header;
 
 // Writes what `relay` prints for a job's bytes into the text, line after line from its start, and answers where the lines end. Any bytes get an
-// answer. A text of 98,350 bytes has room for the lines of every job, whole; in a shorter one a line that does not fit is left out, and a shorter one
+// answer. A text of 81,966 bytes has room for the lines of every job, whole; in a shorter one a line that does not fit is left out, and a shorter one
 // after it may still be put. Document 01, "The program `relay`".
 pub fn relay(bytes: &[u8], text: &mut [u8]) -> usize
     ensures { λ r. ⌜ Ran (now (bytes .entry)) (now (text .entry)) (now (text .exit)) r ⌝ }

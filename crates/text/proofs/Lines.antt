@@ -98,9 +98,8 @@ last-line-at-most lines taken h k =
       length-decimal 4 taken k,
     )
 
-pub pdu-line-at-most : (number offset delivery repeat : ℕ) (repeated : List ℕ) → number < 10000 → offset < 100000 → delivery < 100 → repeat < 100
-    → length (pduLine number offset delivery repeat repeated) ≤ 18 + length (shown repeated)
+pub pdu-line-at-most : (number offset delivery repeat : ℕ) (repeated : List ℕ) → number < 10000 → offset < 100000 → delivery < 100
+    → length (pduLine number offset delivery repeat repeated) ≤ 16 + length (decimal repeat) + length (shown repeated)
 unfolding pduLine
-pdu-line-at-most number offset delivery repeat repeated k₁ k₂ k₃ k₄ =
-    simp (length-append)
-    (omega (arith, length-decimal 3 number k₁, length-decimal 4 offset k₂, length-decimal 1 delivery k₃, length-decimal 1 repeat k₄))
+pdu-line-at-most number offset delivery repeat repeated k₁ k₂ k₃ =
+    simp (length-append) (omega (arith, length-decimal 3 number k₁, length-decimal 4 offset k₂, length-decimal 1 delivery k₃))
