@@ -19,8 +19,8 @@ use Rattle.job.specs.declared.Taken.the-variants as taken
 use Rattle.job.specs.declared.Job.{Job}
 use Rattle.job.specs.declared.Reading.{Reading}
 use Rattle.job.specs.declared.Reading.the-variants as reading
-use Rattle.job.specs.Jobs.{headOf, listAt, batchAt, andThen, listEnd, sectionsOf, afterHead, jobOf, listsIn}
-use Rattle.job.proofs.Taking.{ListIn, list-in, list-right, batch-in}
+use Rattle.job.specs.Jobs.{headOf, listAt, batchAt, andThen, listEnd, sectionsOf, afterHead, jobOf, jobLimit, listsIn}
+use Rattle.job.proofs.Taking.{ListIn, list-in, list-short, list-right, batch-in, batch-place}
 
 -- what follows of own address and flags that were found
 record HeadIn (bytes : List ℕ) (own flags : ℕ) : Type 0 where
@@ -51,7 +51,8 @@ began : (bytes : List ℕ) (one : Head) (job : Job) → afterHead one bytes ≡ 
 began bytes (head.Found own flags) job e = record { own = own; flags = flags; is = refl; on = e }
 began bytes (head.Refused number) job e = let z : _≡_ {A = ℕ} 0 1 = cc in absurd (omega arith)
 
-passed : (test : Bool) (number : ℕ) (later : Reading) (job : Job) → cond test (reading.Refused number) later ≡ reading.Job job → (test ≡ false) × (later ≡ reading.Job job)
+passed : (test : Bool) (number : ℕ) (later : Reading) (job : Job) → cond test (reading.Refused number) later ≡ reading.Job job
+    → (test ≡ false) × (later ≡ reading.Job job)
 passed true number later job e = let z : _≡_ {A = ℕ} 0 1 = cc in absurd (omega arith)
 passed false number later job e = (refl, e)
 
@@ -79,6 +80,7 @@ pub record JobIn (bytes : List ℕ) (job : Job) : Type 0 where
   pub destination-reject : ListIn bytes (job .«destination_reject»)
   pub batch-limit : job .batch .count ≤ 16384
   pub batch-ends : job .batch .place + job .batch .count ≡ length bytes
+  pub short : length bytes ≤ jobLimit
 
 pub job-in : (bytes : List ℕ) (job : Job) → jobOf bytes ≡ reading.Job job → JobIn bytes job
 unfolding jobOf sectionsOf
@@ -104,6 +106,17 @@ job-in bytes job e =
       destination-reject = list-in bytes _ (d .it) (d .is);
       batch-limit = whole .0;
       batch-ends = omega (arith, whole .1, left);
+      short =
+          omega (
+            arith,
+            left,
+            whole .0,
+            list-short bytes 3 (a .it) (a .is),
+            list-short bytes (listEnd (a .it)) (b .it) (b .is),
+            list-short bytes (listEnd (b .it)) (c .it) (c .is),
+            list-short bytes (listEnd (c .it)) (d .it) (d .is),
+            batch-place bytes (listEnd (d .it)) (e .it) (e .is),
+          );
     })
 
 pub own-small : (bytes : List ℕ) (job : Job) → Bytes bytes → JobIn bytes job → job .own < 65536

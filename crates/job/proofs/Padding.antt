@@ -56,5 +56,6 @@ pub padded-start : (values : List ℕ) (n : ℕ) → length values ≡ n → n �
 unfolding padded
 padded-start values n e h = take-take n 128 (values ++ replicate 128 0) h ∙ take-at values (replicate 128 0) n e
 
-pub values-start : (bytes : List ℕ) (section : Section) → section .count ≤ 64 → take (2 * section .count) (padded (valuesIn bytes section)) ≡ valuesIn bytes section
+pub values-start : (bytes : List ℕ) (section : Section) → section .count ≤ 64
+    → take (2 * section .count) (padded (valuesIn bytes section)) ≡ valuesIn bytes section
 values-start bytes section h = padded-start (valuesIn bytes section) (2 * section .count) (length-values bytes section) (omega arith)

@@ -22,7 +22,8 @@ module _ (bytes : List ℕ) where
   unfolding rangesNumber
   range-cut n left place e h = rw (e, add-one left) (gives-here _ 50 _ (omega arith) (lt-ltb (length bytes) (place + 4) h))
 
-  pub range-wrong : (n left place : ℕ) → n ≡ left + 1 → place + 4 ≤ length bytes → wordAt bytes (place + 2) < wordAt bytes place → rangesNumber n bytes place ≡ 20
+  pub range-wrong : (n left place : ℕ) → n ≡ left + 1 → place + 4 ≤ length bytes → wordAt bytes (place + 2) < wordAt bytes place
+      → rangesNumber n bytes place ≡ 20
   unfolding rangesNumber
   range-wrong n left place e h low =
       rw (e, add-one left)

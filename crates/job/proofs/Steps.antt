@@ -52,7 +52,8 @@ refused-here here refused e = ap reading.Refused e ∙ rw refused (sym (here .is
 
 -- a section was taken, and the next one begins where it ends
 module _ (bytes : List ℕ) {job : Reading} {one next : Taken} {section : Section} {place : ℕ} (later : Section → Section → Reading) where
-  pub next-list : Come job one (λ a. andThen (listAt bytes (listEnd a)) (later a)) → one ≡ taken.At section → place ≡ listEnd section → next ≡ listAt bytes place
+  pub next-list : Come job one (λ a. andThen (listAt bytes (listEnd a)) (later a)) → one ≡ taken.At section → place ≡ listEnd section
+      → next ≡ listAt bytes place
       → Come job next (later section)
   next-list here was ends e = record { is = here .is ∙ rw (was, e, ends) }
 

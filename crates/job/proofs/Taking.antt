@@ -3,7 +3,7 @@ use Prim.Native.Nat.{ℕ, _+_, _*_, _%_, _≤_, _<_}
 use native.Mathlib.Omega.{arith}
 use mathlib.Core.Bool.{Bool, true, false, cond}
 use mathlib.Core.List.{List}
-use mathlib.Core.Path.{_≡_, refl, sym, _∙_}
+use mathlib.Core.Path.{_≡_, refl, ap, sym, _∙_}
 use lib.Dec.{eqb}
 use lib.ListN.{length}
 use borrow.Author.Tests.{lt-ltb, le-ltb, ltb-false, le-leb, lt-leb, leb-false, eqb-true, eq-eqb, ne-eqb}
@@ -25,7 +25,8 @@ section-with : (number place count : ℕ) → number ≡ 0 → At (record { plac
 section-with number place count e = rw (eq-eqb number 0 e)
 
 -- a section that was taken had no fault
-taken-with : (number place count : ℕ) (section : Section) → takenOf number place count ≡ At section → (number ≡ 0) × (section ≡ record { place = place; count = count })
+taken-with : (number place count : ℕ) (section : Section) → takenOf number place count ≡ At section
+    → (number ≡ 0) × (section ≡ record { place = place; count = count })
 taken-with number place count section e = go (eqb number 0) refl e
   where
     go : (t : Bool) → eqb number 0 ≡ t → cond t (At (record { place = place; count = count })) (Refused number) ≡ At section
@@ -42,13 +43,16 @@ module _ (bytes : List ℕ) (place : ℕ) where
   pub list-too-long : (count : ℕ) → count ≡ at bytes place → place < length bytes → rangeLimit < count → Refused 52 ≡ listAt bytes place
   unfolding listAt listNumber
   list-too-long count e h long =
-      refused-with _ 52 _ _ (gives-later _ 50 _ (lt-leb (length bytes) place h) ∙ gives-here _ 52 _ (omega arith) (lt-ltb rangeLimit (at bytes place) (omega arith))) (omega arith)
+      refused-with _ 52 _ _
+      (gives-later _ 50 _ (lt-leb (length bytes) place h) ∙ gives-here _ 52 _ (omega arith) (lt-ltb rangeLimit (at bytes place) (omega arith)))
+      (omega arith)
 
   list-number : place < length bytes → at bytes place ≤ rangeLimit → listNumber bytes place ≡ rangesNumber (at bytes place) bytes (place + 1)
   unfolding listNumber
   list-number h most = gives-later _ 50 _ (lt-leb (length bytes) place h) ∙ gives-later _ 52 _ (le-ltb rangeLimit (at bytes place) most)
 
-  pub list-refused : (count number : ℕ) → count ≡ at bytes place → place < length bytes → count ≤ rangeLimit → number ≡ rangesNumber count bytes (place + 1) → (number ≡ 0 → ⊥)
+  pub list-refused : (count number : ℕ) → count ≡ at bytes place → place < length bytes → count ≤ rangeLimit
+      → number ≡ rangesNumber count bytes (place + 1) → (number ≡ 0 → ⊥)
       → Refused number ≡ listAt bytes place
   unfolding listAt
   list-refused count number e h most f other =
@@ -75,6 +79,13 @@ list-in bytes place section e =
     let all = ranges-right bytes (at bytes place) (place + 1) (omega arith) (two .1) in
     rw (got .1) (record { limit = ltb-false rangeLimit (at bytes place) (gives-zero _ 52 (omega arith) (two .0)); ends = all .0; ordered = all .1 })
 
+-- its contents begin behind its count, and so it ends within 257 bytes
+pub list-short : (bytes : List ℕ) (place : ℕ) (section : Section) → listAt bytes place ≡ At section → listEnd section ≤ place + 257
+unfolding listAt
+list-short bytes place section e =
+    let begins = ap (λ (s : Section). s .place) (taken-with (listNumber bytes place) (place + 1) (at bytes place) section e .1) in
+    omega (arith, begins, list-in bytes place section e .limit)
+
 -- such a section's values have no fault, so the node gives no 20 to 22
 pub list-right : (bytes : List ℕ) (section : Section) → ListIn bytes section → faultOf (valuesIn bytes section) ≡ 0
 unfolding faultOf
@@ -95,7 +106,8 @@ module _ (bytes : List ℕ) (place : ℕ) where
     unfolding batchAt batchNumber
     batch-too-long h =
         refused-with _ 54 _ _
-        (gives-later _ 50 _ (le-ltb (length bytes) (place + 2) there) ∙ gives-here _ 54 _ (omega arith) (lt-ltb batchLimit (wordAt bytes place) (omega arith))) (omega arith)
+        (gives-later _ 50 _ (le-ltb (length bytes) (place + 2) there) ∙ gives-here _ 54 _ (omega arith)
+        (lt-ltb batchLimit (wordAt bytes place) (omega arith))) (omega arith)
 
     pub batch-cut : count ≤ batchLimit → length bytes < place + 2 + count → Refused 50 ≡ batchAt bytes place
     unfolding batchAt batchNumber
@@ -120,5 +132,13 @@ batch-in bytes place section e =
     let got = taken-with _ (place + 2) (wordAt bytes place) section e in
     let one = orElse-zero _ _ (got .0) in
     let two = orElse-zero _ _ (one .1) in
-    rw (got .1)
-    (ltb-false batchLimit (wordAt bytes place) (gives-zero _ 54 (omega arith) (two .0)), ltb-false (length bytes) (place + 2 + wordAt bytes place) (gives-zero _ 50 (omega arith) (two .1)))
+    rw (got .1) (
+      ltb-false batchLimit (wordAt bytes place) (gives-zero _ 54 (omega arith) (two .0)),
+      ltb-false (length bytes) (place + 2 + wordAt bytes place)
+          (gives-zero _ 50 (omega arith) (two .1)),
+    )
+
+-- its bytes begin behind its length
+pub batch-place : (bytes : List ℕ) (place : ℕ) (section : Section) → batchAt bytes place ≡ At section → section .place ≡ place + 2
+unfolding batchAt
+batch-place bytes place section e = ap (λ (s : Section). s .place) (taken-with (batchNumber bytes place) (place + 2) (wordAt bytes place) section e .1)

@@ -89,7 +89,15 @@ sectionsOf own flags bytes =
     (λ c. andThen (listAt bytes (listEnd c))
     (λ d. andThen (batchAt bytes (listEnd d))
     (λ e. cond (ltb (e .place + e .count) (length bytes)) (reading.Refused 53)
-    (reading.Job (record { own = own; flags = flags; «source_pass» = a; «source_reject» = b; «destination_pass» = c; «destination_reject» = d; batch = e })))))))
+    (reading.Job (record {
+      own = own;
+      flags = flags;
+      «source_pass» = a;
+      «source_reject» = b;
+      «destination_pass» = c;
+      «destination_reject» = d;
+      batch = e;
+    })))))))
 
 -- what follows own address and flags, or their refusal
 abbrev pub afterHead : Head → List ℕ → Reading
@@ -98,6 +106,10 @@ afterHead (head.Refused number) bytes = reading.Refused number
 
 unfoldable pub jobOf : List ℕ → Reading
 jobOf bytes = afterHead (headOf bytes) bytes
+
+-- the most bytes that a job without fault has: own address and flags, four lists of 64 ranges, the longest batch ("Sizes")
+abbrev pub jobLimit : ℕ
+jobLimit = 3 + 4 * (1 + 4 * rangeLimit) + (2 + batchLimit)
 
 -- the flags: bit 0 echo, 1 repeating, 2 source pass on, 3 source reject on, 4 destination pass on, 5 destination reject on
 unfoldable pub settingsOf : Job → Settings

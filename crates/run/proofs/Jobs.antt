@@ -41,7 +41,7 @@ batch-short bytes job batch e eb =
     omega (arith, ap length eb, length-take (job .batch .count) (drop (job .batch .place) bytes), i .batch-limit)
 
 -- the first line, then those of the walk
-own-is : (job : Job) → settingsOf job .own ≡ job .own
+pub own-is : (job : Job) → settingsOf job .own ≡ job .own
 unfolding settingsOf
 own-is job = refl
 

@@ -1,2 +1,4 @@
 pub mod Lining
 pub mod Jobs
+pub mod Short
+pub mod Whole

@@ -77,13 +77,15 @@ module _ (settings : Settings) (lists : Lists) (batch : List ℕ) where
     unfolding stepOf
     step-short cursor = rw (le-ltb batchLimit (length batch) short)
 
-    pub went : (offset : ℕ) (ended : Bool) (answer : Answer) (next : Cursor) → stepOf settings lists roomForOne batch (record { place = offset; ended = ended }) ≡ Answered answer next
+    pub went : (offset : ℕ) (ended : Bool) (answer : Answer) (next : Cursor)
+        → stepOf settings lists roomForOne batch (record { place = offset; ended = ended }) ≡ Answered answer next
         → Went offset ended answer next
     went offset ended answer next e =
         pick ended (leb (length batch) offset) refl refl (sym (step-short (record { place = offset; ended = ended })) ∙ e)
       where
         pick : (t u : Bool) → ended ≡ t → leb (length batch) offset ≡ u
-            → cond (t || u) Ended (Answered (answerOf settings lists roomForOne (drop offset batch)) (nextCursor lists batch offset)) ≡ Answered answer next → Went offset ended answer next
+            → cond (t || u) Ended (Answered (answerOf settings lists roomForOne (drop offset batch)) (nextCursor lists batch offset)) ≡ Answered
+            answer next → Went offset ended answer next
         pick true u et eu s = let z : _≡_ {A = ℕ} 0 1 = cc in absurd (omega arith)
         pick false true et eu s = let z : _≡_ {A = ℕ} 0 1 = cc in absurd (omega arith)
         pick false false et eu s =
@@ -91,13 +93,15 @@ module _ (settings : Settings) (lists : Lists) (batch : List ℕ) where
             record { running = et; inside = leb-false (length batch) offset eu; answered = same .0; moves = same .1 }
 
     -- a step that did not answer: nothing is left of the walk
-    pub stopped : (lines offset : ℕ) (ended : Bool) (stepped : Stepped) → stepped ≡ stepOf settings lists roomForOne batch (record { place = offset; ended = ended })
+    pub stopped : (lines offset : ℕ) (ended : Bool) (stepped : Stepped)
+        → stepped ≡ stepOf settings lists roomForOne batch (record { place = offset; ended = ended })
         → (tagOf the-type stepped ≡ 1) ⊎ (tagOf the-type stepped ≡ 2) → left lines offset ended ≡ endingAt 0 offset
     stopped lines offset ended stepped e k =
         pick ended (leb (length batch) offset) refl refl (not-answered stepped k) (e ∙ step-short (record { place = offset; ended = ended }))
       where
         pick : (t u : Bool) → ended ≡ t → leb (length batch) offset ≡ u → ((a : Answer) (n : Cursor) → stepped ≡ Answered a n → ⊥)
-            → stepped ≡ cond (t || u) Ended (Answered (answerOf settings lists roomForOne (drop offset batch)) (nextCursor lists batch offset)) → left lines offset ended ≡ endingAt 0 offset
+            → stepped ≡ cond (t || u) Ended (Answered (answerOf settings lists roomForOne (drop offset batch)) (nextCursor lists batch offset)) → left
+            lines offset ended ≡ endingAt 0 offset
         pick true u et eu never s = rw et
         pick false true et eu never s = rw et (walk-end settings lists roomForOne batch (length batch - lines) offset eu)
         pick false false et eu never s = absurd (never _ _ s)
@@ -109,7 +113,8 @@ module _ (settings : Settings) (lists : Lists) (batch : List ℕ) where
 
       left-later : (t : Bool) → eqb (listOrReadingFault lists (drop offset batch)) 0 ≡ t
           → cond t (walkFrom (length batch - (lines + 1)) settings lists roomForOne batch (offset + taken lists (drop offset batch))) (endingAt 0 offset)
-          ≡ cond (not t) (endingAt 0 (offset + taken lists (drop offset batch))) (walkFrom (length batch - (lines + 1)) settings lists roomForOne batch (offset + taken lists (drop offset batch)))
+          ≡ cond (not t) (endingAt 0 (offset + taken lists (drop offset batch)))
+          (walkFrom (length batch - (lines + 1)) settings lists roomForOne batch (offset + taken lists (drop offset batch)))
       left-later true e = refl
       left-later false e = ap (endingAt 0) (sym (not-taken settings lists roomForOne batch offset e))
 
@@ -120,7 +125,8 @@ module _ (settings : Settings) (lists : Lists) (batch : List ℕ) where
           ap (λ (n : ℕ). walkFrom n settings lists roomForOne batch offset) turns
           ∙ walk-more settings lists roomForOne batch (length batch - (lines + 1)) offset (lt-leb (length batch) offset (w .inside))
           ∙ ap (before offset (answerOf settings lists roomForOne (drop offset batch)))
-          (left-later (eqb (listOrReadingFault lists (drop offset batch)) 0) refl ∙ ap (λ (n : Cursor). left (lines + 1) (n .place) (n .ended)) (sym (w .moves)))
+          (left-later (eqb (listOrReadingFault lists (drop offset batch)) 0) refl ∙ ap (λ (n : Cursor). left (lines + 1) (n .place) (n .ended))
+          (sym (w .moves)))
 
       lines-after : walkLines settings lists batch lines (left lines offset false)
           ≡ lineAt settings lists batch (lines + 1) offset ∷ walkLines settings lists batch (lines + 1) later
@@ -128,17 +134,20 @@ module _ (settings : Settings) (lists : Lists) (batch : List ℕ) where
       lines-after =
           let count : lines + suc (length (later .offsets)) ≡ lines + 1 + length (later .offsets) = omega arith in
           ap (walkLines settings lists batch lines) left-before
-          ∙ ap (λ (n : ℕ). lineAt settings lists batch (lines + 1) offset ∷ (pduLines settings lists batch (lines + 1 + 1) (later .offsets) ++ (lastLine n (later .end) ∷ []))) count
+          ∙ ap (λ (n : ℕ). lineAt settings lists batch (lines + 1) offset ∷
+          (pduLines settings lists batch (lines + 1 + 1) (later .offsets) ++ (lastLine n (later .end) ∷ []))) count
 
       pub text-after : (text : List ℕ) (place : ℕ)
           → finalText text place lines offset false
-          ≡ finalText (placed text place (lineAt settings lists batch (lines + 1) offset)) (placeAfter text place (lineAt settings lists batch (lines + 1) offset)) (lines + 1) (next .place) (next .ended)
+          ≡ finalText (placed text place (lineAt settings lists batch (lines + 1) offset))
+          (placeAfter text place (lineAt settings lists batch (lines + 1) offset)) (lines + 1) (next .place) (next .ended)
       unfolding finalText textWith later
       text-after text place = ap (textWith text place) lines-after
 
       pub place-after : (text : List ℕ) (place : ℕ)
           → finalPlace text place lines offset false
-          ≡ finalPlace (placed text place (lineAt settings lists batch (lines + 1) offset)) (placeAfter text place (lineAt settings lists batch (lines + 1) offset)) (lines + 1) (next .place) (next .ended)
+          ≡ finalPlace (placed text place (lineAt settings lists batch (lines + 1) offset))
+          (placeAfter text place (lineAt settings lists batch (lines + 1) offset)) (lines + 1) (next .place) (next .ended)
       unfolding finalPlace placeWith later
       place-after text place = ap (placeWith text place) lines-after
 
@@ -222,9 +231,11 @@ module _ (settings : Settings) (lists : Lists) (batch : List ℕ) where
           same = ap length (e .1) ∙ length-placed text place _ ∙ g .same;
           room = room;
           text-is =
-              rw (e .0, e .1, line) (sym (text-after short lines offset answer next run few text place)) ∙ ap (finalText text place lines offset) (sym (w .running)) ∙ g .text-is;
+              rw (e .0, e .1, line) (sym (text-after short lines offset answer next run few text place)) ∙ ap (finalText text place lines offset)
+              (sym (w .running)) ∙ g .text-is;
           place-is =
-              rw (e .0, e .1, line) (sym (place-after short lines offset answer next run few text place)) ∙ ap (finalPlace text place lines offset) (sym (w .running)) ∙ g .place-is;
+              rw (e .0, e .1, line) (sym (place-after short lines offset answer next run few text place)) ∙ ap (finalPlace text place lines offset)
+              (sym (w .running)) ∙ g .place-is;
         }
 
   -- the last line ends the text
@@ -250,11 +261,13 @@ module _ (settings : Settings) (lists : Lists) (batch : List ℕ) where
         let turns : length batch - 0 ≡ length batch = omega arith in
         ap (λ (n : ℕ). walkFrom n settings lists roomForOne batch 0) turns ∙ rw (le-ltb batchLimit (length batch) short)
 
-    start-text : (text : List ℕ) (place : ℕ) → finalText text place 0 0 false ≡ textWith text place (walkLines settings lists batch 0 (walk settings lists roomForOne batch))
+    start-text : (text : List ℕ) (place : ℕ)
+        → finalText text place 0 0 false ≡ textWith text place (walkLines settings lists batch 0 (walk settings lists roomForOne batch))
     unfolding finalText
     start-text text place = ap (λ (w : Walk). textWith text place (walkLines settings lists batch 0 w)) start-walk
 
-    start-place : (text : List ℕ) (place : ℕ) → finalPlace text place 0 0 false ≡ placeWith text place (walkLines settings lists batch 0 (walk settings lists roomForOne batch))
+    start-place : (text : List ℕ) (place : ℕ)
+        → finalPlace text place 0 0 false ≡ placeWith text place (walkLines settings lists batch 0 (walk settings lists roomForOne batch))
     unfolding finalPlace
     start-place text place = ap (λ (w : Walk). placeWith text place (walkLines settings lists batch 0 w)) start-walk
 
@@ -290,7 +303,8 @@ module _ (settings : Settings) (lists : Lists) (batch : List ℕ) where
     went-step output offset ended stepped answer next room e answers =
         went short offset ended answer next (sym (with-room output offset ended stepped room e) ∙ answers)
 
-    pub printed-step : (output now : List ℕ) (offset : ℕ) (ended : Bool) (answer : Answer) (next : Cursor) → length output ≡ roomForOne → Went short offset ended answer next
+    pub printed-step : (output now : List ℕ) (offset : ℕ) (ended : Bool) (answer : Answer) (next : Cursor) → length output ≡ roomForOne
+        → Went short offset ended answer next
         → now ≡ stepOutput settings lists batch (record { place = offset; ended = ended }) output → Printed (drop offset batch) now answer
     printed-step output now offset ended answer next room w e =
         printed (drop offset batch) output now answer room (w .answered) (step-output offset ended answer next output now w e)

@@ -1,18 +1,19 @@
 -- Document 01, "The program `relay`": the lines that a batch prints.
-use Prim.Native.Nat.{ℕ, _+_}
+use Prim.Native.Nat.{ℕ, _+_, _*_, _≤_}
 use mathlib.Core.Bool.{cond}
-use mathlib.Core.List.{List, [], _∷_, _++_}
+use mathlib.Core.Path.{_≡_}
+use mathlib.Core.List.{List, [], _∷_, _++_, flatten}
 use lib.Dec.{eqb}
-use lib.ListN.{length, drop}
+use lib.ListN.{length, take, drop}
 use Rattle.octets.specs.Octets.{placed, placeAfter}
-use Rattle.pdu.specs.Sizes.{pduLimit}
+use Rattle.pdu.specs.Sizes.{pduLimit, batchLimit}
 use Rattle.node.specs.declared.Settings.{Settings}
 use Rattle.node.specs.Decision.{Lists, deliveryNumber, repeatNumber}
 use Rattle.node.specs.Repeat.{repeated}
 use Rattle.batch.specs.Walk.{Walk, walk}
 use Rattle.job.specs.declared.Reading.{Reading}
 use Rattle.job.specs.declared.Reading.the-variants.{Job, Refused}
-use Rattle.job.specs.Jobs.{jobOf, settingsOf, listsIn, batchIn}
+use Rattle.job.specs.Jobs.{jobOf, jobLimit, settingsOf, listsIn, batchIn}
 use Rattle.text.specs.Text.{firstLine, pduLine, lastLine, refusedLine}
 
 -- the program's output for one PDU has room for the longest, so that none is too long for it
@@ -39,9 +40,13 @@ unfoldable pub walkLines : Settings → Lists → List ℕ → ℕ → Walk → 
 walkLines settings lists batch printed w =
     pduLines settings lists batch (printed + 1) (w .offsets) ++ (lastLine (printed + length (w .offsets)) (w .end) ∷ [])
 
--- all lines of a batch that is not too long: own address, a line a PDU, the last line
+-- a line for each PDU of a batch that is not too long, and the last line
+abbrev pub linesOf : Settings → Lists → List ℕ → List (List ℕ)
+linesOf settings lists batch = walkLines settings lists batch 0 (walk settings lists roomForOne batch)
+
+-- all lines of it: own address first
 unfoldable pub batchLines : Settings → Lists → List ℕ → List (List ℕ)
-batchLines settings lists batch = firstLine (settings .own) ∷ walkLines settings lists batch 0 (walk settings lists roomForOne batch)
+batchLines settings lists batch = firstLine (settings .own) ∷ linesOf settings lists batch
 
 -- lines put into a text one after another; one that does not fit is left out
 unfoldable pub textWith : List ℕ → ℕ → List (List ℕ) → List ℕ
@@ -52,6 +57,10 @@ unfoldable pub placeWith : List ℕ → ℕ → List (List ℕ) → ℕ
 placeWith text place [] = place
 placeWith text place (line ∷ later) = placeWith (placed text place line) (placeAfter text place line) later
 
+-- lines were put into a text from a place on: what stands in it after, and where they end
+abbrev pub LinesPut : List ℕ → ℕ → List (List ℕ) → List ℕ → ℕ → Type 0
+LinesPut before place lines after end = (end ≡ placeWith before place lines) × (after ≡ textWith before place lines)
+
 -- the lines of a job: a bad job prints only `refused` and the number
 abbrev pub jobLines : List ℕ → Reading → List (List ℕ)
 jobLines bytes (Refused number) = refusedLine number ∷ []
@@ -60,3 +69,25 @@ jobLines bytes (Job job) = batchLines (settingsOf job) (listsIn bytes job) (batc
 -- what `relay` prints for the bytes of a job, line by line
 unfoldable pub runLines : List ℕ → List (List ℕ)
 runLines bytes = jobLines bytes (jobOf bytes)
+
+-- and all of it, its lines one after another
+unfoldable pub printed : List ℕ → List ℕ
+printed bytes = flatten (runLines bytes)
+
+-- room for all that a job prints: 5 characters for each byte of the longest batch, and 46 for own address, a PDU that can't be read, and the end
+abbrev pub textRoom : ℕ
+textRoom = 5 * batchLimit + 46
+
+-- room for the start of the input that decides what is printed: one byte more than the longest job has, so that a longer one is told (53)
+abbrev pub inputRoom : ℕ
+inputRoom = jobLimit + 1
+
+-- what a run leaves in a text, and where its lines end there: each line that fits, and where the text has that room, all that is printed
+pub record Ran (bytes before after : List ℕ) (end : ℕ) : Type 0 where
+  pub lines : LinesPut before 0 (runLines bytes) after end
+  pub within : end ≤ length before
+  pub whole : textRoom ≤ length before → take end after ≡ printed bytes
+
+-- what is printed, where so much of an input was read as there was room for: all that `relay` prints for the whole of it
+abbrev pub PrintedForAll : List ℕ → ℕ → List ℕ → Type 0
+PrintedForAll start room text = (input : List ℕ) → take room input ≡ start → text ≡ printed input

@@ -2,12 +2,11 @@
 ghost use mathlib.Core.Path.{_≡_};
 ghost use Prim.Native.Nat.{_≤_};
 ghost use lib.ListN.{length};
-ghost use Rattle.node.specs.Decision.{Lists, listsOf};
+ghost use Rattle.node.specs.Decision.{listsOf};
 ghost use Rattle.pdu.specs.Sizes.{batchLimit};
-ghost use Rattle.batch.specs.Walk.{walk};
 ghost use Rattle.job.specs.declared.Reading.the-variants as reading;
 ghost use Rattle.job.specs.Jobs.{jobOf, settingsOf, listsIn, batchIn};
-ghost use Rattle.run.specs.Run.{roomForOne, walkLines, batchLines, runLines, textWith, placeWith};
+ghost use Rattle.run.specs.Run.{linesOf, batchLines, LinesPut, Ran};
 use batch::Cursor;
 use batch::Stepped;
 use job::Job;
@@ -16,10 +15,10 @@ use node::Settings;
 use pdu::Header;
 
 // Writes what `relay` prints for a job's bytes into the text, line after line from its start, and answers where the lines end. Any bytes get an
-// answer. A line that does not fit is left out; a shorter one after it may still be put. That a text of 262,144 bytes has room for the lines of every
-// job is reckoned in docs/DECISIONS.md, not proved. Document 01, "The program `relay`".
+// answer. A text of 81,966 bytes has room for the lines of every job, whole; in a shorter one a line that does not fit is left out, and a shorter one
+// after it may still be put. Document 01, "The program `relay`".
 pub fn relay(bytes: &[u8], text: &mut [u8]) -> usize
-    ensures { λ r. ⌜ (r ≡ placeWith (now (text .entry)) 0 (runLines (now (bytes .entry)))) × (now (text .exit) ≡ textWith (now (text .entry)) 0 (runLines (now (bytes .entry)))) × (r ≤ length (now (text .entry))) ⌝ }
+    ensures { λ r. ⌜ Ran (now (bytes .entry)) (now (text .entry)) (now (text .exit)) r ⌝ }
 {
     let reading = job::read(bytes);
     match reading {
@@ -30,7 +29,8 @@ pub fn relay(bytes: &[u8], text: &mut [u8]) -> usize
 
 fn put_job(text: &mut [u8], bytes: &[u8], job: Job) -> usize
     requires { ⌜ jobOf (now bytes) ≡ reading.Job job ⌝ }
-    ensures { λ r. ⌜ (r ≡ placeWith (now (text .entry)) 0 (batchLines (settingsOf job) (listsIn (now (bytes .entry)) job) (batchIn (now (bytes .entry)) job))) × (now (text .exit) ≡ textWith (now (text .entry)) 0 (batchLines (settingsOf job) (listsIn (now (bytes .entry)) job) (batchIn (now (bytes .entry)) job))) ⌝ }
+    ensures { λ r. ⌜ LinesPut (now (text .entry)) 0
+        (batchLines (settingsOf job) (listsIn (now (bytes .entry)) job) (batchIn (now (bytes .entry)) job)) (now (text .exit)) r ⌝ }
 {
     let source_pass = job::values(bytes, job.source_pass);
     let source_reject = job::values(bytes, job.source_reject);
@@ -65,7 +65,9 @@ fn put_walk<'a>(
     batch: &[u8],
 ) -> usize
     requires { ⌜ length (now batch) ≤ batchLimit ⌝ }
-    ensures { λ r. ⌜ (r ≡ placeWith (now (text .entry)) place (walkLines settings (listsOf (now («source_pass» .entry)) (now («source_reject» .entry)) (now («destination_pass» .entry)) (now («destination_reject» .entry))) (now (batch .entry)) 0 (walk settings (listsOf (now («source_pass» .entry)) (now («source_reject» .entry)) (now («destination_pass» .entry)) (now («destination_reject» .entry))) roomForOne (now (batch .entry))))) × (now (text .exit) ≡ textWith (now (text .entry)) place (walkLines settings (listsOf (now («source_pass» .entry)) (now («source_reject» .entry)) (now («destination_pass» .entry)) (now («destination_reject» .entry))) (now (batch .entry)) 0 (walk settings (listsOf (now («source_pass» .entry)) (now («source_reject» .entry)) (now («destination_pass» .entry)) (now («destination_reject» .entry))) roomForOne (now (batch .entry))))) ⌝ }
+    ensures { λ r. ⌜ LinesPut (now (text .entry)) place (linesOf settings
+        (listsOf (now («source_pass» .entry)) (now («source_reject» .entry)) (now («destination_pass» .entry)) (now («destination_reject» .entry)))
+        (now (batch .entry))) (now (text .exit)) r ⌝ }
 {
     let mut repeated = [0u8; Header::PDU_LIMIT];
     let mut next_place = place;

@@ -7,9 +7,9 @@ use mathlib.Core.Path.{_≡_, ap, sym, _∙_}
 use lib.Dec.{leb, eqb}
 use lib.ListN.{length, length-append}
 use borrow.Author.Tests.{leb-true, leb-false, not-true, not-false}
-use Rattle.text.proofs.Decimal.{decimal-of-64-bits, decimal-of-16-bits, decimal-of-8-bits}
+use Rattle.text.proofs.Decimal.{length-decimal, decimal-of-64-bits, decimal-of-16-bits, decimal-of-8-bits}
 use Rattle.text.proofs.Parts.{Promised, Put, begin, then}
-use Rattle.text.proofs.Shown.{length-shown, shown-at-most}
+use Rattle.text.proofs.Shown.{length-shown}
 use Rattle.text.specs.Text.{text, decimal, shown, firstLine, pduLine, lastLine, refusedLine}
 
 length-ended : (start : List ℕ) (n end : ℕ) → length (start ++ decimal n ++ end ∷ []) ≡ length start + length (decimal n) + 1
@@ -48,7 +48,8 @@ pdu-started blank now₁ now₂ now₃ now₄ number offset delivery repeat next
     let two = then one (text " " ++ decimal offset ++ text " ") now₂ next₂ (omega (arith, one .ends)) p₂ in
     let e₂ : next₂ ≤ 42 = omega (arith, two .ends, length-append (decimal number) (text " " ++ decimal offset ++ text " ")) in
     let three = then two (decimal delivery) now₃ next₃ (omega arith) p₃ in
-    let e₃ : next₃ ≤ 45 = omega (arith, three .ends, two .ends, length-append (decimal number ++ (text " " ++ decimal offset ++ text " ")) (decimal delivery)) in
+    let e₃ : next₃ ≤ 45 = omega
+    (arith, three .ends, two .ends, length-append (decimal number ++ (text " " ++ decimal offset ++ text " ")) (decimal delivery)) in
     let four = then three (text " " ++ decimal repeat ++ text " ") now₄ next₄ (omega arith) p₄ in
     simp (append-assoc) (simp (append-assoc) at four)
 
@@ -86,27 +87,19 @@ pub refused-line-at-most : (number : ℕ) → number < 256 → length (refusedLi
 unfolding refusedLine
 refused-line-at-most number h = omega (arith, length-ended (text "refused ") number 10, decimal-of-8-bits number h)
 
-pub last-line-at-most : (lines taken : ℕ) → lines < 2 ^ 64 → taken < 2 ^ 64 → length (lastLine lines taken) ≤ 46
+pub last-line-at-most : (lines taken : ℕ) → lines < 10000 → taken < 100000 → length (lastLine lines taken) ≤ 15
 unfolding lastLine
 last-line-at-most lines taken h k =
     omega (
       arith,
       length-ended (text "end " ++ decimal lines ++ text " ") taken 10,
       length-ended (text "end ") lines 32,
-      decimal-of-64-bits lines h,
-      decimal-of-64-bits taken k,
+      length-decimal 3 lines h,
+      length-decimal 4 taken k,
     )
 
-pub pdu-line-at-most : (number offset delivery repeat : ℕ) (repeated : List ℕ) → number < 2 ^ 64 → offset < 2 ^ 64 → delivery < 256 → repeat < 256
-    → length (pduLine number offset delivery repeat repeated) ≤ 60 + 2 * length repeated
+pub pdu-line-at-most : (number offset delivery repeat : ℕ) (repeated : List ℕ) → number < 10000 → offset < 100000 → delivery < 100
+    → length (pduLine number offset delivery repeat repeated) ≤ 16 + length (decimal repeat) + length (shown repeated)
 unfolding pduLine
-pdu-line-at-most number offset delivery repeat repeated k₁ k₂ k₃ k₄ =
-    simp (length-append)
-    (omega (
-      arith,
-      decimal-of-64-bits number k₁,
-      decimal-of-64-bits offset k₂,
-      decimal-of-8-bits delivery k₃,
-      decimal-of-8-bits repeat k₄,
-      shown-at-most repeated,
-    ))
+pdu-line-at-most number offset delivery repeat repeated k₁ k₂ k₃ =
+    simp (length-append) (omega (arith, length-decimal 3 number k₁, length-decimal 4 offset k₂, length-decimal 1 delivery k₃))

@@ -35,10 +35,11 @@ same-room output place start (suc repeated) h k l =
     rw (eqb·suc-zero repeated)
     (same-tests (suc repeated) ((output - place - start - 1) / 2) (place + start + 2 * suc repeated + 1) output (λ fits. omega arith) (λ fits. omega arith))
 
-pub shown-at-most : (repeated : List ℕ) → length (shown repeated) ≤ 1 + 2 * length repeated
+-- two characters a byte are room for `-` too
+pub shown-within : (repeated : List ℕ) (n : ℕ) → length repeated ≤ n → 0 < n → length (shown repeated) ≤ 2 * n
 unfolding shown
-shown-at-most [] = omega arith
-shown-at-most (byte ∷ repeated) = simp (eqb·suc-zero (length repeated)) (omega (arith, length-hex (byte ∷ repeated)))
+shown-within [] n h some = omega arith
+shown-within (byte ∷ repeated) n h some = simp (eqb·suc-zero (length repeated)) (omega (arith, length-hex (byte ∷ repeated)))
 
 pub shown-none : (repeated : List ℕ) → length repeated ≡ 0 → shown repeated ≡ text "-"
 unfolding shown

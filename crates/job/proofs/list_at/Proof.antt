@@ -27,7 +27,9 @@ returns-3 : tie.Need-returns-3
 returns-3 c = list-refused _ _ _ _ (c .before .before .before .size .ensures .0) (omega arith) (omega arith) (c .before .ranges-number .ensures) (c .if3 .taken)
 
 returns-4 : tie.Need-returns-4
-returns-4 c = list-taken _ _ _ (c .before .before .before .size .ensures .0) (omega arith) (omega arith) (sym (c .if3 .left) ∙ c .before .ranges-number .ensures)
+returns-4 c =
+    list-taken _ _ _ (c .before .before .before .size .ensures .0) (omega arith) (omega arith)
+    (sym (c .if3 .left) ∙ c .before .ranges-number .ensures)
 
 pub list-at-spec : {M : Type 1} → statement M
 list-at-spec =

@@ -33,7 +33,9 @@ word-requires-2 : tie.Need-word-requires-2 Inv-loop μ-loop
 word-requires-2 c κs = search needs
 
 returns-2 : tie.Need-returns-2 Inv-loop μ-loop
-returns-2 c = sym (c .before .before .before .before .before .loop .inv .1 ∙ range-wrong _ _ (c .before .before .before .before .before .loop .left - 1) _ (omega arith) (omega arith) (omega (arith, c .before .before .word .ensures, c .before .word2 .ensures)))
+returns-2 c =
+    sym (c .before .before .before .before .before .loop .inv .1 ∙ range-wrong _ _ (c .before .before .before .before .before .loop .left - 1) _
+    (omega arith) (omega arith) (omega (arith, c .before .before .word .ensures, c .before .word2 .ensures)))
 
 add-place : tie.Need-add-place Inv-loop μ-loop
 add-place c = search needs
@@ -45,7 +47,11 @@ loop-less : tie.Need-loop-less Inv-loop μ-loop
 loop-less c = search needs
 
 loop-again : tie.Need-loop-again Inv-loop μ-loop
-loop-again c = (omega arith, c .before .before .before .before .before .loop .inv .1 ∙ range-right _ _ _ _ _ (omega arith) (omega arith) (omega arith) (omega (arith, c .before .before .word .ensures, c .before .word2 .ensures)))
+loop-again c = (
+  omega arith,
+  c .before .before .before .before .before .loop .inv .1 ∙ range-right _ _ _ _ _ (omega arith) (omega arith) (omega arith)
+      (omega (arith, c .before .before .word .ensures, c .before .word2 .ensures)),
+)
 
 returns-3 : tie.Need-returns-3 Inv-loop μ-loop
 returns-3 c = sym (c .before .loop .inv .1 ∙ ranges-none _ _ _ (omega arith))

@@ -224,13 +224,15 @@ returns-6 : tie.Need-returns-6
 returns-6 c =
     let l = c .before .before .before .before .before in
     let d = to-fourth l in let t = to-third d in let s = to-second t in let f = to-first s in let e = c .before .before .before .last .given in
-    left-over (own f) (flags f) (bytes-of f) (source-pass s) (source-reject t) (destination-pass d) (destination-reject l) (e .0 .0) (last-step l) (e .1) (c .if1 .taken)
+    left-over (own f) (flags f) (bytes-of f) (source-pass s) (source-reject t) (destination-pass d) (destination-reject l) (e .0 .0) (last-step l)
+    (e .1) (c .if1 .taken)
 
 returns-7 : tie.Need-returns-7
 returns-7 c =
     let l = c .before .before .before .before .before in
     let d = to-fourth l in let t = to-third d in let s = to-second t in let f = to-first s in let e = c .before .before .before .last .given in
-    whole (own f) (flags f) (bytes-of f) (source-pass s) (source-reject t) (destination-pass d) (destination-reject l) (e .0 .0) (last-step l) (e .1) (c .if1 .left)
+    whole (own f) (flags f) (bytes-of f) (source-pass s) (source-reject t) (destination-pass d) (destination-reject l) (e .0 .0) (last-step l) (e .1)
+    (c .if1 .left)
 
 pub sections-spec : {M : Type 1} → statement M
 sections-spec =

@@ -34,10 +34,20 @@ loop-less : tie.Need-loop-less Inv-loop μ-loop
 loop-less c = search needs
 
 loop-again : tie.Need-loop-again Inv-loop μ-loop
-loop-again c = let a = c .before .before .before .before .args in let l = c .before .before .loop in (omega arith, omega (arith, length-set (l .values) (l .i) (c .value-at .result)), filled-more (valuesIn (now (a .bytes)) (a .section)) (l .values) (l .i) (c .value-at .result) (l .inv .1) (omega arith) (c .value-at .ensures) (l .inv .2))
+loop-again c =
+    let a = c .before .before .before .before .args in
+    let l = c .before .before .loop in (
+      omega arith,
+      omega (arith, length-set (l .values) (l .i) (c .value-at .result)),
+      filled-more (valuesIn (now (a .bytes)) (a .section)) (l .values)
+          (l .i) (c .value-at .result) (l .inv .1) (omega arith) (c .value-at .ensures) (l .inv .2),
+    )
 
 returns : tie.Need-returns Inv-loop μ-loop
-returns c = let a = c .before .before .before .args in let l = c .before .loop in filled-all (valuesIn (now (a .bytes)) (a .section)) (l .values) (l .i) (l .inv .1) (omega arith) (l .inv .2)
+returns c =
+    let a = c .before .before .before .args in
+    let l = c .before .loop in
+    filled-all (valuesIn (now (a .bytes)) (a .section)) (l .values) (l .i) (l .inv .1) (omega arith) (l .inv .2)
 
 pub values-spec : {M : Type 1} → statement M
 values-spec =

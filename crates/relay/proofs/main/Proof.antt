@@ -10,23 +10,20 @@ slice-aggregate-read-full c = search needs
 read-full-requires : tie.Need-read-full-requires
 read-full-requires c κs = search needs
 
-array-share-prefix-bytes : tie.Need-array-share-prefix-bytes
-array-share-prefix-bytes c = search needs
+slice-aggregate-answer : tie.Need-slice-aggregate-answer
+slice-aggregate-answer c = search needs
 
-slice-aggregate-relay : tie.Need-slice-aggregate-relay
-slice-aggregate-relay c = search needs
+slice-aggregate-answer-2 : tie.Need-slice-aggregate-answer-2
+slice-aggregate-answer-2 c = search needs
 
-slice-aggregate-relay-2 : tie.Need-slice-aggregate-relay-2
-slice-aggregate-relay-2 c = search needs
-
-relay-requires : tie.Need-relay-requires
-relay-requires c κs = search needs
+answer-requires : tie.Need-answer-requires
+answer-requires c κs = search needs
 
 array-share-prefix-text : tie.Need-array-share-prefix-text
-array-share-prefix-text c = rw (c .before .relay .kept .1 .0) (c .before .relay .ensures .2)
+array-share-prefix-text c = search needs
 
 slice-aggregate-write-all : tie.Need-slice-aggregate-write-all
-slice-aggregate-write-all c = sym (length-take-le _ _ (rw (c .before .before .relay .kept .1 .0) (c .before .before .relay .ensures .2)))
+slice-aggregate-write-all c = sym (length-take-le _ _ (rw (c .before .before .answer .kept .1 .1 .0) (c .before .before .answer .ensures .0)))
 
 write-all-requires : tie.Need-write-all-requires
 write-all-requires c κs = search needs
@@ -40,10 +37,9 @@ main-spec =
     (tie.spec
     slice-aggregate-read-full
     read-full-requires
-    array-share-prefix-bytes
-    slice-aggregate-relay
-    slice-aggregate-relay-2
-    relay-requires
+    slice-aggregate-answer
+    slice-aggregate-answer-2
+    answer-requires
     array-share-prefix-text
     slice-aggregate-write-all
     write-all-requires

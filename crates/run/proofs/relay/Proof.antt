@@ -1,8 +1,7 @@
 use mathlib.Core.Path.{sym, _∙_}
 use denote.Ref.{now}
-use Rattle.run.proofs.Jobs.{refused-put, read-put, place-within}
-use Rattle.run.specs.Run.{runLines}
-use native.Mathlib.Omega.{arith}
+use Rattle.run.proofs.Jobs.{refused-put, read-put}
+use Rattle.run.proofs.Whole.{ran}
 use borrow.Author.Needs.{needs}
 use Rattle.run.proofs.relay.Statement.{statement}
 use Rattle.run.proofs.relay.Tie as tie
@@ -26,13 +25,27 @@ same-length : tie.Need-same-length
 same-length c = search needs
 
 returns : tie.Need-returns
-returns c = let a = c .before .before .before .before .before .before .before .before .before .before .args in let put = refused-put (now (a .bytes)) (now (a .text)) _ _ _ (sym (c .before .before .before .before .before .before .before .read .ensures) ∙ c .before .before .before .before .before .reading .given .1) (c .before .before .put-refused-line .ensures) in (put .0, put .1, rw (put .0) (place-within (runLines (now (a .bytes))) (now (a .text)) 0 (omega arith)))
+returns c =
+    let r = c .before .before .before .before .before .before .before in
+    let k = r .before .before in
+    let a = k .before .args in
+    let put =
+    refused-put (now (a .bytes)) (now (a .text)) _ _ _ (sym (r .read .ensures) ∙ c .before .before .before .before .before .reading .given .1)
+    (c .before .before .put-refused-line .ensures) in
+    ran (now (a .bytes)) (now (a .text)) _ _ (λ i. k .shared-slice-known .given i .fits) put
 
 same-length-2 : tie.Need-same-length-2
 same-length-2 c = search needs
 
 returns-2 : tie.Need-returns-2
-returns-2 c = let a = c .before .before .before .before .before .before .before .before .before .before .args in let put = read-put (now (a .bytes)) (now (a .text)) _ _ _ (sym (c .before .before .before .before .before .before .before .read .ensures) ∙ c .before .before .before .before .before .reading2 .given .1) (c .before .before .put-job .ensures) in (put .0, put .1, rw (put .0) (place-within (runLines (now (a .bytes))) (now (a .text)) 0 (omega arith)))
+returns-2 c =
+    let r = c .before .before .before .before .before .before .before in
+    let k = r .before .before in
+    let a = k .before .args in
+    let put =
+    read-put (now (a .bytes)) (now (a .text)) _ _ _ (sym (r .read .ensures) ∙ c .before .before .before .before .before .reading2 .given .1)
+    (c .before .before .put-job .ensures) in
+    ran (now (a .bytes)) (now (a .text)) _ _ (λ i. k .shared-slice-known .given i .fits) put
 
 pub relay-spec : {M : Type 1} → statement M
 relay-spec =

@@ -36,7 +36,8 @@ part-put-start c = search needs
 part-put-end : tie.Need-part-put-end
 part-put-end c =
     let p = c .before .before .before in
-    stays _ _ _ _ _ (stays _ _ _ _ _ (stays _ _ _ _ _ (omega arith) (p .before .before .before .before .before .before .before .put .ensures)) (p .before .before .before .before .put-decimal .ensures)) (p .put2 .ensures)
+    stays _ _ _ _ _ (stays _ _ _ _ _ (stays _ _ _ _ _ (omega arith) (p .before .before .before .before .before .before .before .put .ensures))
+    (p .before .before .before .before .put-decimal .ensures)) (p .put2 .ensures)
 
 put-requires-3 : tie.Need-put-requires-3
 put-requires-3 c κs = search needs
@@ -48,7 +49,8 @@ returns : tie.Need-returns
 returns c =
     let p = c .before .before .before .before .before .before .before in
     rw (← front (ended _ _ _ _ _ _ _ _ _ _ refl (search needs) (search needs)
-    (p .before .before .before .before .before .before .before .put .ensures) (p .before .before .before .before .put-decimal .ensures) (p .put2 .ensures))) (c .before .before .put3 .ensures)
+    (p .before .before .before .before .before .before .before .put .ensures) (p .before .before .before .before .put-decimal .ensures)
+    (p .put2 .ensures))) (c .before .before .put3 .ensures)
 
 pub put-ended-spec : {M : Type 1} → statement M
 put-ended-spec =

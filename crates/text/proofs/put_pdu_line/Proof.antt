@@ -61,7 +61,8 @@ returns : tie.Need-returns
 unfolding pduLine
 returns c =
     let p = c .before .before .before .before .before .before .before in
-    let f = c .before .before .before .before .before .before .before .before .before .before .before .before .before .before .before .before .before .before .before .before .before .before .fits in
+    let f = c .before .before .before .before .before .before .before .before .before .before .before .before .before .before .before .before .before
+    .before .before .before .before .before .fits in
     rw (front (pdu-started _ _ _ _ _ _ _ _ _ _ _ _ _ refl (f .number .fits) (f .offset .fits) (f .delivery .fits) (f .repeat .fits)
     (p .before .before .before .before .before .before .before .before .before .before .before .put-decimal .ensures)
     (p .before .before .before .before .before .before .before .put-ended .ensures)

@@ -32,7 +32,8 @@ same-length c = search needs
 
 returns-2 : tie.Need-returns-2
 returns-2 c =
-    let a = c .before .before .before .before .before .before .before .before .before .before .before .before .before .before .before .before .before .before .args in
+    let a = c .before .before .before .before .before .before .before .before .before .before .before .before .before .before .before .before .before
+    .before .args in
     let t = c .before .before .before .before .before .before .before .before .before .before .before .before .before in
     done (rest _ _ _ _ _ _ _ _ _ _
     (all-rest (now (a .output)) (now (a .start)) (now (a .repeated)) (a .place) (t .before .has-room .result) (t .before .has-room .ensures) (t .if1 .left))

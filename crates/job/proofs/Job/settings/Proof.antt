@@ -23,7 +23,17 @@ is-odd-requires-6 c κs = search needs
 
 returns : tie.Need-returns
 unfolding settingsOf
-returns c = rw (c .before .before .before .before .before .before .before .before .before .before .is-odd .ensures, c .before .before .before .before .before .before .before .before .is-odd2 .ensures, c .before .before .before .before .before .before .is-odd3 .ensures, c .before .before .before .before .is-odd4 .ensures, c .before .before .is-odd5 .ensures, c .is-odd6 .ensures)
+returns c =
+    rw (
+      c .before .before .before .before .before .before .before .before .before .before .is-odd .ensures,
+      c .before .before .before .before .before
+          .before .before .before .is-odd2 .ensures,
+      c .before .before .before .before .before .before .is-odd3 .ensures,
+      c .before .before .before
+          .before .is-odd4 .ensures,
+      c .before .before .is-odd5 .ensures,
+      c .is-odd6 .ensures,
+    )
 
 pub settings-spec : {M : Type 1} → statement M
 settings-spec =
