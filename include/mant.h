@@ -181,7 +181,7 @@ typedef struct MantAnswer {
     size_t delivered_place;   /* where the payload lies in the received bytes; 0 where nothing is delivered */
     size_t delivered_length;  /* 0 where nothing is delivered, and for an empty payload */
     size_t repeated_length;   /* how many bytes were written to the output; 0 where nothing is repeated */
-    size_t taken;             /* how long the received PDU is; 0 where a list is at fault or no PDU can be read */
+    size_t taken;             /* where the next PDU begins in the received bytes; 0 where a list is at fault or no PDU can be read */
 } MantAnswer;
 
 /* Where a walk over a batch has come to. A walk begins with place 0 and not ended. */
@@ -290,8 +290,8 @@ MantStep mant_step(MantNode settings, const uint16_t *source_pass, size_t source
    each node, and no two have the same address. */
 MantBound mant_most_transmissions(uint64_t nodes, uint64_t hop_limit);
 
-/* The most bytes that those transmissions have together, where the fresh PDU has this length. Any length is answered, also one that no PDU has. */
-MantBound mant_most_bytes(uint64_t nodes, uint64_t hop_limit, uint64_t length);
+/* The most bytes that those transmissions have together, where the fresh PDU has this size. Any size is answered, also one that no PDU has. */
+MantBound mant_most_bytes(uint64_t nodes, uint64_t hop_limit, uint64_t size);
 
 /* The sizes above, as the library has them. */
 MantLimits mant_limits(void);

@@ -49,56 +49,56 @@ unfolding answer
 hop-taken h x low = rw (le-ltb 7 h low)
 
 -- The loop's numbers once k terms are added.
-pub record Added (length growth n k total paths size : ℕ) : Type 0 where
-  pub total-is : total ≡ series (λ j. length + growth * j) n k
+pub record Added (size growth n k total paths grown : ℕ) : Type 0 where
+  pub total-is : total ≡ series (λ j. size + growth * j) n k
   pub paths-is : paths ≡ product n k
-  pub size-is : size ≡ length + growth * k
+  pub grown-is : grown ≡ size + growth * k
   pub total-fits : total < 2 ^ 64
   pub paths-fit : paths < 2 ^ 64
 
-pub none-added : (length growth n : ℕ) → length < 2 ^ 64 → Added length growth n 0 length 1 length
+pub none-added : (size growth n : ℕ) → size < 2 ^ 64 → Added size growth n 0 size 1 size
 unfolding series product
-none-added length growth n fits =
-    record { total-is = omega arith; paths-is = refl; size-is = omega arith; total-fits = fits; paths-fit = omega arith }
+none-added size growth n fits =
+    record { total-is = omega arith; paths-is = refl; grown-is = omega arith; total-fits = fits; paths-fit = omega arith }
 
 -- A turn of the loop: where one of its four numbers does not fit, the whole sum does not; where all fit, one term more is added.
-module _ {length growth n k total paths size : ℕ} (a : Added length growth n k total paths size) where
+module _ {size growth n k total paths grown : ℕ} (a : Added size growth n k total paths grown) where
   paths-next : paths * (n - k) ≡ product n (suc k)
   unfolding product
   paths-next = rw (a .paths-is)
 
-  size-next : size + growth ≡ length + growth * suc k
-  size-next = omega (arith, a .size-is, mul-suc growth k)
+  grown-next : grown + growth ≡ size + growth * suc k
+  grown-next = omega (arith, a .grown-is, mul-suc growth k)
 
-  reached : (m : ℕ) → k < m → total + paths * (n - k) * (size + growth) ≤ series (λ j. length + growth * j) n m
-  reached m more = rw (a .total-is, paths-next, size-next) (series-more (λ j. length + growth * j) n k m more)
+  reached : (m : ℕ) → k < m → total + paths * (n - k) * (grown + growth) ≤ series (λ j. size + growth * j) n m
+  reached m more = rw (a .total-is, paths-next, grown-next) (series-more (λ j. size + growth * j) n k m more)
 
   module _ (m : ℕ) (more : k < m) where
-    pub total-past : {x y z : ℕ} → x ≡ paths * (n - k) → y ≡ size + growth → z ≡ x * y → 2 ^ 64 ≤ total + z
-        → TooLarge ≡ fitting (series (λ j. length + growth * j) n m)
+    pub total-past : {x y z : ℕ} → x ≡ paths * (n - k) → y ≡ grown + growth → z ≡ x * y → 2 ^ 64 ≤ total + z
+        → TooLarge ≡ fitting (series (λ j. size + growth * j) n m)
     total-past p q e h = sym (fitting-large _ (omega (arith, rw (sym p, sym q, sym e) at (reached m more))))
 
-    pub term-past : {x y : ℕ} → x ≡ paths * (n - k) → y ≡ size + growth → 2 ^ 64 ≤ x * y → TooLarge ≡ fitting (series (λ j. length + growth * j) n m)
+    pub term-past : {x y : ℕ} → x ≡ paths * (n - k) → y ≡ grown + growth → 2 ^ 64 ≤ x * y → TooLarge ≡ fitting (series (λ j. size + growth * j) n m)
     term-past p q h = total-past p q refl (omega arith)
 
-    pub paths-past : 0 < length + growth → 2 ^ 64 ≤ paths * (n - k) → TooLarge ≡ fitting (series (λ j. length + growth * j) n m)
+    pub paths-past : 0 < size + growth → 2 ^ 64 ≤ paths * (n - k) → TooLarge ≡ fitting (series (λ j. size + growth * j) n m)
     paths-past some h =
-        let sized : 0 < size + growth = omega (arith, size-next, mul-suc growth k) in
+        let sized : 0 < grown + growth = omega (arith, grown-next, mul-suc growth k) in
         term-past refl refl (omega (arith, le-mul-of-pos-right (paths * (n - k)) sized))
 
-    pub size-past : m ≤ n → 2 ^ 64 ≤ size + growth → TooLarge ≡ fitting (series (λ j. length + growth * j) n m)
-    size-past most h =
+    pub grown-past : m ≤ n → 2 ^ 64 ≤ grown + growth → TooLarge ≡ fitting (series (λ j. size + growth * j) n m)
+    grown-past most h =
         let any : 0 < paths * (n - k) = omega (arith, paths-next, product-positive n (suc k) (omega arith)) in
-        term-past refl refl (omega (arith, le-mul-of-pos-right (size + growth) any, mul-comm (size + growth) (paths * (n - k))))
+        term-past refl refl (omega (arith, le-mul-of-pos-right (grown + growth) any, mul-comm (grown + growth) (paths * (n - k))))
 
-  pub added : {x y z sum : ℕ} → x ≡ paths * (n - k) → y ≡ size + growth → z ≡ x * y → sum ≡ total + z → sum < 2 ^ 64 → x < 2 ^ 64
-      → Added length growth n (k + 1) sum x y
+  pub added : {x y z sum : ℕ} → x ≡ paths * (n - k) → y ≡ grown + growth → z ≡ x * y → sum ≡ total + z → sum < 2 ^ 64 → x < 2 ^ 64
+      → Added size growth n (k + 1) sum x y
   unfolding series
   added p q e s fits few =
       record {
-        total-is = rw (add-one k) (s ∙ rw (e, p, q, a .total-is, paths-next, size-next));
+        total-is = rw (add-one k) (s ∙ rw (e, p, q, a .total-is, paths-next, grown-next));
         paths-is = rw (add-one k) (p ∙ paths-next);
-        size-is = rw (add-one k) (q ∙ size-next);
+        grown-is = rw (add-one k) (q ∙ grown-next);
         total-fits = fits;
         paths-fit = few;
       }
@@ -109,9 +109,9 @@ module _ {length growth n k total paths size : ℕ} (a : Added length growth n k
       by-cases (decLt k 21) (λ few. few)
       (λ many. let past-it = product-past n k (omega arith) h in absurd (omega (arith, a .paths-is, a .paths-fit)))
 
-  pub all-added : (m : ℕ) → k ≡ m → Exactly total ≡ fitting (series (λ j. length + growth * j) n m)
+  pub all-added : (m : ℕ) → k ≡ m → Exactly total ≡ fitting (series (λ j. size + growth * j) n m)
   all-added m e =
-      let whole : total ≡ series (λ j. length + growth * j) n m = a .total-is ∙ ap (series (λ j. length + growth * j) n) e in
+      let whole : total ≡ series (λ j. size + growth * j) n m = a .total-is ∙ ap (series (λ j. size + growth * j) n) e in
       ap Exactly whole ∙ sym (fitting-small _ (omega arith))
 
 -- the answer at a hop limit that is taken

@@ -21,6 +21,6 @@ terms n h = cond (eqb h 7) n (min h n)
 unfoldable pub bound : ℕ → ℕ → ℕ
 bound n h = series (λ k. 1) n (terms n h)
 
--- the same transmissions' bytes: a PDU of that length grows by 2 bytes with each entry of its path (One PDU at one node)
+-- the same transmissions' bytes: a PDU of that size grows by 2 bytes with each entry of its path (One PDU at one node)
 unfoldable pub bytesBound : ℕ → ℕ → ℕ → ℕ
-bytesBound n h length = series (λ k. length + 2 * k) n (terms n h)
+bytesBound n h size = series (λ k. size + 2 * k) n (terms n h)

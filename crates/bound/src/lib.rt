@@ -23,13 +23,13 @@ pub fn most_transmissions(nodes: u64, hop_limit: u64) -> Bound
     at_hop_limit(nodes, hop_limit, 1, 0)
 }
 
-// The most bytes that those transmissions have together, if the fresh message has `length` bytes: each entry of a path adds 2. That holds where
-// `most_transmissions` does. Any length is answered, also one that no PDU has; `HopRefused` for a hop limit above 7, else `TooLarge` where 64 bits do
+// The most bytes that those transmissions have together, if the fresh message has `size` bytes: each entry of a path adds 2. That holds where
+// `most_transmissions` does. Any size is answered, also one that no PDU has; `HopRefused` for a hop limit above 7, else `TooLarge` where 64 bits do
 // not hold the bytes, which may be so where they hold the transmissions. Document 01, "One PDU at one node", by how much a PDU grows.
-pub fn most_bytes(nodes: u64, hop_limit: u64, length: u64) -> Bound
-    ensures { λ r. ⌜ r ≡ answer «hop_limit» (bytesBound nodes «hop_limit» length) ⌝ }
+pub fn most_bytes(nodes: u64, hop_limit: u64, size: u64) -> Bound
+    ensures { λ r. ⌜ r ≡ answer «hop_limit» (bytesBound nodes «hop_limit» size) ⌝ }
 {
-    at_hop_limit(nodes, hop_limit, length, 2)
+    at_hop_limit(nodes, hop_limit, size, 2)
 }
 
 // The number that goes with an answer: 10 for a hop limit that is refused, else 0. Document 01, "Numbers answered", 10.
@@ -43,15 +43,15 @@ pub fn refusal(bound: Bound) -> u64
     }
 }
 
-// The bound where a message with k path entries counts as length + growth * k.
-fn at_hop_limit(nodes: u64, hop_limit: u64, length: u64, growth: u64) -> Bound
-    requires { ⌜ 0 < length + growth ⌝ }
-    ensures { λ r. ⌜ r ≡ answer «hop_limit» (series (λ k. length + growth * k) nodes (terms nodes «hop_limit»)) ⌝ }
+// The bound where a message with k path entries counts as size + growth * k.
+fn at_hop_limit(nodes: u64, hop_limit: u64, size: u64, growth: u64) -> Bound
+    requires { ⌜ 0 < size + growth ⌝ }
+    ensures { λ r. ⌜ r ≡ answer «hop_limit» (series (λ k. size + growth * k) nodes (terms nodes «hop_limit»)) ⌝ }
 {
     if hop_limit > 7 {
         return Bound::HopRefused;
     }
-    add_up(nodes, terms_of(nodes, hop_limit), length, growth)
+    add_up(nodes, terms_of(nodes, hop_limit), size, growth)
 }
 
 // 7 sets no limit to the hops, so that only the nodes do.
@@ -64,21 +64,21 @@ fn terms_of(nodes: u64, hop_limit: u64) -> u64
     if nodes < hop_limit { nodes } else { hop_limit }
 }
 
-// length + n (length + growth) + n (n - 1) (length + 2 growth) + .., with so many terms after the
+// size + n (size + growth) + n (n - 1) (size + 2 growth) + .., with so many terms after the
 // first. A product of 21 factors does not fit 64 bits, so there are never more turns than that.
-fn add_up(nodes: u64, terms: u64, length: u64, growth: u64) -> Bound
-    requires { ⌜ (terms ≤ nodes) × (0 < length + growth) ⌝ }
-    ensures { λ r. ⌜ r ≡ fitting (series (λ k. length + growth * k) nodes terms) ⌝ }
+fn add_up(nodes: u64, terms: u64, size: u64, growth: u64) -> Bound
+    requires { ⌜ (terms ≤ nodes) × (0 < size + growth) ⌝ }
+    ensures { λ r. ⌜ r ≡ fitting (series (λ k. size + growth * k) nodes terms) ⌝ }
 {
-    let mut total = length;
+    let mut total = size;
     let mut paths: u64 = 1;
-    let mut size = length;
+    let mut grown = size;
     let mut k: u64 = 0;
     while k < terms {
         let Bound::Exactly(more_paths) = times(paths, nodes - k) else {
             return Bound::TooLarge;
         };
-        let Bound::Exactly(larger) = plus(size, growth) else {
+        let Bound::Exactly(larger) = plus(grown, growth) else {
             return Bound::TooLarge;
         };
         let Bound::Exactly(term) = times(more_paths, larger) else {
@@ -88,7 +88,7 @@ fn add_up(nodes: u64, terms: u64, length: u64, growth: u64) -> Bound
             return Bound::TooLarge;
         };
         paths = more_paths;
-        size = larger;
+        grown = larger;
         total = sum;
         k += 1;
     }

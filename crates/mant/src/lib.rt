@@ -74,7 +74,7 @@ pub struct MantNode {
 }
 
 // What a node answers for one PDU. Place and length of the delivered payload are 0 where nothing is delivered, `repeated_length` is 0 where
-// nothing is repeated, and `taken` is 0 where a list is at fault or no PDU can be read.
+// nothing is repeated. `taken` is where the next PDU begins in the received bytes, and 0 where a list is at fault or no PDU can be read.
 #[repr(C)]
 pub struct MantAnswer {
     pub delivery: u8,
@@ -278,14 +278,14 @@ pub extern "C" fn mant_most_transmissions(nodes: u64, hop_limit: u64) -> MantBou
     values::bound_in_c(bound::most_transmissions(nodes, hop_limit))
 }
 
-// The most bytes that those transmissions have together, if the fresh message has `length` bytes. That holds where `mant_most_transmissions` does.
-// Any length is answered, also one that no PDU has: number 10 for a hop limit above 7, else `too_large` where 64 bits do not hold the value.
+// The most bytes that those transmissions have together, if the fresh message has `size` bytes. That holds where `mant_most_transmissions` does.
+// Any size is answered, also one that no PDU has: number 10 for a hop limit above 7, else `too_large` where 64 bits do not hold the value.
 // Document 01, "One PDU at one node", by how much a PDU grows.
 #[no_mangle]
-pub extern "C" fn mant_most_bytes(nodes: u64, hop_limit: u64, length: u64) -> MantBound
-    ensures { λ r. ⌜ r ≡ boundInC (answer «hop_limit» (bytesBound nodes «hop_limit» length)) ⌝ }
+pub extern "C" fn mant_most_bytes(nodes: u64, hop_limit: u64, size: u64) -> MantBound
+    ensures { λ r. ⌜ r ≡ boundInC (answer «hop_limit» (bytesBound nodes «hop_limit» size)) ⌝ }
 {
-    values::bound_in_c(bound::most_bytes(nodes, hop_limit, length))
+    values::bound_in_c(bound::most_bytes(nodes, hop_limit, size))
 }
 
 // The sizes that the layer keeps to. Document 01, "Sizes", and for the list's values "Numbers answered", 22.

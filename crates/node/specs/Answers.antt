@@ -13,7 +13,7 @@ use Rattle.node.specs.Decision.{Lists, deliveryNumber, repeatNumber, tak
 use Rattle.node.specs.Repeat.{repeated, repeatedLength}
 
 -- the two numbers; where the delivered payload lies in the received bytes, 0 and 0 where nothing is delivered; the length of the repeated PDU, 0 where
--- nothing is repeated; how many bytes the PDU took, also where a number from 30 on was given: a walk goes on behind it
+-- nothing is repeated; where the next PDU begins, also where a number from 30 on was given: a walk goes on there
 unfoldable pub answerOf : Settings → Lists → ℕ → List ℕ → Answer
 answerOf settings lists room received =
     record {

@@ -93,6 +93,6 @@ unfoldable pub delivered : Settings → Lists → ℕ → List ℕ → List ℕ
 delivered settings lists room received =
     cond (eqb (deliveryNumber settings lists room received) 0) (payloadIn (headerOf received) received) []
 
--- how many bytes the PDU takes; 0 where a list is at fault or it can't be read
+-- where the next PDU begins in the received bytes ("A batch": after this one's payload); 0 where a list is at fault or this one can't be read
 unfoldable pub taken : Lists → List ℕ → ℕ
 taken lists received = cond (eqb (listOrReadingFault lists received) 0) (pduLength (headerOf received)) 0

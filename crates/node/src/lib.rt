@@ -30,7 +30,8 @@ pub struct Settings {
 }
 
 // What a node answers for one PDU. The delivered payload lies at `delivered_place` in the received bytes; place and length are 0 where nothing is
-// delivered. `repeated_length` is 0 where nothing is repeated, and `taken` is 0 where a list is at fault or no PDU can be read.
+// delivered. `repeated_length` is 0 where nothing is repeated. `taken` is where the next PDU begins in the received bytes, and 0 where a list is at
+// fault or no PDU can be read.
 pub struct Answer {
     pub delivery: u8,
     pub repeat: u8,
@@ -229,11 +230,11 @@ fn decide(settings: Settings, received: &[u8], header: Header, output: &mut [u8]
     if repeat != 0 {
         return answered(header, delivery, repeat, 0);
     }
-    let length = repeat::put_repeat(settings, received, header, output);
-    if length == 0 {
+    let size = repeat::put_repeat(settings, received, header, output);
+    if size == 0 {
         return given_twice(40, header.pdu_length());
     }
-    answered(header, delivery, 0, length)
+    answered(header, delivery, 0, size)
 }
 
 fn given_twice(number: u8, taken: usize) -> Answer
@@ -249,8 +250,8 @@ fn given_twice(number: u8, taken: usize) -> Answer
     }
 }
 
-fn answered(header: Header, delivery: u8, repeat: u8, length: usize) -> Answer
-    ensures { λ r. ⌜ r ≡ record { delivery = delivery; repeat = repeat; «delivered_place» = cond (eqb delivery 0) (headerLength header) 0; «delivered_length» = cond (eqb delivery 0) (header .«payload_length») 0; «repeated_length» = length; taken = pduLength header } ⌝ }
+fn answered(header: Header, delivery: u8, repeat: u8, size: usize) -> Answer
+    ensures { λ r. ⌜ r ≡ record { delivery = delivery; repeat = repeat; «delivered_place» = cond (eqb delivery 0) (headerLength header) 0; «delivered_length» = cond (eqb delivery 0) (header .«payload_length») 0; «repeated_length» = size; taken = pduLength header } ⌝ }
 {
     let taken = header.pdu_length();
     if delivery == 0 {
@@ -259,7 +260,7 @@ fn answered(header: Header, delivery: u8, repeat: u8, length: usize) -> Answer
             repeat,
             delivered_place: header.header_length(),
             delivered_length: header.payload_length as usize,
-            repeated_length: length,
+            repeated_length: size,
             taken,
         };
     }
@@ -268,7 +269,7 @@ fn answered(header: Header, delivery: u8, repeat: u8, length: usize) -> Answer
         repeat,
         delivered_place: 0,
         delivered_length: 0,
-        repeated_length: length,
+        repeated_length: size,
         taken,
     }
 }

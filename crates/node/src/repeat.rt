@@ -24,21 +24,21 @@ pub(crate) fn put_repeat(
     requires { ⌜ (readOf (now received) ≡ Pdu header) × (repeatFault settings header ≡ 0) ⌝ }
     ensures { λ r. ⌜ (r ≡ cond (ltb (length (now (output .entry))) (repeatedLength header)) 0 (repeatedLength header)) × (now (output .exit) ≡ cond (ltb (length (now (output .entry))) (repeatedLength header)) (now (output .entry)) (over (repeated (settings .own) (now (received .entry))) (now (output .entry)))) ⌝ }
 {
-    let length = repeated_length(header);
-    if output.len() < length {
+    let size = repeated_length(header);
+    if output.len() < size {
         return 0;
     }
     let mut scratch = [0u8; Header::PDU_LIMIT];
     fill(&mut scratch, settings, received, header);
-    octets::put(output, 0, &scratch[..length]);
-    length
+    octets::put(output, 0, &scratch[..size]);
+    size
 }
 
 fn repeated_length(header: Header) -> usize
     ensures { λ r. ⌜ r ≡ repeatedLength header ⌝ }
 {
-    let length = header.pdu_length();
-    if header.path_bit { length + 2 } else { length }
+    let size = header.pdu_length();
+    if header.path_bit { size + 2 } else { size }
 }
 
 fn fill(scratch: &mut [u8], settings: super::Settings, received: &[u8], header: Header)

@@ -1,4 +1,3 @@
-pub mod Viewing
 pub mod Thin
 pub mod ThinNumber
 pub mod Opened

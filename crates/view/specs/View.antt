@@ -3,7 +3,6 @@
 use Prim.Native.Nat.{ℕ}
 use mathlib.Core.Bool.{cond}
 use mathlib.Core.List.{List, []}
-use mathlib.Core.Path.{_≡_}
 use lib.Dec.{eqb}
 use Rattle.pdu.specs.declared.Header.{Header}
 use Rattle.pdu.specs.declared.Reading.{Reading}
@@ -30,10 +29,3 @@ headerIn bytes places = headerOf (shownIn bytes places)
 -- what is asked of a view most, as one value: number, length and header
 abbrev pub summaryAt : List ℕ → Places → Summary
 summaryAt bytes places = record { number = places .number; size = places .end; header = headerIn bytes places }
-
--- two headers, field by field: equality said so that a proof takes one field from it
-abbrev pub agree : Header → Header → Type 0
-agree one other =
-    (one .protocol ≡ other .protocol) × (one .«time_stamp_request» ≡ other .«time_stamp_request») × (one .«path_bit» ≡ other .«path_bit») × (one .port ≡ other .port) × (one .encrypted ≡ other .encrypted)
-    × (one .reserved ≡ other .reserved) × (one .ack ≡ other .ack) × (one .«added_header» ≡ other .«added_header») × (one .«hop_limit» ≡ other .«hop_limit») × (one .«payload_length» ≡ other .«payload_length»)
-    × (one .source ≡ other .source) × (one .destination ≡ other .destination) × (one .«pdu_id» ≡ other .«pdu_id») × (one .«path_count» ≡ other .«path_count»)

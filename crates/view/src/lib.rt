@@ -8,7 +8,7 @@ ghost use Prim.Native.Nat.{_-_};
 ghost use Rattle.octets.specs.Octets.{IsPart};
 ghost use Rattle.pdu.specs.Reading.{readOf};
 ghost use Rattle.pdu.specs.Parts.{pathIn, pathAddress, inPath};
-ghost use Rattle.view.specs.View.{placesOf, shownIn, headerIn, summaryAt, agree};
+ghost use Rattle.view.specs.View.{placesOf, shownIn, headerIn, summaryAt};
 
 // What reading found: its number, the offset of the payload's first byte, and the offset of the byte after the PDU.
 // After a refusal both offsets are 0.
@@ -222,9 +222,8 @@ fn shown(bytes: &[u8], places: Places) -> &[u8]
     &bytes[0..0]
 }
 
-// Said field by field too, so that each function below follows from its own line.
 fn header_at(bytes: &[u8], places: Places) -> Header
-    ensures { λ r. ⌜ (r ≡ headerIn (now (bytes .entry)) places) × agree r (headerIn (now (bytes .entry)) places) ⌝ }
+    ensures { λ r. ⌜ r ≡ headerIn (now (bytes .entry)) places ⌝ }
 {
     pdu::header_of(shown(bytes, places))
 }

@@ -97,8 +97,8 @@ pub struct Answer {
     pub delivery: Result<Range<usize>, Refusal>,
     /// How many bytes of the repeated PDU were written to the output.
     pub repeat: Result<usize, Refusal>,
-    /// How long the received PDU is; 0 where a list is at fault or no PDU can
-    /// be read.
+    /// Where the next PDU begins, counted from this one's first byte; 0 where
+    /// a list is at fault or no PDU can be read.
     pub taken: usize,
 }
 
@@ -202,9 +202,9 @@ pub fn most_transmissions(nodes: u64, hop_limit: u64) -> Result<Option<u64>, Ref
 }
 
 /// The most bytes that those transmissions have together, where the fresh PDU
-/// has this length. None: 64 bits do not hold it.
-pub fn most_bytes(nodes: u64, hop_limit: u64, length: u64) -> Result<Option<u64>, Refusal> {
-    bound(raw::most_bytes(nodes, hop_limit, length))
+/// has this size. None: 64 bits do not hold it.
+pub fn most_bytes(nodes: u64, hop_limit: u64, size: u64) -> Result<Option<u64>, Refusal> {
+    bound(raw::most_bytes(nodes, hop_limit, size))
 }
 
 /// The sizes, as the library has them.

@@ -163,7 +163,7 @@ extern "C" {
         batch: *const u8, batch_length: usize, cursor: Cursor, output: *mut u8, output_length: usize,
     ) -> Step;
     fn mant_most_transmissions(nodes: u64, hop_limit: u64) -> Bound;
-    fn mant_most_bytes(nodes: u64, hop_limit: u64, length: u64) -> Bound;
+    fn mant_most_bytes(nodes: u64, hop_limit: u64, size: u64) -> Bound;
     fn mant_limits() -> Limits;
 }
 
@@ -299,9 +299,9 @@ pub fn most_transmissions(nodes: u64, hop_limit: u64) -> Bound {
 }
 
 /// `mant_most_bytes`.
-pub fn most_bytes(nodes: u64, hop_limit: u64, length: u64) -> Bound {
+pub fn most_bytes(nodes: u64, hop_limit: u64, size: u64) -> Bound {
     // SAFETY: it takes numbers only.
-    unsafe { mant_most_bytes(nodes, hop_limit, length) }
+    unsafe { mant_most_bytes(nodes, hop_limit, size) }
 }
 
 /// `mant_limits`.

@@ -39,8 +39,8 @@ pub struct Answer {
     pub delivered: (usize, usize),
     /// The length of the repeated PDU in the output, 0 where there is none.
     pub repeated_length: usize,
-    /// How many received bytes the PDU takes, 0 where it can't be read or a
-    /// list is at fault.
+    /// Where the next PDU begins in the received bytes, 0 where this one
+    /// can't be read or a list is at fault.
     pub taken: usize,
 }
 

@@ -1,20 +1,20 @@
 -- `bound::add_up` meets its contract. The invariant: the loop's numbers are those of the series with k terms added.
 -- The measure: there are at most 21 turns. Assumes nothing.
 use Prim.Native.Nat.{_≤_, _-_}
-use Rattle.bound.proofs.Answers.{exact, past, Added, none-added, added, few-turns, all-added, paths-past, size-past, term-past, total-past}
+use Rattle.bound.proofs.Answers.{exact, past, Added, none-added, added, few-turns, all-added, paths-past, grown-past, term-past, total-past}
 use native.Mathlib.Omega.{arith}
 use borrow.Author.Needs.{needs}
 use Rattle.bound.proofs.add_up.Statement.{statement}
 use Rattle.bound.proofs.add_up.Tie as tie
 
 abbrev Inv-loop : tie.InvT-loop
-Inv-loop nodes terms length growth total₀ paths₀ size₀ k₀ total paths size k = Added length growth nodes k total paths size × (k ≤ terms)
+Inv-loop nodes terms size growth total₀ paths₀ grown₀ k₀ total paths grown k = Added size growth nodes k total paths grown × (k ≤ terms)
 
 abbrev μ-loop : tie.MeasureT-loop
-μ-loop nodes terms length growth total₀ paths₀ size₀ k₀ total paths size k = 21 - k
+μ-loop nodes terms size growth total₀ paths₀ grown₀ k₀ total paths grown k = 21 - k
 
 loop-holds : tie.Need-loop-holds Inv-loop μ-loop
-loop-holds c = (none-added (c .args .length) (c .args .growth) (c .args .nodes) (omega arith), omega arith)
+loop-holds c = (none-added (c .args .size) (c .args .growth) (c .args .nodes) (omega arith), omega arith)
 
 sub-times : tie.Need-sub-times Inv-loop μ-loop
 sub-times c = search needs
@@ -41,7 +41,7 @@ returns-2 : tie.Need-returns-2 Inv-loop μ-loop
 returns-2 c =
     let counted = c .before .before .before in
     let turn = counted .before .before .before in
-    size-past (turn .before .loop .inv .0) _ (turn .loop-test .taken) (turn .before .before .pre .0)
+    grown-past (turn .before .loop .inv .0) _ (turn .loop-test .taken) (turn .before .before .pre .0)
     (past _ _ (c .before .plus .ensures) (c .match2 .keys2))
 
 times-requires-2 : tie.Need-times-requires-2 Inv-loop μ-loop

@@ -1,6 +1,5 @@
 use mathlib.Core.Path.{ap, _∙_}
 use Rattle.pdu.specs.Header.{headerOf}
-use Rattle.view.proofs.Viewing.{agree-same}
 use borrow.Author.Needs.{needs}
 use Rattle.view.proofs.header_at.Statement.{statement}
 use Rattle.view.proofs.header_at.Tie as tie
@@ -12,7 +11,7 @@ header-of-requires : tie.Need-header-of-requires
 header-of-requires c κs = search needs
 
 returns : tie.Need-returns
-returns c = let same = c .header-of .ensures ∙ ap headerOf (c .before .shown .ensures) in (same, agree-same _ _ same)
+returns c = c .header-of .ensures ∙ ap headerOf (c .before .shown .ensures)
 
 pub header-at-spec : {M : Type 1} → statement M
 header-at-spec = tie.close (tie.spec shown-requires header-of-requires returns)

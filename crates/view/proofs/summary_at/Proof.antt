@@ -6,7 +6,7 @@ header-at-requires : tie.Need-header-at-requires
 header-at-requires c κs = search needs
 
 returns : tie.Need-returns
-returns c = rw (c .header-at .ensures .0)
+returns c = rw (c .header-at .ensures)
 
 pub summary-at-spec : {M : Type 1} → statement M
 summary-at-spec = tie.close (tie.spec header-at-requires returns)
