@@ -47,6 +47,7 @@ enum MantNumber {
     MANT_PAYLOAD_TOO_LONG = 12,             /* the payload has more than 4,095 bytes */
     MANT_RELIABLE_WITHOUT_DESTINATION = 13, /* reliable service needs a destination */
     MANT_OUTPUT_TOO_SHORT = 14,             /* the output has no room for the PDU */
+    MANT_RESERVED_ABOVE_3 = 15,             /* reserved bits above 3: a number of this library's own, for a header put together by hand */
     MANT_LOW_ABOVE_HIGH = 20,               /* a list has a range whose low is above its high */
     MANT_LIST_ODD = 21,                     /* the last value of a list has no partner */
     MANT_LIST_TOO_LONG = 22,                /* a list has more than 128 values */
@@ -88,6 +89,7 @@ static inline const char *mant_meaning(uint8_t number)
     case MANT_PAYLOAD_TOO_LONG: return "the payload has more than 4,095 bytes";
     case MANT_RELIABLE_WITHOUT_DESTINATION: return "reliable service needs a destination";
     case MANT_OUTPUT_TOO_SHORT: return "the output has no room for the PDU";
+    case MANT_RESERVED_ABOVE_3: return "reserved bits above 3: a number of this library's own, for a header put together by hand";
     case MANT_LOW_ABOVE_HIGH: return "a list has a range whose low is above its high";
     case MANT_LIST_ODD: return "the last value of a list has no partner";
     case MANT_LIST_TOO_LONG: return "a list has more than 128 values";

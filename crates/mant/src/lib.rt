@@ -166,7 +166,8 @@ pub extern "C" fn mant_path_has(bytes: &[u8], address: u16) -> bool
 // Document 01, "Numbers answered", a PDU written again.
 #[no_mangle]
 pub extern "C" fn mant_write_again(bytes: &[u8], output: &mut [u8]) -> MantWritten
-    ensures { λ r. ⌜ (r ≡ writtenInC (writeAgain (now (bytes .entry)) (length (now (output .entry))))) × (now (output .exit) ≡ writtenAgain (now (bytes .entry)) (now (output .entry))) ⌝ }
+    ensures { λ r. ⌜ (r ≡ writtenInC (writeAgain (now (bytes .entry)) (length (now (output .entry)))))
+        × (now (output .exit) ≡ writtenAgain (now (bytes .entry)) (now (output .entry))) ⌝ }
 {
     values::written_in_c(writing::write_again(bytes, output))
 }
@@ -179,7 +180,8 @@ pub extern "C" fn mant_originate(
     payload: &[u8],
     output: &mut [u8],
 ) -> MantWritten
-    ensures { λ r. ⌜ (r ≡ writtenInC (originated (freshFromC settings) (now (payload .entry)) (length (now (output .entry))))) × (now (output .exit) ≡ originatedOutput (freshFromC settings) (now (payload .entry)) (now (output .entry))) ⌝ }
+    ensures { λ r. ⌜ (r ≡ writtenInC (originated (freshFromC settings) (now (payload .entry)) (length (now (output .entry)))))
+        × (now (output .exit) ≡ originatedOutput (freshFromC settings) (now (payload .entry)) (now (output .entry))) ⌝ }
 {
     values::written_in_c(origin::originate(values::fresh_from_c(settings), payload, output))
 }

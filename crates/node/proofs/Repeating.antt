@@ -20,9 +20,9 @@ use Rattle.pdu.specs.Reading.{readOf}
 use Rattle.pdu.specs.Parts.{payloadIn}
 use Rattle.pdu.proofs.Inversion.{Shown, shown}
 use Rattle.pdu.proofs.Showing.{start-shown}
-use Rattle.writing.proofs.Encoding.{Within, within, start-small}
+use Rattle.writing.proofs.Encoding.{start-small}
 use Rattle.octets.proofs.Words.{Bytes}
-use Rattle.writing.proofs.Within.{shown-within}
+use Rattle.writing.proofs.Within.{Within, within, shown-within}
 use Rattle.node.specs.declared.Settings.{Settings}
 use Rattle.node.specs.Decision.{repeatFault}
 use Rattle.node.specs.Repeat.{loweredByte, loweredHeader, repeated, repeatedLength}

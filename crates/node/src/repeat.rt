@@ -42,7 +42,9 @@ fn repeated_length(header: Header) -> usize
 }
 
 fn fill(scratch: &mut [u8], settings: super::Settings, received: &[u8], header: Header)
-    requires { ⌜ (readOf (now received) ≡ Pdu header) × (repeatFault settings header ≡ 0) × (repeatedLength header ≤ length (now scratch)) ⌝ }
+    requires { ⌜ (readOf (now received) ≡ Pdu header)
+        × (repeatFault settings header ≡ 0)
+        × (repeatedLength header ≤ length (now scratch)) ⌝ }
     ensures { λ _. ⌜ now (scratch .exit) ≡ over (repeated (settings .own) (now (received .entry))) (now (scratch .entry)) ⌝ }
 {
     let own_place = put_lowered(scratch, received, header);
@@ -56,8 +58,11 @@ fn fill(scratch: &mut [u8], settings: super::Settings, received: &[u8], header: 
 
 // The received header with its hop limit lowered.
 fn put_lowered(scratch: &mut [u8], received: &[u8], header: Header) -> usize
-    requires { ⌜ (readOf (now received) ≡ Pdu header) × (header .«hop_limit» ≡ 0 → ⊥) × (headerLength header ≤ length (now scratch)) ⌝ }
-    ensures { λ r. ⌜ (r ≡ headerLength header) × (now (scratch .exit) ≡ over (loweredHeader (now (received .entry))) (now (scratch .entry))) ⌝ }
+    requires { ⌜ (readOf (now received) ≡ Pdu header)
+        × (header .«hop_limit» ≡ 0 → ⊥)
+        × (headerLength header ≤ length (now scratch)) ⌝ }
+    ensures { λ r. ⌜ (r ≡ headerLength header)
+        × (now (scratch .exit) ≡ over (loweredHeader (now (received .entry))) (now (scratch .entry))) ⌝ }
 {
     let end = header.header_length();
     octets::put(scratch, 0, &received[..end]);

@@ -68,7 +68,8 @@ pub fn part(bytes: &[u8], place: usize, size: usize) -> &[u8]
 // Puts `part` into the output at `place`, and answers the place after it. Where it does not fit, nothing is written and the place stays.
 // Output around the part keeps its bytes. Document 01, "Numbers answered", what output keeps.
 pub fn put(output: &mut [u8], place: usize, part: &[u8]) -> usize
-    ensures { λ r. ⌜ (r ≡ placeAfter (now (output .entry)) place (now (part .entry))) × (now (output .exit) ≡ placed (now (output .entry)) place (now (part .entry))) ⌝ }
+    ensures { λ r. ⌜ (r ≡ placeAfter (now (output .entry)) place (now (part .entry)))
+        × (now (output .exit) ≡ placed (now (output .entry)) place (now (part .entry))) ⌝ }
 {
     if output.len() < place {
         return place;
@@ -83,7 +84,8 @@ pub fn put(output: &mut [u8], place: usize, part: &[u8]) -> usize
 // Puts the two bytes of a number into the output at `place`, as `put` does.
 // Document 01, "Header, byte by byte", the order of bytes, and "Numbers answered", what output keeps.
 pub fn put_word(output: &mut [u8], place: usize, x: u16) -> usize
-    ensures { λ r. ⌜ (r ≡ placeAfter (now (output .entry)) place (wordBytes x)) × (now (output .exit) ≡ placed (now (output .entry)) place (wordBytes x)) ⌝ }
+    ensures { λ r. ⌜ (r ≡ placeAfter (now (output .entry)) place (wordBytes x))
+        × (now (output .exit) ≡ placed (now (output .entry)) place (wordBytes x)) ⌝ }
 {
     let part = [high(x), low(x)];
     put(output, place, &part)

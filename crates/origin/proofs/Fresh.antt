@@ -6,12 +6,12 @@ use mathlib.Core.List.{List, append-nil}
 use mathlib.Core.Path.{_≡_, refl}
 use lib.ListN.{length}
 use Rattle.octets.specs.Numbers.{flag}
-use Rattle.octets.specs.Octets.{over, placed, placeAfter}
+use Rattle.octets.specs.Octets.{over, placed}
 use Rattle.octets.proofs.Placing.{more}
 use Rattle.pdu.specs.declared.Header.{Header}
 use Rattle.pdu.specs.declared.Written.{Written}
 use Rattle.pdu.specs.Sizes.{pathStart, pduLength}
-use Rattle.writing.specs.Writing.{pathBytes, encode, withinBits, headerPart}
+use Rattle.writing.specs.Writing.{pathBytes, encode, fieldFault, headerWritten, headerOutput}
 use Rattle.writing.proofs.Encoding.{header-begins, length-header}
 use Rattle.writing.proofs.Within.{all-within}
 use Rattle.origin.specs.declared.Settings.{Settings}
@@ -23,9 +23,11 @@ flag-small true = omega arith
 flag-small false = omega arith
 
 module _ {settings : Settings} {payload : List ℕ} {room : ℕ} (a : Accepted settings payload room) where
-  pub fresh-within : withinBits (freshHeader settings (length payload)) ≡ true
+  pub fresh-within : fieldFault (freshHeader settings (length payload)) ≡ 0
   unfolding freshHeader
-  fresh-within = all-within (freshHeader settings (length payload)) (omega (arith, flag-small (settings .reliable))) (a .port) (omega arith) (a .hop) (a .payload-limit)
+  fresh-within =
+      all-within (freshHeader settings (length payload))
+      (record { protocol = flag-small (settings .reliable); hop = a .hop; port = a .port; payload = a .payload-limit; reserved = omega arith })
 
   pub fresh-room : pathStart (freshHeader settings (length payload)) + length payload ≤ room
   unfolding freshHeader
@@ -33,20 +35,22 @@ module _ {settings : Settings} {payload : List ℕ} {room : ℕ} (a : Accepted s
 
 -- header and payload put one after the other, where nothing is refused
 module _ (settings : Settings) (payload output : List ℕ) (header : Header) (is : header ≡ freshHeader settings (length payload)) where
-  put-over : (begun now : List ℕ) (place : ℕ) → Accepted settings payload (length output)
-      → (place ≡ placeAfter output 0 (headerPart header)) × (begun ≡ placed output 0 (headerPart header)) → now ≡ placed begun place payload → now ≡ over (fresh settings payload) output
+  put-over : (begun now : List ℕ) (written : Written) → Accepted settings payload (length output)
+      → (written ≡ headerWritten header (length output)) × (begun ≡ headerOutput header output) → now ≡ placed begun (written .length) payload
+      → now ≡ over (fresh settings payload) output
   unfolding fresh encode pathBytes
-  put-over begun now place a put-header put =
+  put-over begun now written a put-header put =
       let h = freshHeader settings (length payload) in
-      let b = header-begins h output (fresh-within a) begun place (omega (arith, fresh-room a)) (rw is at (put-header .0)) (rw is at (put-header .1)) in
+      let b = header-begins h output (fresh-within a) (omega (arith, fresh-room a)) begun written (rw is at (put-header .0)) (rw is at (put-header .1)) in
       let all = more payload begun now _ b (omega (arith, b .ends, length-header h, fresh-room a)) refl put in
       rw append-nil (all .is)
 
-  pub fresh-put : (begun now : List ℕ) (place long : ℕ) → settingsNumber settings payload ≡ 0 → long ≡ pduLength header → long ≤ length output
-      → (place ≡ placeAfter output 0 (headerPart header)) × (begun ≡ placed output 0 (headerPart header)) → now ≡ placed begun place payload
-      → (_≡_ {A = Written} (record { number = 0; length = long }) (originated settings payload (length output))) × (now ≡ originatedOutput settings payload output)
-  fresh-put begun now place long none el fits put-header put =
+  pub fresh-put : (begun now : List ℕ) (written : Written) (long : ℕ) → settingsNumber settings payload ≡ 0 → long ≡ pduLength header → long ≤ length output
+      → (written ≡ headerWritten header (length output)) × (begun ≡ headerOutput header output) → now ≡ placed begun (written .length) payload
+      → (_≡_ {A = Written} (record { number = 0; length = long }) (originated settings payload (length output)))
+      × (now ≡ originatedOutput settings payload output)
+  fresh-put begun now written long none el fits put-header put =
       let same : long ≡ enough settings payload = rw is at el in
       let room : enough settings payload ≤ length output = omega arith in
       let ok = not-refused settings payload (length output) none room in
-      done settings payload output long now ok same (put-over begun now place (accepted settings payload (length output) ok) put-header put)
+      done settings payload output long now ok same (put-over begun now written (accepted settings payload (length output) ok) put-header put)

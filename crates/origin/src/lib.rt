@@ -27,7 +27,8 @@ pub struct Settings {
 // was. The PDU ID counts for reliable service only. Output past the PDU keeps its bytes.
 // Document 01, "Origination", and "Numbers answered", 10 to 14.
 pub fn originate(settings: Settings, payload: &[u8], output: &mut [u8]) -> Written
-    ensures { λ r. ⌜ (r ≡ originated settings (now (payload .entry)) (length (now (output .entry)))) × (now (output .exit) ≡ originatedOutput settings (now (payload .entry)) (now (output .entry))) ⌝ }
+    ensures { λ r. ⌜ (r ≡ originated settings (now (payload .entry)) (length (now (output .entry))))
+        × (now (output .exit) ≡ originatedOutput settings (now (payload .entry)) (now (output .entry))) ⌝ }
 {
     let refusal = settings_refusal(settings, payload);
     if refusal != 0 {
@@ -38,7 +39,7 @@ pub fn originate(settings: Settings, payload: &[u8], output: &mut [u8]) -> Writt
     if output.len() < length {
         return refused(14);
     }
-    let place = writing::put_header(output, header);
+    let place = writing::put_header(output, header).length;
     octets::put(output, place, payload);
     Written { number: 0, length }
 }

@@ -35,7 +35,8 @@ pub record Says (view : View) (header : Header) (bytes : RefT (List ℕ)) : Type
   pub size : view .at .end ≡ pduLength header
   pub payload : (part : RefT (List ℕ)) → Shows view part → IsPart bytes (headerLength header) (header .«payload_length») part
   pub path : pathIn (headerIn (now (view .bytes)) (view .at)) (now (view .bytes)) ≡ pathIn header (now bytes)
-  pub path-has : (address : ℕ) → inPath address (pathIn (headerIn (now (view .bytes)) (view .at)) (now (view .bytes))) ≡ inPath address (pathIn header (now bytes))
+  pub path-has : (address : ℕ)
+      → inPath address (pathIn (headerIn (now (view .bytes)) (view .at)) (now (view .bytes))) ≡ inPath address (pathIn header (now bytes))
 
 -- a view of bytes that are no PDU: the refusal's number, and nothing else
 pub record Nothing (view : View) (refusal : Refusal) : Type 0 where

@@ -1,24 +1,26 @@
 -- The bytes of a PDU: their lengths, and the parts that writing puts one after another.
 use Prim.Native.Nat.{ℕ, zero, suc, _+_, _*_, _≤_, _<_}
-use native.Mathlib.Nat.{zero-add}
 use native.Mathlib.Omega.{arith}
 use native.Mathlib.Numerals.{add-one}
-use mathlib.Core.Bool.{Bool, true, false, _&&_}
+use mathlib.Core.Bool.{Bool, true, false}
 use mathlib.Core.List.{List, [], _∷_, _++_}
 use mathlib.Core.Path.{_≡_, refl, ap, sym, _∙_}
-use lib.Dec.{eqb, leb}
+use lib.Dec.{eqb}
 use lib.ListN.{length, length-append, length-drop}
 use lib.Seq.{length-take-le}
-use borrow.Author.Tests.{leb-true, le-leb}
-use Rattle.octets.specs.Numbers.{flag}
+use borrow.Author.Tests.{lt-ltb, le-ltb, ne-eqb}
+use Rattle.octets.specs.Numbers.{flag, _gives_, _orElse_}
 use Rattle.octets.specs.Octets.{wordAt, wordBytes, over, placed, placeAfter}
-use Rattle.octets.proofs.Placing.{Begins, first, more, room-after, is-after, placed-more, placed-start, length-over, nothing-after, nothing-placed, not-placed}
+use Rattle.octets.proofs.Placing.{Begins, first, more, room-after, is-after, placed-more, length-over, nothing-placed}
+use Rattle.octets.proofs.Numbering.{gives-last, gives-none, orElse-first, orElse-later}
 use Rattle.pdu.specs.declared.Destination.{Destination}
 use Rattle.pdu.specs.declared.Destination.the-variants.{Everyone, Address}
 use Rattle.pdu.specs.declared.Header.{Header}
+use Rattle.pdu.specs.declared.Written.{Written}
 use Rattle.pdu.specs.Sizes.{destinationFlag, pathEntries, pathStart, pduLength}
 use Rattle.pdu.specs.Parts.{addressesAt, pathIn, payloadIn}
-use Rattle.writing.specs.Writing.{fixedPart, destinationBytes, onlyIf, headerBytes, pathBytes, encode, withinBits, headerPart}
+use Rattle.writing.specs.Writing.{fixedPart, destinationBytes, onlyIf, headerBytes, pathBytes, encode}
+use Rattle.writing.specs.Writing.{fieldFault, headerNumber, headerWritten, headerOutput}
 use Rattle.pdu.proofs.Paths.{length-addresses}
 
 -- lengths
@@ -54,36 +56,6 @@ length-pathIn header bytes = length-path (pathIn header bytes) ∙ ap (λ (n : �
 pub start-small : (header : Header) → pathStart header ≤ 10
 start-small header = omega (arith, flag-small (header .«path_bit»), flag-small (eqb (header .protocol) 1), destination-small (header .destination))
 
--- each field within its bits
-pub record Within (header : Header) : Type 0 where
-  pub protocol : header .protocol ≤ 7
-  pub port : header .port ≤ 15
-  pub reserved : header .reserved ≤ 3
-  pub hop : header .«hop_limit» ≤ 7
-  pub payload : header .«payload_length» ≤ 4095
-
-both : (a b : Bool) → (a && b) ≡ true → (a ≡ true) × (b ≡ true)
-both true b e = (refl, e)
-both false b e = let z : _≡_ {A = ℕ} 0 1 = cc in absurd (omega arith)
-
-pub within : (header : Header) → withinBits header ≡ true → Within header
-within header e =
-    let t4 = both _ (leb (header .«payload_length») 4095) e in
-    let t3 = both _ (leb (header .«hop_limit») 7) (t4 .0) in
-    let t2 = both _ (leb (header .reserved) 3) (t3 .0) in
-    let t1 = both (leb (header .protocol) 7) (leb (header .port) 15) (t2 .0) in
-    record {
-      protocol = leb-true _ _ (t1 .0);
-      port = leb-true _ _ (t1 .1);
-      reserved = leb-true _ _ (t2 .1);
-      hop = leb-true _ _ (t3 .1);
-      payload = leb-true _ _ (t4 .1);
-    }
-
-pub all-but-payload : (protocol port reserved hop payload : ℕ) → protocol ≤ 7 → port ≤ 15 → reserved ≤ 3 → hop ≤ 7
-    → leb payload 4095 ≡ (leb protocol 7 && leb port 15 && leb reserved 3 && leb hop 7 && leb payload 4095)
-all-but-payload protocol port reserved hop payload h1 h2 h3 h4 = rw (le-leb protocol 7 h1, le-leb port 15 h2, le-leb reserved 3 h3, le-leb hop 7 h4)
-
 -- the path, one address more
 snoc : (bytes : List ℕ) (place n : ℕ) → pathBytes (addressesAt bytes place (suc n)) ≡ pathBytes (addressesAt bytes place n) ++ wordBytes (wordAt bytes (place + 2 * n))
 unfolding pathBytes addressesAt
@@ -114,77 +86,95 @@ module _ (bytes output : List ℕ) (place start : ℕ) where
       let long = length-path (addressesAt bytes start n) ∙ ap (λ (k : ℕ). 2 * k) (length-addresses bytes start n) in
       el ∙ rw (en, e, add-one n, snoc bytes start n) (placed-more output place (pathBytes (addressesAt bytes start n)) (wordBytes (wordAt bytes (start + 2 * n))) (place + 2 * n) (omega (arith, long)) room)
 
--- the header, put part by part
+-- what putting a header answers and leaves: with a refusal, where there is no room, and where its bytes were put
 module _ (header : Header) (output : List ℕ) where
-  part-is : withinBits header ≡ true → headerPart header ≡ headerBytes header
-  part-is ok = rw ok
+  refused-with : (number : ℕ) → headerNumber header (length output) ≡ number → (number ≡ 0 → ⊥)
+      → (_≡_ {A = Written} (record { number = number; length = 0 }) (headerWritten header (length output))) × (output ≡ headerOutput header output)
+  unfolding headerWritten headerOutput
+  refused-with number e some = rw (e, ne-eqb number 0 some) (refl, refl)
 
-  pub too-wide : withinBits header ≡ false → (0 ≡ placeAfter output 0 (headerPart header)) × (output ≡ placed output 0 (headerPart header))
-  too-wide wide = rw wide (nothing-after output 0, nothing-placed output 0)
+  pub field-refused : (number : ℕ) → number ≡ fieldFault header → (number ≡ 0 → ⊥)
+      → (_≡_ {A = Written} (record { number = number; length = 0 }) (headerWritten header (length output))) × (output ≡ headerOutput header output)
+  unfolding headerNumber
+  field-refused number e some = refused-with number (rw (← e) (orElse-first number _ some)) some
 
-  module _ (ok : withinBits header ≡ true) where
-    pub no-room : length output < pathStart header → (0 ≡ placeAfter output 0 (headerPart header)) × (output ≡ placed output 0 (headerPart header))
-    no-room short = rw (part-is ok) (not-placed output 0 (headerBytes header) (omega (arith, length-header header)))
+  module _ (ok : fieldFault header ≡ 0) where
+    pub no-room : length output < pathStart header
+        → (_≡_ {A = Written} (record { number = 14; length = 0 }) (headerWritten header (length output))) × (output ≡ headerOutput header output)
+    unfolding headerNumber
+    no-room short = refused-with 14 (orElse-later _ _ ok ∙ gives-last _ 14 (lt-ltb _ _ short)) (λ (z : _≡_ {A = ℕ} 14 0). omega arith)
 
-    pub header-begins : (now : List ℕ) (place : ℕ) → pathStart header ≤ length output → place ≡ placeAfter output 0 (headerPart header)
-        → now ≡ placed output 0 (headerPart header) → Begins output now (headerBytes header) place
-    header-begins now place room ep en = first (headerBytes header) output now place (omega (arith, length-header header)) (rw (part-is ok) at ep) (rw (part-is ok) at en)
+    module _ (room : pathStart header ≤ length output) where
+      number-0 : headerNumber header (length output) ≡ 0
+      unfolding headerNumber
+      number-0 = orElse-later _ _ ok ∙ gives-none _ 14 (le-ltb _ _ room)
 
-    -- the room for each part behind the fixed one
-    module _ (room : pathStart header ≤ length output) (o1 : List ℕ) (p1 : ℕ)
-        (e1 : (p1 ≡ placeAfter output 0 (fixedPart header)) × (o1 ≡ placed output 0 (fixedPart header))) where
-      pub destination-room : p1 + (2 * destinationFlag (header .destination) + flag (eqb (header .protocol) 1) + flag (header .«path_bit»)) ≤ length o1
-      destination-room = room-after output 0 (fixedPart header) _ p1 o1 (omega arith) (e1 .0) (e1 .1)
+      pub header-done : (long : ℕ) (now : List ℕ) → (long ≡ pathStart header) × (now ≡ over (headerBytes header) output)
+          → (_≡_ {A = Written} (record { number = 0; length = long }) (headerWritten header (length output))) × (now ≡ headerOutput header output)
+      unfolding headerWritten headerOutput
+      header-done long now e = rw (number-0, e .0, e .1) (refl, refl)
 
-      module _ (o2 : List ℕ) (p2 : ℕ) (e2 : (p2 ≡ placeAfter o1 p1 (destinationBytes (header .destination))) × (o2 ≡ placed o1 p1 (destinationBytes (header .destination)))) where
-        pub pdu-id-room : p2 + (flag (eqb (header .protocol) 1) + flag (header .«path_bit»)) ≤ length o2
-        pdu-id-room = room-after o1 p1 (destinationBytes (header .destination)) _ p2 o2 (omega (arith, length-destination (header .destination), destination-room)) (e2 .0) (e2 .1)
+      pub header-begins : (now : List ℕ) (written : Written) → written ≡ headerWritten header (length output) → now ≡ headerOutput header output
+          → Begins output now (headerBytes header) (written .length)
+      unfolding headerWritten headerOutput
+      header-begins now written ew en = record { is = rw (en, number-0); ends = rw (ew, number-0) (length-header header) }
 
-        pub path-count-room : (o3 : List ℕ) (p3 : ℕ)
-            → (p3 ≡ placeAfter o2 p2 (onlyIf (eqb (header .protocol) 1) (header .«pdu_id» ∷ []))) × (o3 ≡ placed o2 p2 (onlyIf (eqb (header .protocol) 1) (header .«pdu_id» ∷ [])))
-            → p3 + flag (header .«path_bit») ≤ length o3
-        path-count-room o3 p3 e3 =
-            room-after o2 p2 (onlyIf (eqb (header .protocol) 1) (header .«pdu_id» ∷ [])) _ p3 o3 (omega (arith, length-onlyIf (eqb (header .protocol) 1) (header .«pdu_id»), pdu-id-room)) (e3 .0) (e3 .1)
+-- the header, put part by part
+module _ (header : Header) (output : List ℕ) (room : pathStart header ≤ length output) where
+  -- the room for each part behind the fixed one
+  module _ (o1 : List ℕ) (p1 : ℕ) (e1 : (p1 ≡ placeAfter output 0 (fixedPart header)) × (o1 ≡ placed output 0 (fixedPart header))) where
+    pub destination-room : p1 + (2 * destinationFlag (header .destination) + flag (eqb (header .protocol) 1) + flag (header .«path_bit»)) ≤ length o1
+    destination-room = room-after output 0 (fixedPart header) _ p1 o1 (omega arith) (e1 .0) (e1 .1)
 
-    pub header-put : (o1 o2 o3 o4 : List ℕ) (p1 p2 p3 p4 : ℕ) → pathStart header ≤ length output
-        → (p1 ≡ placeAfter output 0 (fixedPart header)) × (o1 ≡ placed output 0 (fixedPart header))
-        → (p2 ≡ placeAfter o1 p1 (destinationBytes (header .destination))) × (o2 ≡ placed o1 p1 (destinationBytes (header .destination)))
-        → (p3 ≡ placeAfter o2 p2 (onlyIf (eqb (header .protocol) 1) (header .«pdu_id» ∷ []))) × (o3 ≡ placed o2 p2 (onlyIf (eqb (header .protocol) 1) (header .«pdu_id» ∷ [])))
-        → (p4 ≡ placeAfter o3 p3 (onlyIf (header .«path_bit») (header .«path_count» ∷ []))) × (o4 ≡ placed o3 p3 (onlyIf (header .«path_bit») (header .«path_count» ∷ [])))
-        → (p4 ≡ placeAfter output 0 (headerPart header)) × (o4 ≡ placed output 0 (headerPart header))
-    unfolding headerBytes
-    header-put o1 o2 o3 o4 p1 p2 p3 p4 room e1 e2 e3 e4 =
-        let d = length-destination (header .destination) in
-        let i = length-onlyIf (eqb (header .protocol) 1) (header .«pdu_id») in
-        let k = length-onlyIf (header .«path_bit») (header .«path_count») in
-        let l1 = length-append (fixedPart header) (destinationBytes (header .destination)) in
-        let l2 = length-append (fixedPart header ++ destinationBytes (header .destination)) (onlyIf (eqb (header .protocol) 1) (header .«pdu_id» ∷ [])) in
-        let g1 = first (fixedPart header) output o1 p1 (omega arith) (e1 .0) (e1 .1) in
-        let g2 = more (destinationBytes (header .destination)) o1 o2 p2 g1 (omega (arith, g1 .ends)) (e2 .0) (e2 .1) in
-        let g3 = more (onlyIf (eqb (header .protocol) 1) (header .«pdu_id» ∷ [])) o2 o3 p3 g2 (omega (arith, g2 .ends)) (e3 .0) (e3 .1) in
-        let g4 = more (onlyIf (header .«path_bit») (header .«path_count» ∷ [])) o3 o4 p4 g3 (omega (arith, g3 .ends)) (e4 .0) (e4 .1) in
-        let whole : length (headerBytes header) ≤ length output = omega (arith, length-header header) in
-        rw (part-is ok)
-        (sym (g4 .ends) ∙ sym (is-after output 0 (headerBytes header) (omega arith) ∙ zero-add (length (headerBytes header))), g4 .is ∙ sym (placed-start (headerBytes header) output whole))
+    module _ (o2 : List ℕ) (p2 : ℕ)
+        (e2 : (p2 ≡ placeAfter o1 p1 (destinationBytes (header .destination))) × (o2 ≡ placed o1 p1 (destinationBytes (header .destination)))) where
+      pub pdu-id-room : p2 + (flag (eqb (header .protocol) 1) + flag (header .«path_bit»)) ≤ length o2
+      pdu-id-room =
+          room-after o1 p1 (destinationBytes (header .destination)) _ p2 o2
+          (omega (arith, length-destination (header .destination), destination-room)) (e2 .0) (e2 .1)
 
-    -- path and payload behind it
-    module _ (bytes o1 : List ℕ) (p1 : ℕ) (room : pduLength header ≤ length output) (whole : pduLength header ≤ length bytes)
-        (e1 : (p1 ≡ placeAfter output 0 (headerPart header)) × (o1 ≡ placed output 0 (headerPart header))) where
-      begun : Begins output o1 (headerBytes header) p1
-      begun = header-begins o1 p1 (omega arith) (e1 .0) (e1 .1)
+      module _ (o3 : List ℕ) (p3 : ℕ)
+          (e3 : (p3 ≡ placeAfter o2 p2 (onlyIf (eqb (header .protocol) 1) (header .«pdu_id» ∷ [])))
+          × (o3 ≡ placed o2 p2 (onlyIf (eqb (header .protocol) 1) (header .«pdu_id» ∷ [])))) where
+        pub path-count-room : p3 + flag (header .«path_bit») ≤ length o3
+        path-count-room =
+            room-after o2 p2 (onlyIf (eqb (header .protocol) 1) (header .«pdu_id» ∷ [])) _ p3 o3
+            (omega (arith, length-onlyIf (eqb (header .protocol) 1) (header .«pdu_id»), pdu-id-room)) (e3 .0) (e3 .1)
 
-      pub path-place : p1 ≡ pathStart header
-      path-place = sym (begun .ends) ∙ length-header header
+        pub header-put : (o4 : List ℕ) (p4 : ℕ)
+            → (p4 ≡ placeAfter o3 p3 (onlyIf (header .«path_bit») (header .«path_count» ∷ [])))
+            × (o4 ≡ placed o3 p3 (onlyIf (header .«path_bit») (header .«path_count» ∷ [])))
+            → (p4 ≡ pathStart header) × (o4 ≡ over (headerBytes header) output)
+        unfolding headerBytes
+        header-put o4 p4 e4 =
+            let d = length-destination (header .destination) in
+            let i = length-onlyIf (eqb (header .protocol) 1) (header .«pdu_id») in
+            let k = length-onlyIf (header .«path_bit») (header .«path_count») in
+            let l1 = length-append (fixedPart header) (destinationBytes (header .destination)) in
+            let l2 = length-append (fixedPart header ++ destinationBytes (header .destination)) (onlyIf (eqb (header .protocol) 1) (header .«pdu_id» ∷ [])) in
+            let g1 = first (fixedPart header) output o1 p1 (omega arith) (e1 .0) (e1 .1) in
+            let g2 = more (destinationBytes (header .destination)) o1 o2 p2 g1 (omega (arith, g1 .ends)) (e2 .0) (e2 .1) in
+            let g3 = more (onlyIf (eqb (header .protocol) 1) (header .«pdu_id» ∷ [])) o2 o3 p3 g2 (omega (arith, g2 .ends)) (e3 .0) (e3 .1) in
+            let g4 = more (onlyIf (header .«path_bit») (header .«path_count» ∷ [])) o3 o4 p4 g3 (omega (arith, g3 .ends)) (e4 .0) (e4 .1) in
+            (sym (g4 .ends) ∙ length-header header, g4 .is)
 
-      pub path-room : p1 + 2 * pathEntries header ≤ length o1
-      path-room = omega (arith, path-place, ap length (begun .is), length-over (headerBytes header) output (omega (arith, length-header header)))
+-- path and payload behind it
+module _ (header : Header) (output bytes o1 : List ℕ) (p1 : ℕ) (room : pduLength header ≤ length output) (whole : pduLength header ≤ length bytes)
+    (e1 : (p1 ≡ pathStart header) × (o1 ≡ over (headerBytes header) output)) where
+  begun : Begins output o1 (headerBytes header) p1
+  begun = record { is = e1 .1; ends = length-header header ∙ sym (e1 .0) }
 
-      pub encode-put : (o2 o3 payload : List ℕ) (p2 : ℕ) → (p2 ≡ placeAfter o1 p1 (pathBytes (pathIn header bytes))) × (o2 ≡ placed o1 p1 (pathBytes (pathIn header bytes)))
-          → payload ≡ payloadIn header bytes → o3 ≡ placed o2 p2 payload → o3 ≡ over (encode header (pathIn header bytes) (payloadIn header bytes)) output
-      unfolding encode
-      encode-put o2 o3 payload p2 e2 ep e3 =
-          let path = length-pathIn header bytes in
-          let long : length (payloadIn header bytes) ≡ header .«payload_length» = length-take-le _ _ (simp length-drop (omega arith)) in
-          let g2 = more (pathBytes (pathIn header bytes)) o1 o2 p2 begun (omega (arith, path-place)) (e2 .0) (e2 .1) in
-          let g3 = more (payloadIn header bytes) o2 o3 _ g2 (omega (arith, g2 .ends, length-append (headerBytes header) (pathBytes (pathIn header bytes)), length-header header)) refl (rw ep at e3) in
-          g3 .is
+  pub path-room : p1 + 2 * pathEntries header ≤ length o1
+  path-room = omega (arith, e1 .0, ap length (e1 .1), length-over (headerBytes header) output (omega (arith, length-header header)))
+
+  pub encode-put : (o2 o3 payload : List ℕ) (p2 : ℕ)
+      → (p2 ≡ placeAfter o1 p1 (pathBytes (pathIn header bytes))) × (o2 ≡ placed o1 p1 (pathBytes (pathIn header bytes)))
+      → payload ≡ payloadIn header bytes → o3 ≡ placed o2 p2 payload → o3 ≡ over (encode header (pathIn header bytes) (payloadIn header bytes)) output
+  unfolding encode
+  encode-put o2 o3 payload p2 e2 ep e3 =
+      let path = length-pathIn header bytes in
+      let long : length (payloadIn header bytes) ≡ header .«payload_length» = length-take-le _ _ (simp length-drop (omega arith)) in
+      let g2 = more (pathBytes (pathIn header bytes)) o1 o2 p2 begun (omega (arith, e1 .0)) (e2 .0) (e2 .1) in
+      let all = length-append (headerBytes header) (pathBytes (pathIn header bytes)) in
+      let g3 = more (payloadIn header bytes) o2 o3 _ g2 (omega (arith, g2 .ends, all, length-header header)) refl (rw ep at e3) in
+      g3 .is

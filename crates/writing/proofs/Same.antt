@@ -23,9 +23,8 @@ use Rattle.writing.specs.Writing.{fixedPart, destinationBytes, onlyIf, h
 use Rattle.pdu.proofs.Showing.{flag-isSet, destination-flag, entries-shown}
 use Rattle.pdu.proofs.Paths.{length-addresses}
 use Rattle.pdu.proofs.Inversion.{Whole, shown}
-use Rattle.writing.proofs.Encoding.{within}
 use Rattle.octets.proofs.Words.{Bytes}
-use Rattle.writing.proofs.Within.{shown-within}
+use Rattle.writing.proofs.Within.{within, shown-within}
 use Rattle.writing.proofs.Back.{read-encode}
 
 -- bytes 0, 1 and 2, put together again from their fields

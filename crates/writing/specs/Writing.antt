@@ -1,11 +1,11 @@
 -- A PDU's bytes from its header, path and payload (document 01, "Header, byte by byte"), and a PDU written again ("Numbers answered", 1 to 6, then 14).
 use Prim.Native.Nat.{ℕ, _+_, _*_, _/_, _%_, _≤_, _<_}
-use mathlib.Core.Bool.{Bool, false, cond, _&&_}
+use mathlib.Core.Bool.{Bool, false, cond}
 use mathlib.Core.List.{List, [], _∷_, _++_}
 use mathlib.Core.Path.{_≡_}
-use lib.Dec.{eqb, ltb, leb}
+use lib.Dec.{eqb, ltb}
 use lib.ListN.{length}
-use Rattle.octets.specs.Numbers.{flag}
+use Rattle.octets.specs.Numbers.{flag, _gives_, _orElse_}
 use Rattle.octets.specs.Octets.{wordBytes, over}
 use Rattle.pdu.specs.declared.Destination.{Destination}
 use Rattle.pdu.specs.declared.Destination.the-variants.{Everyone, Address}
@@ -13,7 +13,7 @@ use Rattle.pdu.specs.declared.Header.{Header}
 use Rattle.pdu.specs.declared.Reading.{Reading}
 use Rattle.pdu.specs.declared.Reading.the-variants.{Pdu, Refused}
 use Rattle.pdu.specs.declared.Written.{Written}
-use Rattle.pdu.specs.Sizes.{payloadLimit, destinationFlag, pduLength}
+use Rattle.pdu.specs.Sizes.{payloadLimit, destinationFlag, pathStart, pduLength}
 use Rattle.pdu.specs.Reading.{refusalNumber, readOf}
 use Rattle.pdu.specs.Parts.{pathIn, payloadIn}
 
@@ -50,14 +50,26 @@ pathBytes (address ∷ path) = wordBytes address ++ pathBytes path
 unfoldable pub encode : Header → List ℕ → List ℕ → List ℕ
 encode header path payload = headerBytes header ++ pathBytes path ++ payload
 
--- whether each field is within the bits that the table gives it
-abbrev pub withinBits : Header → Bool
-withinBits header =
-    leb (header .protocol) 7 && leb (header .port) 15 && leb (header .reserved) 3 && leb (header .«hop_limit») 7 && leb (header .«payload_length») payloadLimit
+-- the number of the first field that cannot be written in its bits ("Numbers answered", 3 and 10 to 12), or 0; 15 is not in document 01
+unfoldable pub fieldFault : Header → ℕ
+fieldFault header =
+    ltb 1 (header .protocol) gives 3
+    orElse ltb 7 (header .«hop_limit») gives 10
+    orElse ltb 15 (header .port) gives 11
+    orElse ltb payloadLimit (header .«payload_length») gives 12
+    orElse ltb 3 (header .reserved) gives 15
 
--- what is put of a header: its bytes, or none where a field is too wide for its bits
-abbrev pub headerPart : Header → List ℕ
-headerPart header = onlyIf (withinBits header) (headerBytes header)
+-- what putting a header alone answers for an output of so many bytes: that number, then 14; its length, 0 with a refusal
+unfoldable pub headerNumber : Header → ℕ → ℕ
+headerNumber header room = fieldFault header orElse ltb room (pathStart header) gives 14
+
+unfoldable pub headerWritten : Header → ℕ → Written
+headerWritten header room =
+    record { number = headerNumber header room; length = cond (eqb (headerNumber header room) 0) (pathStart header) 0 }
+
+-- what it leaves in the output
+unfoldable pub headerOutput : Header → List ℕ → List ℕ
+headerOutput header output = cond (eqb (headerNumber header (length output)) 0) (over (headerBytes header) output) output
 
 -- what writing again answers for what was read and an output of so many bytes: number and length
 abbrev pub writtenOf : Reading → ℕ → Written

@@ -4,23 +4,24 @@ use pdu::Header;
 use pdu::Reading;
 use pdu::Written;
 ghost use mathlib.Core.Path.{_≡_};
-ghost use mathlib.Core.Bool.{true};
 ghost use mathlib.Core.List.{[], _∷_};
 ghost use Prim.Native.Nat.{_+_, _*_, _/_, _<_, _≤_};
 ghost use lib.ListN.{length};
 ghost use Rattle.octets.specs.Numbers.{flag};
-ghost use Rattle.octets.specs.Octets.{wordBytes, placed, placeAfter};
+ghost use Rattle.octets.specs.Octets.{wordBytes, over, placed, placeAfter};
 ghost use Rattle.pdu.specs.declared.Reading.the-variants.{Pdu};
-ghost use Rattle.pdu.specs.Sizes.{destinationFlag, pathEntries};
+ghost use Rattle.pdu.specs.Sizes.{destinationFlag, pathEntries, pathStart};
 ghost use Rattle.pdu.specs.Reading.{readOf};
 ghost use Rattle.pdu.specs.Parts.{pathIn};
-ghost use Rattle.writing.specs.Writing.{fixedPart, destinationBytes, onlyIf, pathBytes, withinBits, headerPart, writtenOf, outputOf, writeAgain, writtenAgain};
+ghost use Rattle.writing.specs.Writing.{fixedPart, destinationBytes, onlyIf, headerBytes, pathBytes};
+ghost use Rattle.writing.specs.Writing.{fieldFault, headerWritten, headerOutput, writtenOf, outputOf, writeAgain, writtenAgain};
 
 // Writes the PDU at the start of `bytes` again, from what reading shows of it, at the start of the output: the same bytes, answered with 0 and their
 // number. Answers 1 to 6 where there is no PDU and 14 where the output is too short, both with length 0 and the output as it was. Output past the
 // PDU keeps its bytes. Document 01, "Numbers answered", a PDU written again.
 pub fn write_again(bytes: &[u8], output: &mut [u8]) -> Written
-    ensures { λ r. ⌜ (r ≡ writeAgain (now (bytes .entry)) (length (now (output .entry)))) × (now (output .exit) ≡ writtenAgain (now (bytes .entry)) (now (output .entry))) ⌝ }
+    ensures { λ r. ⌜ (r ≡ writeAgain (now (bytes .entry)) (length (now (output .entry))))
+        × (now (output .exit) ≡ writtenAgain (now (bytes .entry)) (now (output .entry))) ⌝ }
 {
     let reading = pdu::read(bytes);
     match reading {
@@ -34,7 +35,8 @@ pub fn write_again(bytes: &[u8], output: &mut [u8]) -> Written
 
 fn write_shown(bytes: &[u8], header: Header, output: &mut [u8]) -> Written
     requires { ⌜ readOf (now bytes) ≡ Pdu header ⌝ }
-    ensures { λ r. ⌜ (r ≡ writtenOf (Pdu header) (length (now (output .entry)))) × (now (output .exit) ≡ outputOf (Pdu header) (now (bytes .entry)) (now (output .entry))) ⌝ }
+    ensures { λ r. ⌜ (r ≡ writtenOf (Pdu header) (length (now (output .entry))))
+        × (now (output .exit) ≡ outputOf (Pdu header) (now (bytes .entry)) (now (output .entry))) ⌝ }
 {
     let length = header.pdu_length();
     if output.len() < length {
@@ -43,24 +45,57 @@ fn write_shown(bytes: &[u8], header: Header, output: &mut [u8]) -> Written
             length: 0,
         };
     }
-    let path = put_header(output, header);
+    let path = put_fields(output, header);
     let payload = put_path(output, path, bytes, header);
     octets::put(output, payload, pdu::parts::payload(bytes, header));
     Written { number: 0, length }
 }
 
-// Puts a header, up to its path's addresses, at the start of the output and answers the place after it. Where a field is too wide for its bits or
-// the output is too short, nothing is written and the place is 0. Output past the header keeps its bytes. Whether reading takes such a header is not
-// asked: protocols 2 to 7 are put as they are. Document 01, "Header, byte by byte".
-pub fn put_header(output: &mut [u8], header: Header) -> usize
-    ensures { λ r. ⌜ (r ≡ placeAfter (now (output .entry)) 0 (headerPart header)) × (now (output .exit) ≡ placed (now (output .entry)) 0 (headerPart header)) ⌝ }
+// Puts a header, up to its path's addresses, at the start of the output and answers 0 and its length. Answers 3 for a protocol other than 0 and 1, 10
+// for a hop limit above 7, 11 for a port above 15, 12 for a payload length above 4,095, 15 for reserved bits above 3, which document 01 has no number
+// for, and then 14 where the output is too short; each with length 0 and the output as it was. Output past the header keeps its bytes.
+// Document 01, "Header, byte by byte", and "Numbers answered".
+pub fn put_header(output: &mut [u8], header: Header) -> Written
+    ensures { λ r. ⌜ (r ≡ headerWritten header (length (now (output .entry))))
+        × (now (output .exit) ≡ headerOutput header (now (output .entry))) ⌝ }
 {
-    if !within_bits(header) {
-        return 0;
+    let number = field_fault(header);
+    if number != 0 {
+        return Written { number, length: 0 };
     }
     if output.len() < header.path_start() {
-        return 0;
+        return Written {
+            number: 14,
+            length: 0,
+        };
     }
+    let length = put_fields(output, header);
+    Written { number: 0, length }
+}
+
+fn field_fault(header: Header) -> u8
+    ensures { λ r. ⌜ r ≡ fieldFault header ⌝ }
+{
+    if 1 < header.protocol {
+        return 3;
+    }
+    if 7 < header.hop_limit {
+        return 10;
+    }
+    if 15 < header.port {
+        return 11;
+    }
+    if Header::PAYLOAD_LIMIT < header.payload_length as usize {
+        return 12;
+    }
+    if 3 < header.reserved { 15 } else { 0 }
+}
+
+// Puts a header's fields one after the other, and answers the place after them.
+fn put_fields(output: &mut [u8], header: Header) -> usize
+    requires { ⌜ (fieldFault header ≡ 0) × (pathStart header ≤ length (now output)) ⌝ }
+    ensures { λ r. ⌜ (r ≡ pathStart header) × (now (output .exit) ≡ over (headerBytes header) (now (output .entry))) ⌝ }
+{
     let destination = header.destination;
     let destination_place = put_fixed(output, header);
     let pdu_id_place = put_destination(output, destination_place, destination);
@@ -68,27 +103,10 @@ pub fn put_header(output: &mut [u8], header: Header) -> usize
     put_if(output, path_count_place, header.path_bit, header.path_count)
 }
 
-fn within_bits(header: Header) -> bool
-    ensures { λ r. ⌜ r ≡ withinBits header ⌝ }
-{
-    if 7 < header.protocol {
-        return false;
-    }
-    if 15 < header.port {
-        return false;
-    }
-    if 3 < header.reserved {
-        return false;
-    }
-    if 7 < header.hop_limit {
-        return false;
-    }
-    header.payload_length as usize <= Header::PAYLOAD_LIMIT
-}
-
 fn put_fixed(output: &mut [u8], header: Header) -> usize
-    requires { ⌜ withinBits header ≡ true ⌝ }
-    ensures { λ r. ⌜ (r ≡ placeAfter (now (output .entry)) 0 (fixedPart header)) × (now (output .exit) ≡ placed (now (output .entry)) 0 (fixedPart header)) ⌝ }
+    requires { ⌜ fieldFault header ≡ 0 ⌝ }
+    ensures { λ r. ⌜ (r ≡ placeAfter (now (output .entry)) 0 (fixedPart header))
+        × (now (output .exit) ≡ placed (now (output .entry)) 0 (fixedPart header)) ⌝ }
 {
     let destination = header.destination;
     let part = [
@@ -108,7 +126,7 @@ fn put_fixed(output: &mut [u8], header: Header) -> usize
 }
 
 fn byte_0(protocol: u8, time_stamp_request: bool, path_bit: bool, destination: Destination) -> u8
-    requires { ⌜ protocol ≤ 7 ⌝ }
+    requires { ⌜ protocol ≤ 1 ⌝ }
     ensures { λ r. ⌜ r ≡ protocol * 8 + flag «time_stamp_request» * 4 + flag «path_bit» * 2 + destinationFlag destination ⌝ }
 {
     protocol * 8
@@ -133,7 +151,8 @@ fn byte_2(added_header: bool, hop_limit: u8, payload_length: u16) -> u8
 
 fn put_destination(output: &mut [u8], place: usize, destination: Destination) -> usize
     requires { ⌜ place + 2 * destinationFlag destination ≤ length (now output) ⌝ }
-    ensures { λ r. ⌜ (r ≡ placeAfter (now (output .entry)) place (destinationBytes destination)) × (now (output .exit) ≡ placed (now (output .entry)) place (destinationBytes destination)) ⌝ }
+    ensures { λ r. ⌜ (r ≡ placeAfter (now (output .entry)) place (destinationBytes destination))
+        × (now (output .exit) ≡ placed (now (output .entry)) place (destinationBytes destination)) ⌝ }
 {
     match destination {
         Destination::Everyone => place,
@@ -143,7 +162,8 @@ fn put_destination(output: &mut [u8], place: usize, destination: Destination) ->
 
 fn put_address(output: &mut [u8], place: usize, address: u16) -> usize
     requires { ⌜ place + 2 ≤ length (now output) ⌝ }
-    ensures { λ r. ⌜ (r ≡ placeAfter (now (output .entry)) place (wordBytes address)) × (now (output .exit) ≡ placed (now (output .entry)) place (wordBytes address)) ⌝ }
+    ensures { λ r. ⌜ (r ≡ placeAfter (now (output .entry)) place (wordBytes address))
+        × (now (output .exit) ≡ placed (now (output .entry)) place (wordBytes address)) ⌝ }
 {
     let low_place = put_byte(output, place, octets::high(address));
     put_byte(output, low_place, octets::low(address))
@@ -151,7 +171,8 @@ fn put_address(output: &mut [u8], place: usize, address: u16) -> usize
 
 fn put_if(output: &mut [u8], place: usize, called: bool, byte: u8) -> usize
     requires { ⌜ place + flag called ≤ length (now output) ⌝ }
-    ensures { λ r. ⌜ (r ≡ placeAfter (now (output .entry)) place (onlyIf called (byte ∷ []))) × (now (output .exit) ≡ placed (now (output .entry)) place (onlyIf called (byte ∷ []))) ⌝ }
+    ensures { λ r. ⌜ (r ≡ placeAfter (now (output .entry)) place (onlyIf called (byte ∷ [])))
+        × (now (output .exit) ≡ placed (now (output .entry)) place (onlyIf called (byte ∷ []))) ⌝ }
 {
     if called {
         put_byte(output, place, byte)
@@ -163,7 +184,8 @@ fn put_if(output: &mut [u8], place: usize, called: bool, byte: u8) -> usize
 // Puts a byte at a place that is in the output: the room for the header was looked at once, for all its parts.
 fn put_byte(output: &mut [u8], place: usize, byte: u8) -> usize
     requires { ⌜ place < length (now output) ⌝ }
-    ensures { λ r. ⌜ (r ≡ placeAfter (now (output .entry)) place (byte ∷ [])) × (now (output .exit) ≡ placed (now (output .entry)) place (byte ∷ [])) ⌝ }
+    ensures { λ r. ⌜ (r ≡ placeAfter (now (output .entry)) place (byte ∷ []))
+        × (now (output .exit) ≡ placed (now (output .entry)) place (byte ∷ [])) ⌝ }
 {
     output[place] = byte;
     place + 1
@@ -171,7 +193,8 @@ fn put_byte(output: &mut [u8], place: usize, byte: u8) -> usize
 
 fn put_path(output: &mut [u8], place: usize, bytes: &[u8], header: Header) -> usize
     requires { ⌜ place + 2 * pathEntries header ≤ length (now output) ⌝ }
-    ensures { λ r. ⌜ (r ≡ placeAfter (now (output .entry)) place (pathBytes (pathIn header (now (bytes .entry))))) × (now (output .exit) ≡ placed (now (output .entry)) place (pathBytes (pathIn header (now (bytes .entry))))) ⌝ }
+    ensures { λ r. ⌜ (r ≡ placeAfter (now (output .entry)) place (pathBytes (pathIn header (now (bytes .entry)))))
+        × (now (output .exit) ≡ placed (now (output .entry)) place (pathBytes (pathIn header (now (bytes .entry))))) ⌝ }
 {
     let start = header.path_start();
     let entries = header.path_entries();

@@ -48,6 +48,7 @@ refusals! {
     PayloadTooLong = 12, "the payload has more than 4,095 bytes";
     ReliableWithoutDestination = 13, "reliable service needs a destination";
     OutputTooShort = 14, "the output has no room for the PDU";
+    ReservedAbove3 = 15, "reserved bits above 3: a number of this library's own, for a header put together by hand";
     LowAboveHigh = 20, "a list has a range whose low is above its high";
     ListOdd = 21, "the last value of a list has no partner";
     ListTooLong = 22, "a list has more than 128 values";

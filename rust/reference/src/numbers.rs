@@ -24,6 +24,7 @@ numbers! {
     PAYLOAD_SIZE = 12, "the payload has more than 4,095 bytes";
     RELIABLE_WITHOUT_DESTINATION = 13, "reliable service needs a destination";
     OUTPUT_SHORT = 14, "the output has no room for the PDU";
+    RESERVED_ABOVE_3 = 15, "reserved bits above 3: a number of this library's own, for a header put together by hand";
     LOW_ABOVE_HIGH = 20, "a list has a range whose low is above its high";
     ODD_LIST = 21, "the last value of a list has no partner";
     LONG_LIST = 22, "a list has more than 128 values";

@@ -17,7 +17,13 @@ part-result-end : tie.Need-part-result-end
 part-result-end c = search needs
 
 returns : tie.Need-returns
-returns c = let a = c .before .before .args in record { bytes = part-none (now (a .bytes)) (a .place) (a .size) _ (simp (length-take, length-drop) (omega arith)) (omega arith); block = refl; offset = omega arith }
+returns c =
+    let a = c .before .before .args in
+    record {
+      bytes = part-none (now (a .bytes)) (a .place) (a .size) _ (simp (length-take, length-drop) (omega arith)) (omega arith);
+      block = refl;
+      offset = omega arith;
+    }
 
 sub-result-2 : tie.Need-sub-result-2
 sub-result-2 c = search needs
@@ -29,7 +35,9 @@ part-result-end-2 : tie.Need-part-result-end-2
 part-result-end-2 c = search needs
 
 returns-2 : tie.Need-returns-2
-returns-2 c = let a = c .before .before .before .args in record { bytes = part-cut (now (a .bytes)) (a .place) (a .size) (omega arith); block = refl; offset = omega arith }
+returns-2 c =
+    let a = c .before .before .before .args in
+    record { bytes = part-cut (now (a .bytes)) (a .place) (a .size) (omega arith); block = refl; offset = omega arith }
 
 add-result : tie.Need-add-result
 add-result c = search needs
@@ -44,7 +52,9 @@ part-result-end-3 : tie.Need-part-result-end-3
 part-result-end-3 c = search needs
 
 returns-3 : tie.Need-returns-3
-returns-3 c = let a = c .before .before .before .args in record { bytes = part-whole (now (a .bytes)) (a .place) (a .size) _ refl; block = refl; offset = omega arith }
+returns-3 c =
+    let a = c .before .before .before .args in
+    record { bytes = part-whole (now (a .bytes)) (a .place) (a .size) _ refl; block = refl; offset = omega arith }
 
 pub part-spec : {M : Type 1} → statement M
 part-spec =

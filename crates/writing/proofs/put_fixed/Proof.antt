@@ -1,4 +1,4 @@
-use Rattle.writing.proofs.Encoding.{within}
+use Rattle.writing.proofs.Within.{within}
 use borrow.Author.Needs.{needs}
 use Rattle.writing.proofs.put_fixed.Statement.{statement}
 use Rattle.writing.proofs.put_fixed.Tie as tie

@@ -16,13 +16,27 @@ pdu-length-requires : tie.Need-pdu-length-requires
 pdu-length-requires c κs = search needs
 
 returns : tie.Need-returns
-returns c = let short : length (now (c .before .before .before .before .args .output)) < pduLength (c .before .before .before .before .args .header) = omega (arith, c .before .pdu-length .ensures .0) in rw (lt-ltb _ _ short) (refl, refl)
+returns c =
+    let a = c .before .before .before .before .args in
+    let short : length (now (a .output)) < pduLength (a .header) = omega (arith, c .before .pdu-length .ensures .0) in
+    rw (lt-ltb _ _ short) (refl, refl)
 
-put-header-requires : tie.Need-put-header-requires
-put-header-requires c κs = search needs
+put-fields-requires : tie.Need-put-fields-requires
+put-fields-requires c κs =
+    let counted = c .before .before in
+    let known = counted .before .before in
+    let start = known .before in
+    let whole = shown (now (start .args .bytes)) (start .args .header) (start .pre) in
+    (shown-within _ _ (λ i. known .shared-slice-known .given i .fits) whole, omega (arith, counted .pdu-length .ensures .0))
 
 put-path-requires : tie.Need-put-path-requires
-put-path-requires c κs = let a = c .before .before .before .before .before .before .before .before .before .args in let whole = shown (now (a .bytes)) (a .header) (c .before .before .before .before .before .before .before .before .before .pre) in path-room (a .header) (now (a .output)) (shown-within _ _ (λ i. c .before .before .before .before .before .before .before .before .shared-slice-known .given i .fits) whole) (now (a .bytes)) _ _ (omega (arith, c .before .before .before .before .before .before .pdu-length .ensures .0)) (whole .ends) (c .before .before .before .put-header .ensures)
+put-path-requires c κs =
+    let put = c .before .before .before in
+    let counted = put .before .before .before in
+    let start = counted .before .before .before in
+    let whole = shown (now (start .args .bytes)) (start .args .header) (start .pre) in
+    path-room (start .args .header) (now (start .args .output)) (now (start .args .bytes)) _ _ (omega (arith, counted .pdu-length .ensures .0))
+    (whole .ends) (put .put-fields .ensures)
 
 payload-requires : tie.Need-payload-requires
 payload-requires c κs = search needs
@@ -34,7 +48,20 @@ same-length : tie.Need-same-length
 same-length c = search needs
 
 returns-2 : tie.Need-returns-2
-returns-2 c = let a = c .before .before .before .before .before .before .before .before .before .before .before .before .before .before .before .before .before .args in let h = c .before .before .before .before .before .before .before .before .before .before .before in let whole = shown (now (a .bytes)) (a .header) (c .before .before .before .before .before .before .before .before .before .before .before .before .before .before .before .before .before .pre) in let room : pduLength (a .header) ≤ length (now (a .output)) = omega (arith, c .before .before .before .before .before .before .before .before .before .before .before .before .before .before .pdu-length .ensures .0) in let put = encode-put (a .header) (now (a .output)) (shown-within _ _ (λ i. c .before .before .before .before .before .before .before .before .before .before .before .before .before .before .before .before .shared-slice-known .given i .fits) whole) (now (a .bytes)) _ _ room (whole .ends) (h .put-header .ensures) _ _ _ _ (c .before .before .before .before .before .before .before .put-path .ensures) (c .before .before .before .payload .ensures .bytes) (c .before .before .put .ensures .1) in rw (le-ltb _ _ room) (ap (λ (n : ℕ). record { number = 0; length = n }) (c .before .before .before .before .before .before .before .before .before .before .before .before .before .before .pdu-length .ensures .0), put)
+returns-2 c =
+    let shows = c .before .before .before in
+    let path = shows .before .before .before .before in
+    let put = path .before .before .before .before in
+    let counted = put .before .before .before in
+    let start = counted .before .before .before in
+    let a = start .args in
+    let whole = shown (now (a .bytes)) (a .header) (start .pre) in
+    let room : pduLength (a .header) ≤ length (now (a .output)) = omega (arith, counted .pdu-length .ensures .0) in
+    let written =
+    encode-put (a .header) (now (a .output)) (now (a .bytes)) _ _ room (whole .ends) (put .put-fields .ensures) _ _ _ _ (path .put-path .ensures)
+    (shows .payload .ensures .bytes) (c .before .before .put .ensures .1)
+    in
+    rw (le-ltb _ _ room) (ap (λ (n : ℕ). record { number = 0; length = n }) (counted .pdu-length .ensures .0), written)
 
 pub write-shown-spec : {M : Type 1} → statement M
 write-shown-spec =
@@ -42,7 +69,7 @@ write-shown-spec =
     (tie.spec
     pdu-length-requires
     returns
-    put-header-requires
+    put-fields-requires
     put-path-requires
     payload-requires
     put-requires
