@@ -2,7 +2,7 @@
 use crate::tally::Tally;
 use bound::Bound;
 
-pub fn cases(mut tally: Tally) -> Tally {
+pub(crate) fn cases(mut tally: Tally) -> Tally {
     tally = bounds(tally, b"bound, N 3, h 2:", 3, 2, 10);
     tally = bounds(tally, b"bound, N 3, h 6:", 3, 6, 16);
     tally = bounds(tally, b"bound, N 3, h 7:", 3, 7, 16);

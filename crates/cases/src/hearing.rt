@@ -2,7 +2,7 @@
 use crate::tally::Tally;
 use node::Settings;
 
-pub fn cases(mut tally: Tally) -> Tally {
+pub(crate) fn cases(mut tally: Tally) -> Tally {
     tally = faults(tally);
     tally = source_lists(tally);
     tally = destination_lists(tally);
@@ -13,7 +13,7 @@ pub fn cases(mut tally: Tally) -> Tally {
 }
 
 // Node 2000, repeating, with echo suppression on and every list off.
-pub fn plain() -> Settings {
+pub(crate) fn plain() -> Settings {
     Settings {
         own: 2000,
         echo: true,
@@ -26,7 +26,7 @@ pub fn plain() -> Settings {
 }
 
 // The one list stands for all four. Right where both numbers and the repeat's length are the expected ones and the whole output is `after`.
-pub fn hears(
+pub(crate) fn hears(
     tally: Tally,
     name: &[u8],
     settings: Settings,

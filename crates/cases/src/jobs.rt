@@ -1,7 +1,7 @@
 // Jobs, numbers 50 to 54, and 20.
 use crate::tally::Tally;
 
-pub fn cases(mut tally: Tally) -> Tally {
+pub(crate) fn cases(mut tally: Tally) -> Tally {
     tally = reads(tally, b"job, empty:", b"", 50);
     tally = reads(
         tally,

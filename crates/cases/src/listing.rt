@@ -1,7 +1,7 @@
 // Faults of the lists, numbers 20 to 22.
 use crate::tally::Tally;
 
-pub fn cases(mut tally: Tally) -> Tally {
+pub(crate) fn cases(mut tally: Tally) -> Tally {
     tally = first(tally, b"empty lists:", &[0u16; 0], 0);
     tally = first(tally, b"list of 128 values:", &[7u16; 128], 0);
     tally = first(tally, b"list of 129 values:", &[7u16; 129], 22);

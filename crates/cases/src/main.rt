@@ -8,11 +8,13 @@ mod originating;
 mod paths;
 mod reading;
 mod tally;
+mod viewing;
 mod walking;
 
 fn main() {
     let mut tally = tally::Tally::new();
     tally = reading::cases(tally);
+    tally = viewing::cases(tally);
     tally = originating::cases(tally);
     tally = listing::cases(tally);
     tally = hearing::cases(tally);

@@ -3,7 +3,7 @@ use crate::tally::Tally;
 use origin::Settings;
 use pdu::Destination;
 
-pub fn cases(mut tally: Tally) -> Tally {
+pub(crate) fn cases(mut tally: Tally) -> Tally {
     tally = settings_taken(tally);
     tally = settings_refused(tally);
     tally = largest_payload(tally);

@@ -3,7 +3,7 @@ use crate::hearing;
 use crate::tally::Tally;
 ghost use Prim.Native.Nat.{_<_};
 
-pub fn cases(mut tally: Tally) -> Tally {
+pub(crate) fn cases(mut tally: Tally) -> Tally {
     tally = path_of_254(tally);
     tally = path_of_255(tally);
     tally

@@ -1,7 +1,7 @@
 // Reading, numbers 1 to 6, and writing again, 14.
 use crate::tally::Tally;
 
-pub fn cases(mut tally: Tally) -> Tally {
+pub(crate) fn cases(mut tally: Tally) -> Tally {
     tally = reads(
         tally,
         b"read an empty payload:",

@@ -1,31 +1,31 @@
 // A line for each case, and how many there were.
 
 // How many cases were run, and how many of them answered something else than they should.
-pub struct Tally {
+pub(crate) struct Tally {
     pub cases: u64,
     pub wrong: u64,
 }
 
 impl Tally {
-    pub fn new() -> Tally {
+    pub(crate) fn new() -> Tally {
         Tally { cases: 0, wrong: 0 }
     }
 
     // Prints a case that answered no number.
-    pub fn none(self, name: &[u8], right: bool) -> Tally {
+    pub(crate) fn none(self, name: &[u8], right: bool) -> Tally {
         io::write_all(1, name);
         self.ended(right)
     }
 
     // Prints a case that answered one number.
-    pub fn one(self, name: &[u8], number: u64, right: bool) -> Tally {
+    pub(crate) fn one(self, name: &[u8], number: u64, right: bool) -> Tally {
         io::write_all(1, name);
         print_number(number);
         self.ended(right)
     }
 
     // Prints a case that answered two numbers.
-    pub fn two(self, name: &[u8], first: u64, second: u64, right: bool) -> Tally {
+    pub(crate) fn two(self, name: &[u8], first: u64, second: u64, right: bool) -> Tally {
         io::write_all(1, name);
         print_number(first);
         print_number(second);
@@ -33,7 +33,7 @@ impl Tally {
     }
 
     // Prints a case that answered three numbers.
-    pub fn three(self, name: &[u8], first: u64, second: u64, third: u64, right: bool) -> Tally {
+    pub(crate) fn three(self, name: &[u8], first: u64, second: u64, third: u64, right: bool) -> Tally {
         io::write_all(1, name);
         print_number(first);
         print_number(second);
@@ -54,7 +54,7 @@ impl Tally {
     }
 
     // Prints the last line.
-    pub fn end(self) {
+    pub(crate) fn end(self) {
         io::print_decimal(1, self.cases);
         io::write_all(1, b" cases, ");
         io::print_decimal(1, self.wrong);

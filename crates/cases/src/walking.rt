@@ -4,7 +4,7 @@ use crate::tally::Tally;
 use batch::Cursor;
 use batch::Numbers;
 
-pub fn cases(mut tally: Tally) -> Tally {
+pub(crate) fn cases(mut tally: Tally) -> Tally {
     tally = answers(tally, b"batch of 16384 bytes:", &[0u8; 16384], 0, 37);
     tally = refuses(tally, b"batch of 16385 bytes:", &[0u8; 16385], 54);
     tally = ends(tally, b"batch of 0 bytes, no answer:");
