@@ -33,7 +33,7 @@
 extern "C" {
 #endif
 
-/* Those that begin with JOB are given by the program relay only. */
+/* Those that begin with JOB are given by the program relay only, and RESERVED_ABOVE_3 by no call declared here. */
 enum MantNumber {
     MANT_DONE = 0,                          /* done */
     MANT_TOO_SHORT = 1,                     /* too short: every PDU has 6 bytes or more */

@@ -8,7 +8,8 @@ use Rattle.bound.proofs.most_bytes.Kinds as most-bytes-kinds
 use Rattle.bound.proofs.refusal.Reads as refusal-reads
 use Rattle.bound.proofs.refusal.Kinds as refusal-kinds
 
-pub most-transmissions : Promised 0 most-transmissions-kinds.ps most-transmissions-kinds.r most-transmissions-reads.Asked most-transmissions-reads.Post (λ κs x. x)
+pub most-transmissions : Promised 0 most-transmissions-kinds.ps most-transmissions-kinds.r most-transmissions-reads.Asked
+    most-transmissions-reads.Post (λ κs x. x)
 most-transmissions = (λ κs a. tt, λ κs a x y s t p q. p ∙ sym q)
 
 pub most-bytes : Promised 0 most-bytes-kinds.ps most-bytes-kinds.r most-bytes-reads.Asked most-bytes-reads.Post (λ κs x. x)

@@ -1,12 +1,13 @@
 -- The three demands, each from its parts.
 use Prim.Native.Nat.{ℕ, _≤_}
+use native.Mathlib.Omega.{arith}
 use mathlib.Core.Bool.{Bool, true, false, cond, _||_}
 use mathlib.Core.List.{List, [], _∷_, _++_}
 use mathlib.Core.Path.{_≡_, refl, ap, sym, _∙_}
 use lib.Dec.{ltb}
 use lib.ListN.{length, take, drop}
 use borrow.Author.Tests.{ne-eqb, eqb-true, eqb-false, le-ltb}
-use Rattle.octets.specs.Octets.{over}
+use Rattle.octets.specs.Octets.{AllBytes, over}
 use Rattle.pdu.specs.declared.Header.{Header}
 use Rattle.pdu.specs.declared.Reading.{Reading}
 use Rattle.pdu.specs.declared.Reading.the-variants.{Pdu, Refused}
@@ -16,8 +17,7 @@ use Rattle.pdu.specs.Reading.{readOf}
 use Rattle.pdu.specs.Parts.{pathIn, payloadIn}
 use Rattle.writing.specs.Writing.{encode, writtenOf, outputOf, writeAgain, writtenAgain}
 use Rattle.origin.specs.Origination.{originationNumber, originated, originatedOutput}
-use Rattle.node.specs.declared.Settings.{Settings}
-use Rattle.node.specs.Decision.{Lists, repeatFault, repeatNumber}
+use Rattle.node.specs.Decision.{Node, repeatFault, repeatNumber}
 use Rattle.node.specs.Repeat.{repeatedHeader, repeated}
 use Rattle.node.specs.declared.Answer.{Answer}
 use Rattle.node.specs.Answers.{answerOf, outputAfter}
@@ -26,7 +26,7 @@ use Rattle.batch.specs.declared.Stepped.the-variants.{TooLong, Ended, Answered}
 use Rattle.batch.specs.declared.Stepped.{Stepped}
 use Rattle.batch.specs.Walk.{isTooLong, isDone, nextCursor, stepOf, stepOutput}
 use Rattle.origin.proofs.ReadBack.{fresh-back}
-use Rattle.origin.proofs.Deciding.{hop-refused}
+use Rattle.origin.proofs.Deciding.{hop-refused, refused-early}
 use Rattle.writing.proofs.Same.{written-same, shown-well-formed}
 use Rattle.writing.proofs.Back.{read-encode, path-encode, payload-encode}
 use Rattle.node.proofs.Heard.{repeats, delivered-part}
@@ -37,14 +37,17 @@ use Rattle.flood.specs.Air.{address}
 use Rattle.flood.proofs.Demand.{demand-3, demand-3-bytes}
 use Rattle.flood.proofs.Demand as demand
 use Rattle.flood.proofs.Exact as exact
+use Rattle.flood.proofs.Fresh.{originated-begins, fresh-hop}
 use Rattle.flood.proofs.Sent.{sent-written, none-written}
-use Rattle.audit.specs.Demands.{AllBytes, Demand1, Demand2, Demand3}
+use Rattle.audit.specs.Demands.{Demand1, Demand2, Demand3}
 
-written-as-was : (reading : Reading) (bytes output : List ℕ) → (writtenOf reading (length output) .number ≡ 0 → ⊥) → outputOf reading bytes output ≡ output
+written-as-was : (reading : Reading) (bytes output : List ℕ) → (writtenOf reading (length output) .number ≡ 0 → ⊥)
+    → outputOf reading bytes output ≡ output
 written-as-was (Refused refusal) bytes output ne = refl
 written-as-was (Pdu header) bytes output ne = go (ltb (length output) (pduLength header)) ne
   where
-    go : (t : Bool) → (_≡_ {A = ℕ} (cond {A = Written} t (record { number = 14; length = 0 }) (record { number = 0; length = pduLength header }) .number) 0 → ⊥)
+    go : (t : Bool) → (_≡_ {A = ℕ}
+        (cond {A = Written} t (record { number = 14; length = 0 }) (record { number = 0; length = pduLength header }) .number) 0 → ⊥)
         → cond t output (over (encode header (pathIn header bytes) (payloadIn header bytes)) output) ≡ output
     go true n = refl
     go false n = absurd (n refl)
@@ -53,35 +56,37 @@ writing-as-was : (bytes output : List ℕ) → (writeAgain bytes (length output)
 unfolding writeAgain writtenAgain
 writing-as-was bytes output ne = written-as-was (readOf bytes) bytes output ne
 
-node-as-was : (settings : Settings) (lists : Lists) (received output : List ℕ) → (repeatNumber settings lists (length output) received ≡ 0 → ⊥)
-    → outputAfter settings lists received output ≡ output
+node-as-was : (node : Node) (received output : List ℕ) → (repeatNumber node (length output) received ≡ 0 → ⊥)
+    → outputAfter node received output ≡ output
 unfolding outputAfter
-node-as-was settings lists received output ne = rw (ne-eqb (repeatNumber settings lists (length output) received) 0 ne)
+node-as-was node received output ne = rw (ne-eqb (repeatNumber node (length output) received) 0 ne)
 
-step-as-was : (settings : Settings) (lists : Lists) (batch : List ℕ) (cursor : Cursor) (output : List ℕ)
-    → ((answer : Answer) (next : Cursor) → stepOf settings lists (length output) batch cursor ≡ Answered answer next → answer .repeat ≡ 0 → ⊥)
-    → stepOutput settings lists batch cursor output ≡ output
+step-as-was : (node : Node) (batch : List ℕ) (cursor : Cursor) (output : List ℕ)
+    → ((answer : Answer) (next : Cursor) → stepOf node (length output) batch cursor ≡ Answered answer next → answer .repeat ≡ 0 → ⊥)
+    → stepOutput node batch cursor output ≡ output
 unfolding stepOf stepOutput answerOf
-step-as-was settings lists batch cursor output ne = go (isTooLong batch) (isDone batch cursor) ne
+step-as-was node batch cursor output ne = go (isTooLong batch) (isDone batch cursor) ne
   where
     go : (long done : Bool)
         → ((answer : Answer) (next : Cursor)
-        → cond long TooLong (cond done Ended (Answered (answerOf settings lists (length output) (drop (cursor .place) batch)) (nextCursor lists batch (cursor .place))))
+        → cond long TooLong (cond done Ended
+        (Answered (answerOf node (length output) (drop (cursor .place) batch)) (nextCursor node batch (cursor .place))))
         ≡ Answered answer next → answer .repeat ≡ 0 → ⊥)
-        → cond (long || done) output (outputAfter settings lists (drop (cursor .place) batch) output) ≡ output
+        → cond (long || done) output (outputAfter node (drop (cursor .place) batch) output) ≡ output
     go true done n = refl
     go false true n = refl
-    go false false n = node-as-was settings lists (drop (cursor .place) batch) output (n _ _ refl)
+    go false false n = node-as-was node (drop (cursor .place) batch) output (n _ _ refl)
 
 pub total : Demand1
 unfolding originated originatedOutput
 total =
     record {
-      hop-refused = λ settings payload output h. rw (← hop-refused settings payload (length output) h) (refl, refl);
+      hop-refused = λ settings payload output h.
+          rw (refused-early settings payload (length output) 10 (hop-refused settings payload h) (omega arith)) (refl, refl);
       origination-untouched = λ settings payload output ne. rw (ne-eqb (originationNumber settings payload (length output)) 0 ne);
       writing-untouched = λ bytes output ne. writing-as-was bytes output ne;
-      node-untouched = λ settings lists received output ne. node-as-was settings lists received output ne;
-      step-untouched = λ settings lists batch cursor output ne. step-as-was settings lists batch cursor output ne;
+      node-untouched = λ node received output ne. node-as-was node received output ne;
+      step-untouched = λ node batch cursor output ne. step-as-was node batch cursor output ne;
     }
 
 again-same : (bytes output : List ℕ) (header : Header) → AllBytes bytes → readOf bytes ≡ Pdu header → pduLength header ≤ length output
@@ -95,20 +100,21 @@ again-same bytes output header small e fits =
 same-header : (a b : Header) → Pdu a ≡ Pdu b → a ≡ b
 same-header a b e = cc
 
-repeat-back : (settings : Settings) (lists : Lists) (room : ℕ) (received : List ℕ) (header : Header) → AllBytes received → readOf received ≡ Pdu header
-    → repeatNumber settings lists room received ≡ 0
-    → (readOf (repeated (settings .own) received) ≡ Pdu (repeatedHeader header))
-    × (pathIn (repeatedHeader header) (repeated (settings .own) received) ≡ pathIn header received ++ cond (header .«path_bit») (settings .own ∷ []) [])
-    × (payloadIn (repeatedHeader header) (repeated (settings .own) received) ≡ payloadIn header received)
-    × (length (repeated (settings .own) received) ≤ pduLimit)
-repeat-back settings lists room received header small e z =
-    let r = repeats settings lists room received z in
+repeat-back : (node : Node) (room : ℕ) (received : List ℕ) (header : Header) → AllBytes received → readOf received ≡ Pdu header
+    → repeatNumber node room received ≡ 0
+    → (readOf (repeated (node .settings .own) received) ≡ Pdu (repeatedHeader header))
+    × (pathIn (repeatedHeader header) (repeated (node .settings .own) received)
+    ≡ pathIn header received ++ cond (header .«path_bit») (node .settings .own ∷ []) [])
+    × (payloadIn (repeatedHeader header) (repeated (node .settings .own) received) ≡ payloadIn header received)
+    × (length (repeated (node .settings .own) received) ≤ pduLimit)
+repeat-back node room received header small e z =
+    let r = repeats node room received z in
     let same : r .header ≡ header = same-header (r .header) header (sym (r .read) ∙ e) in
-    let ok = ready settings received header e (ap (repeatFault settings) (sym same) ∙ r .repeats) in (
-      alone-reads received header small e ok (settings .own),
-      alone-path received header small e ok (settings .own),
-      alone-payload received header small e ok (settings .own),
-      repeat-short received header small e ok (settings .own),
+    let ok = ready (node .settings) received header e (ap (repeatFault (node .settings)) (sym same) ∙ r .repeats) in (
+      alone-reads received header small e ok (node .settings .own),
+      alone-path received header small e ok (node .settings .own),
+      alone-payload received header small e ok (node .settings .own),
+      repeat-short received header small e ok (node .settings .own),
     )
 
 pub exactly : Demand2
@@ -120,21 +126,28 @@ exactly =
           let back = fresh-back settings payload room e rest in
           (back .reads, back .no-path, back .carries);
       read-well-formed = λ bytes header small e. shown-well-formed bytes header small e;
-      repeat-reads-back = λ settings lists room received header small e z. repeat-back settings lists room received header small e z;
-      delivered-part = λ settings lists room received. delivered-part settings lists room received;
-      stepping-walks = λ settings lists room batch. walking.stepping-walks settings lists room batch;
+      repeat-reads-back = λ node room received header small e z. repeat-back node room received header small e z;
+      delivered-part = λ node room received. delivered-part node room received;
+      stepping-walks = λ node room batch. walking.stepping-walks node room batch;
     }
 
 pub bounded : Demand3
 bounded =
     record {
       bounded = λ nodes all settings payload room message receptions once. demand-3 nodes all settings payload room message receptions once;
-      bytes-bounded = λ nodes all settings payload room message receptions once. demand-3-bytes nodes all settings payload room message receptions once;
+      bytes-bounded =
+          λ nodes all settings payload room message receptions once. demand-3-bytes nodes all settings payload room message receptions once;
       reached = λ nodes all settings payload room message free roomy everyone fits receptions once complete. (
-        exact.reached nodes all settings payload room message free roomy (λ n m. exact.for-everyone (address n) (settings .destination) everyone) fits receptions once complete,
-        exact.reached-bytes nodes all settings payload room message free roomy (λ n m. exact.for-everyone (address n) (settings .destination) everyone) fits receptions once complete,
+        exact.reached nodes all settings payload room message free roomy
+            (λ n m. exact.for-everyone (address n) (settings .destination) everyone) fits receptions once complete,
+        exact.reached-bytes nodes all settings payload room message free roomy
+            (λ n m. exact.for-everyone (address n) (settings .destination) everyone) fits receptions once complete,
       );
       schedule = λ nodes all settings payload room message. demand.schedule nodes all settings payload room message;
-      sent-is-left = λ node received output sent long e. sent-written node received output long sent e;
-      silent-is-left = λ node received output long e. none-written node received output long e;
+      begun-bounded = λ nodes all first begins receptions once.
+          (demand.begun-bounded nodes all first begins receptions once, demand.begun-bytes nodes all first begins receptions once);
+      originated-begins = λ settings payload room message.
+          (originated-begins settings payload room message, fresh-hop settings payload room message);
+      sent-is-left = λ n received output sent long e. sent-written n received output long sent e;
+      silent-is-left = λ n received output long e. none-written n received output long e;
     }

@@ -4,17 +4,19 @@ use Rattle.pdu.specs.Header.{headerOf}
 use Rattle.pdu.specs.Reading.{readOf}
 use Rattle.octets.specs.Numbers.{_gives_, _orElse_}
 use Rattle.writing.specs.Writing.{headerBytes, pathBytes, encode}
-use Rattle.origin.specs.Origination.{freshHeader, fresh, originationNumber, originated}
+use Rattle.origin.specs.Origination.{freshHeader, fresh, settingsFault, originationNumber, originated}
 use Rattle.octets.specs.Octets.{over}
 use Rattle.pdu.specs.Parts.{addressesAt, inPath}
 use Rattle.lists.specs.Lists.{lowAboveHigh, faultOf, firstFault, holds}
-use Rattle.node.specs.Decision.{passFault, deliveryFault, repeatFault, listOrReadingFault, givenTwice, deliveryNumber, repeatNumber, delivered, taken}
+use Rattle.node.specs.Decision.{echoFault, passFault, dropFault, deliveryFault, repeatFault, listOrReadingFault, stopFault, deliveryNumber, repeatNumber, delivered, taken}
 use Rattle.node.specs.Repeat.{repeated}
 use Rattle.node.specs.Answers.{answerOf, outputAfter}
 use Rattle.audit.specs.Examples.{CheckedByHand}
 
 pub checked : CheckedByHand
-unfolding readOf headerOf originated originationNumber freshHeader fresh encode headerBytes pathBytes _gives_ _orElse_ over addressesAt inPath lowAboveHigh faultOf firstFault holds passFault deliveryFault repeatFault listOrReadingFault givenTwice deliveryNumber repeatNumber delivered taken repeated answerOf outputAfter
+unfolding readOf headerOf originated settingsFault originationNumber freshHeader fresh encode headerBytes pathBytes _gives_ _orElse_ over
+    addressesAt inPath lowAboveHigh faultOf firstFault holds echoFault passFault dropFault deliveryFault repeatFault listOrReadingFault
+    stopFault deliveryNumber repeatNumber delivered taken repeated answerOf outputAfter
 checked =
     record {
       p1 = (refl, refl);

@@ -34,16 +34,20 @@ use Rattle.pdu.proofs.destination_flag.Kinds as destination-flag-kinds
 pub header-limits : Promised 0 header-limits-kinds.ps header-limits-kinds.r header-limits-reads.Asked header-limits-reads.Post (λ κs x. x)
 header-limits = (λ κs a. tt, λ κs a x y s t p q. p ∙ sym q)
 
-pub header-path-entries : Promised 0 header-path-entries-kinds.ps header-path-entries-kinds.r header-path-entries-reads.Asked header-path-entries-reads.Post (λ κs x. x)
+pub header-path-entries : Promised 0 header-path-entries-kinds.ps header-path-entries-kinds.r header-path-entries-reads.Asked
+    header-path-entries-reads.Post (λ κs x. x)
 header-path-entries = (λ κs a. tt, λ κs a x y s t p q. p .0 ∙ sym (q .0))
 
-pub header-path-start : Promised 0 header-path-start-kinds.ps header-path-start-kinds.r header-path-start-reads.Asked header-path-start-reads.Post (λ κs x. x)
+pub header-path-start : Promised 0 header-path-start-kinds.ps header-path-start-kinds.r header-path-start-reads.Asked
+    header-path-start-reads.Post (λ κs x. x)
 header-path-start = (λ κs a. tt, λ κs a x y s t p q. p .0 ∙ sym (q .0))
 
-pub header-header-length : Promised 0 header-header-length-kinds.ps header-header-length-kinds.r header-header-length-reads.Asked header-header-length-reads.Post (λ κs x. x)
+pub header-header-length : Promised 0 header-header-length-kinds.ps header-header-length-kinds.r header-header-length-reads.Asked
+    header-header-length-reads.Post (λ κs x. x)
 header-header-length = (λ κs a. tt, λ κs a x y s t p q. p .0 ∙ sym (q .0))
 
-pub header-pdu-length : Promised 0 header-pdu-length-kinds.ps header-pdu-length-kinds.r header-pdu-length-reads.Asked header-pdu-length-reads.Post (λ κs x. x)
+pub header-pdu-length : Promised 0 header-pdu-length-kinds.ps header-pdu-length-kinds.r header-pdu-length-reads.Asked
+    header-pdu-length-reads.Post (λ κs x. x)
 header-pdu-length = (λ κs a. tt, λ κs a x y s t p q. p .0 ∙ sym (q .0))
 
 pub read : Promised 1 read-kinds.ps read-kinds.r read-reads.Asked read-reads.Post (λ κs x. x)
@@ -61,7 +65,8 @@ reading-number = (λ κs a. tt, λ κs a x y s t p q. p ∙ sym q)
 pub header-of : Promised 1 header-of-kinds.ps header-of-kinds.r header-of-reads.Asked header-of-reads.Post (λ κs x. x)
 header-of = (λ κs a. tt, λ κs a x y s t p q. p ∙ sym q)
 
-pub parts-path-address : Promised 1 parts-path-address-kinds.ps parts-path-address-kinds.r parts-path-address-reads.Asked parts-path-address-reads.Post (λ κs x. x)
+pub parts-path-address : Promised 1 parts-path-address-kinds.ps parts-path-address-kinds.r parts-path-address-reads.Asked
+    parts-path-address-reads.Post (λ κs x. x)
 parts-path-address = (λ κs a. tt, λ κs a x y s t p q. p ∙ sym q)
 
 pub parts-path-has : Promised 1 parts-path-has-kinds.ps parts-path-has-kinds.r parts-path-has-reads.Asked parts-path-has-reads.Post (λ κs x. x)
@@ -70,5 +75,6 @@ parts-path-has = (λ κs a. tt, λ κs a x y s t p q. p ∙ sym q)
 pub parts-payload : Promised 1 parts-payload-kinds.ps parts-payload-kinds.r parts-payload-reads.Asked parts-payload-reads.Post (λ κs x. slice x)
 parts-payload = (λ κs a. tt, λ κs a x y s t p q. one-part _ _ _ x y p q)
 
-pub destination-flag : Promised 0 destination-flag-kinds.ps destination-flag-kinds.r destination-flag-reads.Asked destination-flag-reads.Post (λ κs x. x)
+pub destination-flag : Promised 0 destination-flag-kinds.ps destination-flag-kinds.r destination-flag-reads.Asked
+    destination-flag-reads.Post (λ κs x. x)
 destination-flag = (λ κs a. tt, λ κs a x y s t p q. p .0 ∙ sym (q .0))

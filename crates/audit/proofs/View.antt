@@ -39,10 +39,12 @@ use Rattle.view.proofs.payload as payload-contract
 -- two facts give a third that follows from them
 both : {M : Type 1} (𝓤 : URA M) {φ ψ χ : Type 0} → (φ → ψ → χ) → ent 𝓤 (sep 𝓤 (fact 𝓤 φ) (fact 𝓤 ψ)) (fact 𝓤 χ)
 both 𝓤 {φ} {ψ} {χ} f =
-    fact-use 𝓤 φ (fst∗ 𝓤 (fact 𝓤 φ) (fact 𝓤 ψ)) (λ p. via 𝓤 (fact 𝓤 ψ) (snd∗ 𝓤 (fact 𝓤 φ) (fact 𝓤 ψ)) (fact-mono 𝓤 ψ χ (λ q. f p q)))
+    fact-use 𝓤 φ (fst∗ 𝓤 (fact 𝓤 φ) (fact 𝓤 ψ))
+    (λ p. via 𝓤 (fact 𝓤 ψ) (snd∗ 𝓤 (fact 𝓤 φ) (fact 𝓤 ψ)) (fact-mono 𝓤 ψ χ (λ q. f p q)))
 
 -- two views that have the same bytes and places
-same-view : {x y : Pdu} {bytes : RefT (List ℕ)} {places : Places} → (x .bytes ≡ bytes) × (x .at ≡ places) → (y .bytes ≡ bytes) × (y .at ≡ places) → x ≡ y
+same-view : {x y : Pdu} {bytes : RefT (List ℕ)} {places : Places} → (x .bytes ≡ bytes) × (x .at ≡ places)
+    → (y .bytes ≡ bytes) × (y .at ≡ places) → x ≡ y
 same-view p q = λ i. record { bytes = (p .0 ∙ sym (q .0)) i; at = (p .1 ∙ sym (q .1)) i }
 
 pub find-places : Promised 1 find-places-kinds.ps find-places-kinds.r find-places-reads.Asked find-places-reads.Post (λ κs x. x)

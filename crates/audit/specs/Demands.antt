@@ -6,7 +6,7 @@ use mathlib.Core.Logic.{_⊎_}
 use mathlib.Core.Option.{none, some}
 use mathlib.Core.Path.{_≡_}
 use lib.ListN.{length, take, drop}
-use Rattle.octets.specs.Octets.{at, over}
+use Rattle.octets.specs.Octets.{AllBytes, over}
 use Rattle.pdu.specs.declared.Destination.the-variants.{Everyone}
 use Rattle.pdu.specs.declared.Header.{Header}
 use Rattle.pdu.specs.declared.Reading.the-variants.{Pdu}
@@ -16,9 +16,8 @@ use Rattle.pdu.specs.Parts.{pathIn, payloadIn}
 use Rattle.writing.specs.Writing.{encode, writeAgain, writtenAgain, WellFormed}
 use Rattle.origin.specs.declared.Settings as asked
 use Rattle.origin.specs.Origination.{freshHeader, fresh, originationNumber, originated, originatedOutput}
-use Rattle.node.specs.declared.Settings.{Settings}
 use Rattle.node.specs.declared.Answer.{Answer}
-use Rattle.node.specs.Decision.{Lists, repeatNumber, delivered}
+use Rattle.node.specs.Decision.{Node, repeatNumber, delivered}
 use Rattle.node.specs.Repeat.{repeatedHeader, repeated}
 use Rattle.node.specs.Answers.{answerOf, outputAfter}
 use Rattle.batch.specs.declared.Cursor.{Cursor}
@@ -27,14 +26,10 @@ use Rattle.batch.specs.Walk.{stepOf, stepOutput, walk, steps}
 use Rattle.bound.specs.Bound.{terms, bound, bytesBound}
 use Rattle.flood.specs.Flood.{Reception, Bounded}
 use Rattle.flood.specs.Complete.{Complete}
-use Rattle.flood.specs.Air.{Node, Nodes, Open, Originated, address, sends, pathOf, onTheAir, bytesOnTheAir}
+use Rattle.flood.specs.Air.{Repeater, Nodes, Open, Originated, address, sends, pathOf, onTheAir, bytesOnTheAir, Begins, hopOf}
 
--- numbers that are bytes
-abbrev pub AllBytes : List ℕ → Type 0
-AllBytes bytes = (i : ℕ) → at bytes i < 256
-
--- Demand 1, total. That every public function answers any input, and how, are its contract and this crate's `Promised` theorems, one for each
--- function, in the files named by the crates. Here: a hop setting above 7 is refused, whatever else is set, with nothing written.
+-- Demand 1, total. That every public function answers any input, and how, are its contract and this crate's theorems by
+-- the forms of Promise.antt, one for each function, in the files named by the crates. Here: a hop setting above 7 is refused, whatever else is set, with nothing written.
 pub record Demand1 : Type 0 where
   pub hop-refused : (settings : asked.Settings) (payload output : List ℕ) → 7 < settings .«hop_limit»
       → (originated settings payload (length output) ≡ record { number = 10; length = 0 }) × (originatedOutput settings payload output ≡ output)
@@ -42,11 +37,11 @@ pub record Demand1 : Type 0 where
   pub origination-untouched : (settings : asked.Settings) (payload output : List ℕ) → (originationNumber settings payload (length output) ≡ 0 → ⊥)
       → originatedOutput settings payload output ≡ output
   pub writing-untouched : (bytes output : List ℕ) → (writeAgain bytes (length output) .number ≡ 0 → ⊥) → writtenAgain bytes output ≡ output
-  pub node-untouched : (settings : Settings) (lists : Lists) (received output : List ℕ) → (repeatNumber settings lists (length output) received ≡ 0 → ⊥)
-      → outputAfter settings lists received output ≡ output
-  pub step-untouched : (settings : Settings) (lists : Lists) (batch : List ℕ) (cursor : Cursor) (output : List ℕ)
-      → ((answer : Answer) (next : Cursor) → stepOf settings lists (length output) batch cursor ≡ Answered answer next → answer .repeat ≡ 0 → ⊥)
-      → stepOutput settings lists batch cursor output ≡ output
+  pub node-untouched : (node : Node) (received output : List ℕ) → (repeatNumber node (length output) received ≡ 0 → ⊥)
+      → outputAfter node received output ≡ output
+  pub step-untouched : (node : Node) (batch : List ℕ) (cursor : Cursor) (output : List ℕ)
+      → ((answer : Answer) (next : Cursor) → stepOf node (length output) batch cursor ≡ Answered answer next → answer .repeat ≡ 0 → ⊥)
+      → stepOutput node batch cursor output ≡ output
 
 -- Demand 2, exact. The contracts say that reading, writing and the node's decision are the definitions; these say that the definitions fit together.
 pub record Demand2 : Type 0 where
@@ -68,45 +63,53 @@ pub record Demand2 : Type 0 where
       → WellFormed header (pathIn header bytes) (payloadIn header bytes)
   -- a repeat reads back as the received header with hop limit, count and path changed as said, the own address after the last path entry, and the
   -- same payload; it is never longer than a PDU may be
-  pub repeat-reads-back : (settings : Settings) (lists : Lists) (room : ℕ) (received : List ℕ) (header : Header) → AllBytes received
-      → readOf received ≡ Pdu header → repeatNumber settings lists room received ≡ 0
-      → (readOf (repeated (settings .own) received) ≡ Pdu (repeatedHeader header))
-      × (pathIn (repeatedHeader header) (repeated (settings .own) received) ≡ pathIn header received ++ cond (header .«path_bit») (settings .own ∷ []) [])
-      × (payloadIn (repeatedHeader header) (repeated (settings .own) received) ≡ payloadIn header received)
-      × (length (repeated (settings .own) received) ≤ pduLimit)
+  pub repeat-reads-back : (node : Node) (room : ℕ) (received : List ℕ) (header : Header) → AllBytes received
+      → readOf received ≡ Pdu header → repeatNumber node room received ≡ 0
+      → (readOf (repeated (node .settings .own) received) ≡ Pdu (repeatedHeader header))
+      × (pathIn (repeatedHeader header) (repeated (node .settings .own) received)
+      ≡ pathIn header received ++ cond (header .«path_bit») (node .settings .own ∷ []) [])
+      × (payloadIn (repeatedHeader header) (repeated (node .settings .own) received) ≡ payloadIn header received)
+      × (length (repeated (node .settings .own) received) ≤ pduLimit)
   -- the delivered payload is the part of the received bytes that the node's answer names
-  pub delivered-part : (settings : Settings) (lists : Lists) (room : ℕ) (received : List ℕ)
-      → take (answerOf settings lists room received .«delivered_length») (drop (answerOf settings lists room received .«delivered_place») received)
-      ≡ delivered settings lists room received
+  pub delivered-part : (node : Node) (room : ℕ) (received : List ℕ)
+      → take (answerOf node room received .«delivered_length») (drop (answerOf node room received .«delivered_place») received)
+      ≡ delivered node room received
   -- stepping over a batch gives exactly its walk
-  pub stepping-walks : (settings : Settings) (lists : Lists) (room : ℕ) (batch : List ℕ)
-      → steps settings lists room batch (length batch) (record { place = 0; ended = false }) ≡ walk settings lists room batch
+  pub stepping-walks : (node : Node) (room : ℕ) (batch : List ℕ)
+      → steps node room batch (length batch) (record { place = 0; ended = false }) ≡ walk node room batch
 
 -- Demand 3, bounded, over demand 2's rules: any nodes of different addresses with echo on, whatever their lists, settings and room; any message that
 -- origination wrote with a path; any receptions of transmissions already made, none twice.
 pub record Demand3 : Type 0 where
-  pub bounded : (nodes : List Node) → Nodes nodes → (settings : asked.Settings) (payload : List ℕ) (room : ℕ) → Originated settings payload room
+  pub bounded : (nodes : List Repeater) → Nodes nodes → (settings : asked.Settings) (payload : List ℕ) (room : ℕ) → Originated settings payload room
       → (receptions : List Reception) → List·Nodup receptions
       → Bounded address pathOf nodes (settings .«hop_limit») (onTheAir nodes (fresh settings payload) receptions)
   -- the bytes on the air
-  pub bytes-bounded : (nodes : List Node) → Nodes nodes → (settings : asked.Settings) (payload : List ℕ) (room : ℕ) → Originated settings payload room
+  pub bytes-bounded : (nodes : List Repeater) → Nodes nodes → (settings : asked.Settings) (payload : List ℕ) (room : ℕ)
+      → Originated settings payload room
       → (receptions : List Reception) → List·Nodup receptions
       → bytesOnTheAir nodes (fresh settings payload) receptions ≤ bytesBound (length nodes) (settings .«hop_limit») (length (fresh settings payload))
   -- both are exact where every node repeats what it may, has room, hears every transmission, and the message is for everyone
-  pub reached : (nodes : List Node) → Nodes nodes → (settings : asked.Settings) (payload : List ℕ) (room : ℕ) → Originated settings payload room
-      → ((n : Node) → List·Memᴰ n nodes → Open n)
-      → ((n : Node) → List·Memᴰ n nodes → length (fresh settings payload) + 2 * terms (length nodes) (settings .«hop_limit») ≤ n .room)
+  pub reached : (nodes : List Repeater) → Nodes nodes → (settings : asked.Settings) (payload : List ℕ) (room : ℕ) → Originated settings payload room
+      → ((n : Repeater) → List·Memᴰ n nodes → Open (n .node))
+      → ((n : Repeater) → List·Memᴰ n nodes → length (fresh settings payload) + 2 * terms (length nodes) (settings .«hop_limit») ≤ n .room)
       → settings .destination ≡ Everyone → (length nodes ≤ pathLimit) ⊎ (settings .«hop_limit» < 7)
       → (receptions : List Reception) → List·Nodup receptions → Complete sends nodes (fresh settings payload ∷ []) receptions
       → (length (onTheAir nodes (fresh settings payload) receptions) ≡ bound (length nodes) (settings .«hop_limit»))
-      × (bytesOnTheAir nodes (fresh settings payload) receptions ≡ bytesBound (length nodes) (settings .«hop_limit») (length (fresh settings payload)))
+      × (bytesOnTheAir nodes (fresh settings payload) receptions
+      ≡ bytesBound (length nodes) (settings .«hop_limit») (length (fresh settings payload)))
   -- and such receptions exist
-  pub schedule : (nodes : List Node) → Nodes nodes → (settings : asked.Settings) (payload : List ℕ) (room : ℕ) → Originated settings payload room
+  pub schedule : (nodes : List Repeater) → Nodes nodes → (settings : asked.Settings) (payload : List ℕ) (room : ℕ)
+      → Originated settings payload room
       → (receptions : List Reception) × List·Nodup receptions × Complete sends nodes (fresh settings payload ∷ []) receptions
+  -- and of whatever else begins a flood, as an originated message does
+  pub begun-bounded : (nodes : List Repeater) → Nodes nodes → (first : List ℕ) → Begins first → (receptions : List Reception) → List·Nodup receptions
+      → Bounded address pathOf nodes (hopOf first) (onTheAir nodes first receptions)
+      × (bytesOnTheAir nodes first receptions ≤ bytesBound (length nodes) (hopOf first) (length first))
+  pub originated-begins : (settings : asked.Settings) (payload : List ℕ) (room : ℕ) → Originated settings payload room
+      → Begins (fresh settings payload) × (hopOf (fresh settings payload) ≡ settings .«hop_limit»)
   -- what a node of the model sends is what `hear` leaves at the start of its output; where it sends nothing, `hear` repeats nothing
-  pub sent-is-left : (node : Node) (received output sent : List ℕ) → length output ≡ node .room → sends node received ≡ some sent
-      → take (answerOf (node .settings) (node .lists) (length output) received .«repeated_length») (outputAfter (node .settings) (node .lists) received output)
-      ≡ sent
-  pub silent-is-left : (node : Node) (received output : List ℕ) → length output ≡ node .room → sends node received ≡ none
-      → (answerOf (node .settings) (node .lists) (length output) received .«repeated_length» ≡ 0)
-      × (outputAfter (node .settings) (node .lists) received output ≡ output)
+  pub sent-is-left : (n : Repeater) (received output sent : List ℕ) → length output ≡ n .room → sends n received ≡ some sent
+      → take (answerOf (n .node) (length output) received .«repeated_length») (outputAfter (n .node) received output) ≡ sent
+  pub silent-is-left : (n : Repeater) (received output : List ℕ) → length output ≡ n .room → sends n received ≡ none
+      → (answerOf (n .node) (length output) received .«repeated_length» ≡ 0) × (outputAfter (n .node) received output ≡ output)

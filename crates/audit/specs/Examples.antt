@@ -10,17 +10,18 @@ use Rattle.pdu.specs.declared.Reading.the-variants.{Pdu, Refused}
 use Rattle.pdu.specs.Reading.{readOf, refusalNumber}
 use Rattle.pdu.specs.Parts.{payloadIn}
 use Rattle.pdu.specs.Header.{headerOf}
-use Rattle.node.specs.declared.Settings.{Settings}
+use Rattle.lists.specs.Lists.{listsOf}
 use Rattle.node.specs.declared.Answer.{Answer}
-use Rattle.node.specs.Decision.{Lists, listsOf, delivered}
-use Rattle.node.specs.Answers.{answerOf, outputAfter}
+use Rattle.node.specs.Decision.{Node, delivered}
+use Rattle.node.specs.Answers.{answerOf, twice, outputAfter}
 use Rattle.origin.specs.declared.Settings as asked
 use Rattle.origin.specs.Origination.{fresh, originated}
 
 -- the example of document 002
 abbrev pub example : List ℕ
 example =
-    0x03 ∷ 0x00 ∷ 0x10 ∷ 0x0B ∷ 0x03 ∷ 0xE8 ∷ 0x06 ∷ 0x40 ∷ 0x00 ∷ 0x70 ∷ 0x01 ∷ 0x08 ∷ 0x12 ∷ 0x12 ∷ 0x03 ∷ 0x24 ∷ 0x13 ∷ 0x22 ∷ 0x02 ∷ 0x76 ∷ []
+    0x03 ∷ 0x00 ∷ 0x10 ∷ 0x0B ∷ 0x03 ∷ 0xE8 ∷ 0x06 ∷ 0x40 ∷ 0x00 ∷ 0x70 ∷ 0x01 ∷ 0x08 ∷ 0x12 ∷ 0x12 ∷ 0x03 ∷ 0x24 ∷ 0x13
+    ∷ 0x22 ∷ 0x02 ∷ 0x76 ∷ []
 
 -- settings that ask for a hop limit, and nothing else out of the way: source 5, port 0, best efforts to everyone, no path, no time stamp
 abbrev pub asking : ℕ → asked.Settings
@@ -36,39 +37,36 @@ asking hop =
       «pdu_id» = 0;
     }
 
--- a node of that address, echo on or off, repeating, all lists off and empty
-abbrev pub nodeAt : ℕ → Bool → Settings
-nodeAt own echo =
+-- a node of that address, echo on or off, repeating, its source pass list on or off, all other lists off, and all of them empty
+abbrev pub nodeAt : ℕ → Bool → Bool → Node
+nodeAt own echo pass =
     record {
-      own = own;
-      echo = echo;
-      repeating = true;
-      «source_pass» = false;
-      «source_reject» = false;
-      «destination_pass» = false;
-      «destination_reject» = false;
+      settings = record {
+        own = own;
+        echo = echo;
+        repeating = true;
+        «source_pass» = pass;
+        «source_reject» = false;
+        «destination_pass» = false;
+        «destination_reject» = false;
+      };
+      lists = listsOf [] [] [] [];
     }
-
-abbrev pub noLists : Lists
-noLists = listsOf [] [] [] []
 
 -- the example repeated by node 2000, as document 01 prints it
 abbrev pub exampleRepeated : List ℕ
 exampleRepeated =
-    0x03 ∷ 0x00 ∷ 0x00 ∷ 0x0B ∷ 0x03 ∷ 0xE8 ∷ 0x06 ∷ 0x40 ∷ 0x01 ∷ 0x07 ∷ 0xD0 ∷ 0x70 ∷ 0x01 ∷ 0x08 ∷ 0x12 ∷ 0x12 ∷ 0x03 ∷ 0x24 ∷ 0x13 ∷ 0x22
+    0x03 ∷ 0x00 ∷ 0x00 ∷ 0x0B ∷ 0x03 ∷ 0xE8 ∷ 0x06 ∷ 0x40 ∷ 0x01 ∷ 0x07 ∷ 0xD0 ∷ 0x70 ∷ 0x01 ∷ 0x08 ∷ 0x12 ∷ 0x12 ∷ 0x03
+    ∷ 0x24 ∷ 0x13 ∷ 0x22
     ∷ 0x02 ∷ 0x76 ∷ []
 
 -- an output of 30 bytes
 abbrev pub blank : List ℕ
 blank = replicate 30 0xFF
 
--- what a node leaves in it
-abbrev pub answers : Settings → List ℕ → Answer
-answers settings received = answerOf settings noLists (length blank) received
-
--- one number twice, with nothing delivered and nothing repeated, for a PDU of so many bytes
-abbrev pub twice : ℕ → ℕ → Answer
-twice n bytes = record { delivery = n; repeat = n; «delivered_place» = 0; «delivered_length» = 0; «repeated_length» = 0; taken = bytes }
+-- what a node answers that has it
+abbrev pub answers : Node → List ℕ → Answer
+answers node received = answerOf node (length blank) received
 
 pub record CheckedByHand : Type 0 where
   -- 5 bytes of zero: 1
@@ -125,37 +123,30 @@ pub record CheckedByHand : Type 0 where
   pub example-payload : payloadIn (headerOf example) example
       ≡ 0x70 ∷ 0x01 ∷ 0x08 ∷ 0x12 ∷ 0x12 ∷ 0x03 ∷ 0x24 ∷ 0x13 ∷ 0x22 ∷ 0x02 ∷ 0x76 ∷ []
   -- the example at node 2000: 39 and 0, nothing delivered, repeated as printed, and the output past the repeat kept
-  pub p8 : answers (nodeAt 2000 true) example
+  pub p8 : answers (nodeAt 2000 true false) example
       ≡ record { delivery = 39; repeat = 0; «delivered_place» = 0; «delivered_length» = 0; «repeated_length» = 22; taken = 20 }
-  pub p8-output : outputAfter (nodeAt 2000 true) noLists example blank ≡ exampleRepeated ++ replicate 8 0xFF
+  pub p8-output : outputAfter (nodeAt 2000 true false) example blank ≡ exampleRepeated ++ replicate 8 0xFF
   -- the same at node 1600: 0 and 41, the payload delivered, the output as it was
-  pub p9 : answers (nodeAt 1600 true) example
+  pub p9 : answers (nodeAt 1600 true false) example
       ≡ record { delivery = 0; repeat = 41; «delivered_place» = 9; «delivered_length» = 11; «repeated_length» = 0; taken = 20 }
-  pub p9-delivered : delivered (nodeAt 1600 true) noLists (length blank) example
+  pub p9-delivered : delivered (nodeAt 1600 true false) (length blank) example
       ≡ 0x70 ∷ 0x01 ∷ 0x08 ∷ 0x12 ∷ 0x12 ∷ 0x03 ∷ 0x24 ∷ 0x13 ∷ 0x22 ∷ 0x02 ∷ 0x76 ∷ []
-  pub p9-output : outputAfter (nodeAt 1600 true) noLists example blank ≡ blank
+  pub p9-output : outputAfter (nodeAt 1600 true false) example blank ≡ blank
   -- P8's output at node 2000, echo on: 30 twice, although its hop limit is 0
-  pub p10 : answers (nodeAt 2000 true) exampleRepeated ≡ twice 30 22
-  pub p10-output : outputAfter (nodeAt 2000 true) noLists exampleRepeated blank ≡ blank
+  pub p10 : answers (nodeAt 2000 true false) exampleRepeated ≡ twice 30 22
+  pub p10-output : outputAfter (nodeAt 2000 true false) exampleRepeated blank ≡ blank
   -- the same, echo off: 39 and 37
-  pub p11 : answers (nodeAt 2000 false) exampleRepeated
+  pub p11 : answers (nodeAt 2000 false false) exampleRepeated
       ≡ record { delivery = 39; repeat = 37; «delivered_place» = 0; «delivered_length» = 0; «repeated_length» = 0; taken = 22 }
-  pub p11-output : outputAfter (nodeAt 2000 false) noLists exampleRepeated blank ≡ blank
+  pub p11-output : outputAfter (nodeAt 2000 false false) exampleRepeated blank ≡ blank
   -- hop 7, otherwise the example: repeated with 7
-  pub p12 : answers (nodeAt 2000 true) (set example 2 0x70) ≡ answers (nodeAt 2000 true) example
-  pub p12-output : outputAfter (nodeAt 2000 true) noLists (set example 2 0x70) blank ≡ set exampleRepeated 2 0x70 ++ replicate 8 0xFF
+  pub p12 : answers (nodeAt 2000 true false) (set example 2 0x70) ≡ answers (nodeAt 2000 true false) example
+  pub p12-output : outputAfter (nodeAt 2000 true false) (set example 2 0x70) blank ≡ set exampleRepeated 2 0x70 ++ replicate 8 0xFF
   -- hop setting 15 refused with 10; so are 263 and 2^32 + 7, which a narrower number would have taken for 7; 7 taken, and on the air as 7
   pub p13-refused : originated (asking 15) [] 100 ≡ record { number = 10; length = 0 }
-  pub p13-not-trimmed : (originated (asking 263) [] 100 ≡ record { number = 10; length = 0 }) × (originated (asking 4294967303) [] 100 ≡ record { number = 10; length = 0 })
+  pub p13-not-trimmed : (originated (asking 263) [] 100 ≡ record { number = 10; length = 0 })
+      × (originated (asking 4294967303) [] 100 ≡ record { number = 10; length = 0 })
   pub p13-taken : originated (asking 7) [] 100 ≡ record { number = 0; length = 6 }
   pub p13-written : fresh (asking 7) [] ≡ 0x00 ∷ 0x00 ∷ 0x70 ∷ 0x00 ∷ 0x00 ∷ 0x05 ∷ []
   -- a source pass list on and empty: 31
-  pub p14 : answers (record {
-    own = 2000;
-    echo = true;
-    repeating = true;
-    «source_pass» = true;
-    «source_reject» = false;
-    «destination_pass» = false;
-    «destination_reject» = false;
-  }) example ≡ twice 31 20
+  pub p14 : answers (nodeAt 2000 true true) example ≡ twice 31 20

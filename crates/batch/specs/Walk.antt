@@ -2,18 +2,21 @@
 use Prim.Native.Nat.{ℕ, zero, suc, _+_}
 use mathlib.Core.Bool.{Bool, not, cond, _||_}
 use mathlib.Core.List.{List, [], _∷_}
+use mathlib.Core.Path.{_≡_}
 use lib.Dec.{eqb, ltb, leb}
 use lib.ListN.{length, drop}
-use Rattle.pdu.specs.Sizes.{batchLimit}
-use Rattle.node.specs.declared.Settings.{Settings}
 use Rattle.node.specs.declared.Answer.{Answer}
-use Rattle.node.specs.Decision.{Lists, listOrReadingFault, taken}
+use Rattle.node.specs.Decision.{Node, listOrReadingFault, taken}
 use Rattle.node.specs.Answers.{answerOf, outputAfter}
 use Rattle.batch.specs.declared.Cursor.{Cursor}
 use Rattle.batch.specs.declared.Numbers.{Numbers}
 use Rattle.batch.specs.declared.Numbers.the-variants.{Two, Alone, NoAnswer}
 use Rattle.batch.specs.declared.Stepped.{Stepped}
 use Rattle.batch.specs.declared.Stepped.the-variants.{TooLong, Ended, Answered}
+
+-- a batch is 0 to 16,384 bytes ("Sizes")
+abbrev pub batchLimit : ℕ
+batchLimit = 16384
 
 -- a batch over the size limit is answered 54 alone
 abbrev pub isTooLong : List ℕ → Bool
@@ -24,21 +27,26 @@ abbrev pub isDone : List ℕ → Cursor → Bool
 isDone batch cursor = cursor .ended || leb (length batch) (cursor .place)
 
 -- where the next PDU starts: the byte after the last one's payload; at 1 to 6 or a list fault the walk ends
-abbrev pub nextCursor : Lists → List ℕ → ℕ → Cursor
-nextCursor lists batch place =
-    record { place = place + taken lists (drop place batch); ended = not (eqb (listOrReadingFault lists (drop place batch)) 0) }
+abbrev pub nextCursor : Node → List ℕ → ℕ → Cursor
+nextCursor node batch place =
+    record { place = place + taken node (drop place batch); ended = not (eqb (listOrReadingFault node (drop place batch)) 0) }
 
 -- one step of the walk
-unfoldable pub stepOf : Settings → Lists → ℕ → List ℕ → Cursor → Stepped
-stepOf settings lists room batch cursor =
+unfoldable pub stepOf : Node → ℕ → List ℕ → Cursor → Stepped
+stepOf node room batch cursor =
     cond (isTooLong batch) TooLong
     (cond (isDone batch cursor) Ended
-    (Answered (answerOf settings lists room (drop (cursor .place) batch)) (nextCursor lists batch (cursor .place))))
+    (Answered (answerOf node room (drop (cursor .place) batch)) (nextCursor node batch (cursor .place))))
 
 -- what the step leaves in the output: what the node leaves there
-unfoldable pub stepOutput : Settings → Lists → List ℕ → Cursor → List ℕ → List ℕ
-stepOutput settings lists batch cursor output =
-    cond (isTooLong batch || isDone batch cursor) output (outputAfter settings lists (drop (cursor .place) batch) output)
+unfoldable pub stepOutput : Node → List ℕ → Cursor → List ℕ → List ℕ
+stepOutput node batch cursor output =
+    cond (isTooLong batch || isDone batch cursor) output (outputAfter node (drop (cursor .place) batch) output)
+
+-- what a step answers and leaves in the output
+abbrev pub Steps : Node → List ℕ → Cursor → List ℕ → Stepped → List ℕ → Type 0
+Steps node batch cursor output stepped left =
+    (stepped ≡ stepOf node (length output) batch cursor) × (left ≡ stepOutput node batch cursor output)
 
 -- the numbers of each outcome: the PDU's two; 54 alone for a batch that is too long; no answer, and so no number, where the walk ends
 abbrev pub numbersOf : Stepped → Numbers
@@ -63,18 +71,18 @@ before offset answer walk =
     record { number = walk .number; offsets = offset ∷ walk .offsets; answers = answer ∷ walk .answers; end = walk .end }
 
 -- the walk from an offset on, for at most so many PDUs
-unfoldable pub walkFrom : ℕ → Settings → Lists → ℕ → List ℕ → ℕ → Walk
-walkFrom zero settings lists room batch offset = endingAt 0 offset
-walkFrom (suc turns) settings lists room batch offset =
+unfoldable pub walkFrom : ℕ → Node → ℕ → List ℕ → ℕ → Walk
+walkFrom zero node room batch offset = endingAt 0 offset
+walkFrom (suc turns) node room batch offset =
     cond (leb (length batch) offset) (endingAt 0 offset)
-    (before offset (answerOf settings lists room (drop offset batch))
-    (cond (eqb (listOrReadingFault lists (drop offset batch)) 0)
-    (walkFrom turns settings lists room batch (offset + taken lists (drop offset batch)))
+    (before offset (answerOf node room (drop offset batch))
+    (cond (eqb (listOrReadingFault node (drop offset batch)) 0)
+    (walkFrom turns node room batch (offset + taken node (drop offset batch)))
     (endingAt 0 offset)))
 
--- the walk of a batch; a PDU takes at least 6 bytes, so there are fewer of them than bytes
-unfoldable pub walk : Settings → Lists → ℕ → List ℕ → Walk
-walk settings lists room batch = cond (isTooLong batch) (endingAt 54 0) (walkFrom (length batch) settings lists room batch 0)
+-- the walk of a batch; a PDU takes at least 6 bytes, so there are no more answers than bytes
+unfoldable pub walk : Node → ℕ → List ℕ → Walk
+walk node room batch = cond (isTooLong batch) (endingAt 54 0) (walkFrom (length batch) node room batch 0)
 
 -- a walk from one step's answer on: the rest of it is what the next cursor gives
 abbrev pub continued : Stepped → ℕ → (Cursor → Walk) → Walk
@@ -83,7 +91,7 @@ continued Ended offset later = endingAt 0 offset
 continued (Answered answer next) offset later = before offset answer (later next)
 
 -- what so many steps from a cursor on give
-unfoldable pub steps : Settings → Lists → ℕ → List ℕ → ℕ → Cursor → Walk
-steps settings lists room batch zero cursor = endingAt 0 (cursor .place)
-steps settings lists room batch (suc turns) cursor =
-    continued (stepOf settings lists room batch cursor) (cursor .place) (λ next. steps settings lists room batch turns next)
+unfoldable pub steps : Node → ℕ → List ℕ → ℕ → Cursor → Walk
+steps node room batch zero cursor = endingAt 0 (cursor .place)
+steps node room batch (suc turns) cursor =
+    continued (stepOf node room batch cursor) (cursor .place) (λ next. steps node room batch turns next)

@@ -1,13 +1,14 @@
 // The walk over a batch of PDUs that lie back to back.
 ghost use mathlib.Core.Path.{_≡_};
 ghost use mathlib.Core.Bool.{false};
-ghost use lib.ListN.{length};
-ghost use Rattle.node.specs.Decision.{listsOf};
-ghost use Rattle.batch.specs.Walk.{stepOf, stepOutput, numbersOf};
+ghost use Rattle.lists.specs.Lists.{listsOf};
+ghost use Rattle.node.specs.Decision.{nodeOf};
+ghost use Rattle.batch.specs.Walk.{Steps, numbersOf};
 use node::Answer;
 use node::Settings;
 
 // Where a walk has come to. It begins at `Cursor::start()`.
+#[repr(C)]
 pub struct Cursor {
     pub place: usize,
     pub ended: bool,
@@ -56,7 +57,9 @@ pub fn step<'a>(
     cursor: Cursor,
     output: &mut [u8],
 ) -> Stepped
-    ensures { λ r. ⌜ (r ≡ stepOf settings (listsOf (now («source_pass» .entry)) (now («source_reject» .entry)) (now («destination_pass» .entry)) (now («destination_reject» .entry))) (length (now (output .entry))) (now (batch .entry)) cursor) × (now (output .exit) ≡ stepOutput settings (listsOf (now («source_pass» .entry)) (now («source_reject» .entry)) (now («destination_pass» .entry)) (now («destination_reject» .entry))) (now (batch .entry)) cursor (now (output .entry))) ⌝ }
+    ensures { λ r. ⌜ Steps (nodeOf settings (listsOf (now («source_pass» .entry)) (now («source_reject» .entry))
+        (now («destination_pass» .entry)) (now («destination_reject» .entry))))
+        (now (batch .entry)) cursor (now (output .entry)) r (now (output .exit)) ⌝ }
 {
     let place = cursor.place;
     if Cursor::BATCH_LIMIT < batch.len() {

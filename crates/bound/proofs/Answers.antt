@@ -78,7 +78,8 @@ module _ {size growth n k total paths grown : ℕ} (a : Added size growth n k to
         → TooLarge ≡ fitting (series (λ j. size + growth * j) n m)
     total-past p q e h = sym (fitting-large _ (omega (arith, rw (sym p, sym q, sym e) at (reached m more))))
 
-    pub term-past : {x y : ℕ} → x ≡ paths * (n - k) → y ≡ grown + growth → 2 ^ 64 ≤ x * y → TooLarge ≡ fitting (series (λ j. size + growth * j) n m)
+    pub term-past : {x y : ℕ} → x ≡ paths * (n - k) → y ≡ grown + growth → 2 ^ 64 ≤ x * y
+        → TooLarge ≡ fitting (series (λ j. size + growth * j) n m)
     term-past p q h = total-past p q refl (omega arith)
 
     pub paths-past : 0 < size + growth → 2 ^ 64 ≤ paths * (n - k) → TooLarge ≡ fitting (series (λ j. size + growth * j) n m)

@@ -40,7 +40,8 @@ module _ {A B : Type 0} where
         total-flatMap f weight c xs (λ a m. each a (List·Memᴰ·tail m)),
       )
 
-module _ {A B K : Type 0} (f : A → List B) (key : A → K) (told : (a b : A) (x : B) → List·Memᴰ x (f a) → List·Memᴰ x (f b) → key a ≡ key b) where
+module _ {A B K : Type 0} (f : A → List B) (key : A → K)
+    (told : (a b : A) (x : B) → List·Memᴰ x (f a) → List·Memᴰ x (f b) → key a ≡ key b) where
   nodup-flatMap : (l : List A) → List·Nodup (map key l) → ((a : A) → List·Memᴰ a l → List·Nodup (f a)) → List·Nodup (flatMap f l)
   unfolding flatMap
   nodup-flatMap [] d each = nodup-nil
@@ -81,7 +82,8 @@ module _ {A : Type 0} where
   entries [] = refl
   entries (x ∷ xs) = ap (λ (r : List A). x ∷ r) (same (selects xs) ∙ entries xs)
     where
-      same : (r : List (A × List A)) → map (λ (s : A × List A). s .0) (map (λ (s : A × List A). (s .0, x ∷ s .1)) r) ≡ map (λ (s : A × List A). s .0) r
+      same : (r : List (A × List A))
+          → map (λ (s : A × List A). s .0) (map (λ (s : A × List A). (s .0, x ∷ s .1)) r) ≡ map (λ (s : A × List A). s .0) r
       same [] = refl
       same (s ∷ r) = ap (λ (q : List A). s .0 ∷ q) (same r)
 
@@ -123,7 +125,8 @@ module _ {A : Type 0} where
   abbrev behind : ℕ → A × List A → List (List A)
   behind m s = map (λ (p : List A). s .0 ∷ p) (arrangements m (s .1))
 
-  pub arranged : (m : ℕ) (p l : List A) → List·Nodup p → ((a : A) → List·Memᴰ a p → List·Memᴰ a l) → length p ≤ m → List·Memᴰ p (arrangements m l)
+  pub arranged : (m : ℕ) (p l : List A) → List·Nodup p → ((a : A) → List·Memᴰ a p → List·Memᴰ a l) → length p ≤ m
+      → List·Memᴰ p (arrangements m l)
   unfolding arrangements flatMap
   arranged zero [] l d inside fits = List·Memᴰ·head refl
   arranged zero (a ∷ p) l d inside fits = absurd (omega arith)
@@ -144,7 +147,8 @@ module _ {A : Type 0} where
       λ s k. total-map (λ (p : List A). s .0 ∷ p) (λ p. weight (length p)) (arrangements m (s .1))
       ∙ total-arrangements (λ j. weight (suc j)) m (s .1)
       ∙ ap (λ (n : ℕ). series (λ j. weight (suc j)) n m) (omega (arith, length-selected l s k)) in
-      ap (λ (n : ℕ). weight 0 + n) (total-flatMap (behind m) (λ p. weight (length p)) below (selects l) each ∙ ap (λ (n : ℕ). n * below) (length-selects l))
+      ap (λ (n : ℕ). weight 0 + n)
+      (total-flatMap (behind m) (λ p. weight (length p)) below (selects l) each ∙ ap (λ (n : ℕ). n * below) (length-selects l))
       ∙ sym (series-front weight (length l) m)
 
   -- an arrangement is empty, or an entry before an arrangement of the others

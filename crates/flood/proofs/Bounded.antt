@@ -68,7 +68,8 @@ module _ {Node Message : Type 0} (repeats : Node → Message → Option Message)
 
     -- the transmissions add up to no more than the series, by any weight that goes by the path's length
     pub flood-weighed : (weight : ℕ → ℕ)
-        → total (λ t. weight (length (path t))) (flood repeats nodes (first ∷ []) receptions) ≤ series weight (length nodes) (terms (length nodes) (hop first))
+        → total (λ t. weight (length (path t))) (flood repeats nodes (first ∷ []) receptions) ≤ series weight (length nodes)
+        (terms (length nodes) (hop first))
     flood-weighed weight = let (heard, inv) = flooded repeats own Sound path hop nodes first net receptions once in weighed heard _ inv weight
 
     -- the bytes on the air, where each transmission is longer than the first by 2 bytes for each entry of its path

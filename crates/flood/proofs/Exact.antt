@@ -1,4 +1,4 @@
--- THE BOUND IS REACHED over demand 2's rules: nodes that repeat all that echo and the hop limit let them repeat, and a message for none of them.
+-- THE BOUND IS REACHED over demand 2's rules: nodes that repeat all that echo and the hop limit let them repeat, and a PDU for none of them.
 -- Every complete schedule makes exactly as many transmissions, and bytes, as the bound says; and there is such a schedule. Assumes nothing.
 use mathlib.Core.Path.{_≡_, refl, ap, _∙_}
 use mathlib.Core.Logic.{_≢_, _⊎_, ⊎-elim}
@@ -14,8 +14,9 @@ use Rattle.octets.specs.Numbers.{_gives_, _orElse_, flag}
 use Rattle.pdu.specs.declared.Destination.{Destination}
 use Rattle.pdu.specs.declared.Destination.the-variants.{Everyone}
 use Rattle.pdu.specs.Header.{headerOf}
-use Rattle.pdu.specs.Sizes.{pathLimit, pduLimit, pathStart}
+use Rattle.pdu.specs.Sizes.{pathLimit, pduLimit, pathEntries, pathStart}
 use Rattle.writing.proofs.Encoding.{start-small}
+use Rattle.pdu.proofs.Exact.{exact}
 use Rattle.pdu.proofs.Paths.{length-addresses}
 use Rattle.bound.specs.Bound.{bound, bytesBound, terms}
 use Rattle.bound.proofs.Series.{terms-le, terms-below}
@@ -23,24 +24,24 @@ use Rattle.origin.specs.declared.Settings.{Settings}
 use Rattle.origin.specs.Origination.{freshHeader, fresh, originationNumber}
 use Rattle.origin.proofs.Deciding.{accepted}
 use Rattle.origin.proofs.ReadBack.{length-fresh}
-use Rattle.node.specs.Decision.{isForOwn, passFault, repeatFault, repeatNumber}
+use Rattle.node.specs.Decision.{isForOwn, echoFault, passFault, dropFault, repeatFault, repeatNumber}
 use Rattle.node.specs.Repeat.{repeated, repeatedLength}
 use Rattle.node.proofs.Heard.{not-member, will-repeat}
-use Rattle.flood.specs.Air.{Node, address, sends, pathOf, hopOf, onTheAir, bytesOnTheAir, Nodes, Open, Originated}
+use Rattle.flood.specs.Air.{Repeater, address, sends, pathOf, hopOf, onTheAir, bytesOnTheAir, Nodes, Open, Begins, Originated}
 use Rattle.flood.specs.Complete.{Complete}
 use Rattle.flood.specs.Flood.{Reception}
-use Rattle.flood.proofs.Demand.{network, schedule}
-use Rattle.flood.proofs.Fresh.{fresh-hop, fresh-destination}
+use Rattle.flood.proofs.Demand.{network, begun-schedule, schedule}
+use Rattle.flood.proofs.Fresh.{originated-begins, fresh-hop, fresh-destination}
 use Rattle.flood.proofs.Network.{Willing}
 use Rattle.flood.proofs.Reached.{flood-reached, bytes-reached}
 use Rattle.flood.proofs.Sent.{Sound}
 
 -- One open node that hears a transmission whose path does not name it, with hops left and room in the path.
-module _ (first received : List ℕ) (n : Node) (free : Open n) (echo : n .settings .echo ≡ true) (sound : Sound first received)
+module _ (first received : List ℕ) (n : Repeater) (free : Open (n .node)) (echo : n .node .settings .echo ≡ true) (sound : Sound first received)
     (new : ¬ List·Memᴰ (address n) (pathOf received)) (hops : hopOf received ≢ 0) (short : length (pathOf received) < pathLimit)
     (other : isForOwn (address n) (headerOf first .destination) ≡ false) (fits : length first + 2 * (length (pathOf received) + 1) ≤ n .room) where
-  passes : passFault (n .settings) (n .lists) (headerOf received) received ≡ 0
-  unfolding passFault _gives_ _orElse_
+  passes : dropFault (n .node) (headerOf received) received ≡ 0
+  unfolding dropFault echoFault passFault _gives_ _orElse_
   passes =
       rw (
         not-member (address n) (pathOf received) new,
@@ -60,10 +61,11 @@ module _ (first received : List ℕ) (n : Node) (free : Open n) (echo : n .setti
   for-another : isForOwn (address n) (headerOf received .destination) ≡ false
   for-another = ap (λ (to : Destination). isForOwn (address n) to) (sound .same-place) ∙ other
 
-  again : repeatFault (n .settings) (headerOf received) ≡ 0
+  again : repeatFault (n .node .settings) (headerOf received) ≡ 0
   unfolding repeatFault _gives_ _orElse_
   again =
-      let not-full : eqb (headerOf received .«path_count») pathLimit ≡ false = ne-eqb _ _ (λ (e : headerOf received .«path_count» ≡ pathLimit). omega (arith, counted)) in
+      let not-full : eqb (headerOf received .«path_count») pathLimit ≡ false =
+      ne-eqb _ _ (λ (e : headerOf received .«path_count» ≡ pathLimit). omega (arith, counted)) in
       rw (for-another, free .repeating-on, ne-eqb (hopOf received) 0 hops, sound .has-path, not-full)
 
   room : repeatedLength (headerOf received) ≤ n .room
@@ -72,15 +74,29 @@ module _ (first received : List ℕ) (n : Node) (free : Open n) (echo : n .setti
   willing : sends n received ≡ some (repeated (address n) received)
   unfolding sends
   willing =
-      let zero : repeatNumber (n .settings) (n .lists) (n .room) received ≡ 0 =
-      will-repeat (n .settings) (n .lists) (n .room) received (headerOf received) (free .no-fault) (sound .reads) passes again room in
+      let zero : repeatNumber (n .node) (n .room) received ≡ 0 =
+      will-repeat (n .node) (n .room) received (headerOf received) (free .no-fault) (sound .reads) passes again room in
       rw zero
 
 -- the path has room: at most 255 nodes, or a hop limit below 7
 terms-fit : (n h : ℕ) → (n ≤ pathLimit) ⊎ (h < 7) → terms n h ≤ pathLimit
 terms-fit n h = ⊎-elim (λ few. omega (arith, terms-le n h)) (λ low. omega (arith, terms-below n h (λ e. omega arith)))
 
--- an output of 4,615 bytes is long enough for every transmission, whatever the message
+-- an output of 4,615 bytes is long enough for every transmission, whatever begins the flood
+pub begun-longest : (first : List ℕ) (n : ℕ) → Begins first → (n ≤ pathLimit) ⊎ (hopOf first < 7)
+    → length first + 2 * terms n (hopOf first) ≤ pduLimit
+unfolding headerOf
+begun-longest first n begins fits =
+    omega (
+      arith,
+      terms-fit n (hopOf first) fits,
+      exact first (begins .one-pdu) .alone,
+      start-small (headerOf first),
+      length-addresses first (pathStart (headerOf first)) (pathEntries (headerOf first)),
+      ap length (begins .path-empty),
+      begins .all-bytes 3,
+    )
+
 pub longest : (settings : Settings) (payload : List ℕ) (room n : ℕ) → originationNumber settings payload room ≡ 0
     → (n ≤ pathLimit) ⊎ (settings .«hop_limit» < 7) → length (fresh settings payload) + 2 * terms n (settings .«hop_limit») ≤ pduLimit
 unfolding freshHeader
@@ -102,42 +118,77 @@ longest settings payload room n taken fits =
 pub for-everyone : (own : ℕ) (to : Destination) → to ≡ Everyone → isForOwn own to ≡ false
 for-everyone own to e = rw e
 
--- Nodes of different addresses with echo on, all of them open, and a message with the path bit that is for none of them.
-module _ (nodes : List Node) (all : Nodes nodes) (settings : Settings) (payload : List ℕ) (room : ℕ) (message : Originated settings payload room)
-    (free : (n : Node) → List·Memᴰ n nodes → Open n)
-    (roomy : (n : Node) → List·Memᴰ n nodes → length (fresh settings payload) + 2 * terms (length nodes) (settings .«hop_limit») ≤ n .room)
-    (other : (n : Node) → List·Memᴰ n nodes → isForOwn (address n) (settings .destination) ≡ false)
-    (fits : (length nodes ≤ pathLimit) ⊎ (settings .«hop_limit» < 7)) where
-  abbrev first : List ℕ
-  first = fresh settings payload
-
-  all-willing : (n : Node) → List·Memᴰ n nodes → Willing sends address (Sound first) pathOf hopOf (terms (length nodes) (hopOf first)) n
+-- Nodes of different addresses with echo on, all of them open, and a PDU that begins a flood and is for none of them.
+module _ (nodes : List Repeater) (all : Nodes nodes) (first : List ℕ) (begins : Begins first)
+    (free : (n : Repeater) → List·Memᴰ n nodes → Open (n .node))
+    (roomy : (n : Repeater) → List·Memᴰ n nodes → length first + 2 * terms (length nodes) (hopOf first) ≤ n .room)
+    (other : (n : Repeater) → List·Memᴰ n nodes → isForOwn (address n) (headerOf first .destination) ≡ false)
+    (fits : (length nodes ≤ pathLimit) ⊎ (hopOf first < 7)) where
+  all-willing : (n : Repeater) → List·Memᴰ n nodes → Willing sends address (Sound first) pathOf hopOf (terms (length nodes) (hopOf first)) n
   all-willing n m received sound new hops short =
-      let most : terms (length nodes) (hopOf first) ≡ terms (length nodes) (settings .«hop_limit») =
-      ap (terms (length nodes)) (fresh-hop settings payload room message) in
-      let small = terms-fit (length nodes) (settings .«hop_limit») fits in
-      let away = ap (λ (to : Destination). isForOwn (address n) to) (fresh-destination settings payload room message) ∙ other n m in (
+      let small = terms-fit (length nodes) (hopOf first) fits in (
         repeated (address n) received,
-        willing first received n (free n m) (all .echo-on n m) sound new hops (omega arith) away (omega (arith, roomy n m)),
+        willing first received n (free n m) (all .echo-on n m) sound new hops (omega arith) (other n m) (omega (arith, roomy n m)),
       )
 
   -- every schedule that leaves out nothing, in any order
   module _ (receptions : List Reception) (once : List·Nodup receptions) (complete : Complete sends nodes (first ∷ []) receptions) where
-    pub reached : length (onTheAir nodes (fresh settings payload) receptions) ≡ bound (length nodes) (settings .«hop_limit»)
-    reached =
-        flood-reached sends address (Sound first) pathOf hopOf nodes first (network nodes all settings payload room message) all-willing receptions once complete
-        ∙ ap (bound (length nodes)) (fresh-hop settings payload room message)
+    pub begun-reached : length (onTheAir nodes first receptions) ≡ bound (length nodes) (hopOf first)
+    begun-reached =
+        flood-reached sends address (Sound first) pathOf hopOf nodes first (network nodes all first begins) all-willing receptions once complete
 
-    pub reached-bytes : bytesOnTheAir nodes (fresh settings payload) receptions ≡ bytesBound (length nodes) (settings .«hop_limit») (length (fresh settings payload))
-    reached-bytes =
-        bytes-reached sends address (Sound first) pathOf hopOf nodes first (network nodes all settings payload room message) all-willing receptions once complete
+    pub begun-reached-bytes : bytesOnTheAir nodes first receptions ≡ bytesBound (length nodes) (hopOf first) (length first)
+    begun-reached-bytes =
+        bytes-reached sends address (Sound first) pathOf hopOf nodes first (network nodes all first begins) all-willing receptions once complete
         length (λ t s. s .longer)
-        ∙ ap (λ (h : ℕ). bytesBound (length nodes) h (length first)) (fresh-hop settings payload room message)
 
   -- There is such a schedule, so that no smaller bounds hold.
+  pub begun-attained : (receptions : List Reception) × List·Nodup receptions
+      × (length (onTheAir nodes first receptions) ≡ bound (length nodes) (hopOf first))
+      × (bytesOnTheAir nodes first receptions ≡ bytesBound (length nodes) (hopOf first) (length first))
+  begun-attained =
+      let (receptions, once, complete) = begun-schedule nodes all first begins in
+      (receptions, once, begun-reached receptions once complete, begun-reached-bytes receptions once complete)
+
+-- The same of a message with the path bit that origination takes.
+module _ (nodes : List Repeater) (all : Nodes nodes) (settings : Settings) (payload : List ℕ) (room : ℕ) (message : Originated settings payload room)
+    (free : (n : Repeater) → List·Memᴰ n nodes → Open (n .node))
+    (roomy : (n : Repeater) → List·Memᴰ n nodes → length (fresh settings payload) + 2 * terms (length nodes) (settings .«hop_limit») ≤ n .room)
+    (other : (n : Repeater) → List·Memᴰ n nodes → isForOwn (address n) (settings .destination) ≡ false)
+    (fits : (length nodes ≤ pathLimit) ⊎ (settings .«hop_limit» < 7)) where
+  abbrev sent : List ℕ
+  sent = fresh settings payload
+
+  begins : Begins sent
+  begins = originated-begins settings payload room message
+
+  hop : hopOf sent ≡ settings .«hop_limit»
+  hop = fresh-hop settings payload room message
+
+  roomy-sent : (n : Repeater) → List·Memᴰ n nodes → length sent + 2 * terms (length nodes) (hopOf sent) ≤ n .room
+  roomy-sent n m = rw hop (roomy n m)
+
+  other-sent : (n : Repeater) → List·Memᴰ n nodes → isForOwn (address n) (headerOf sent .destination) ≡ false
+  other-sent n m = rw (fresh-destination settings payload room message) (other n m)
+
+  fits-sent : (length nodes ≤ pathLimit) ⊎ (hopOf sent < 7)
+  fits-sent = rw hop fits
+
+  module _ (receptions : List Reception) (once : List·Nodup receptions)
+      (complete : Complete sends nodes (fresh settings payload ∷ []) receptions) where
+    pub reached : length (onTheAir nodes (fresh settings payload) receptions) ≡ bound (length nodes) (settings .«hop_limit»)
+    reached = begun-reached nodes all sent begins free roomy-sent other-sent fits-sent receptions once complete ∙ ap (bound (length nodes)) hop
+
+    pub reached-bytes : bytesOnTheAir nodes (fresh settings payload) receptions
+        ≡ bytesBound (length nodes) (settings .«hop_limit») (length (fresh settings payload))
+    reached-bytes =
+        begun-reached-bytes nodes all sent begins free roomy-sent other-sent fits-sent receptions once complete
+        ∙ ap (λ (h : ℕ). bytesBound (length nodes) h (length sent)) hop
+
   pub attained : (receptions : List Reception) × List·Nodup receptions
       × (length (onTheAir nodes (fresh settings payload) receptions) ≡ bound (length nodes) (settings .«hop_limit»))
-      × (bytesOnTheAir nodes (fresh settings payload) receptions ≡ bytesBound (length nodes) (settings .«hop_limit») (length (fresh settings payload)))
+      × (bytesOnTheAir nodes (fresh settings payload) receptions
+      ≡ bytesBound (length nodes) (settings .«hop_limit») (length (fresh settings payload)))
   attained =
       let (receptions, once, complete) = schedule nodes all settings payload room message in
       (receptions, once, reached receptions once complete, reached-bytes receptions once complete)

@@ -7,28 +7,38 @@ use native.Mathlib.Omega.{arith}
 use borrow.Author.Tests.{le-ltb}
 use lib.ListN.{length}
 use Rattle.octets.specs.Numbers.{_gives_, _orElse_}
-use Rattle.octets.specs.Octets.{at}
+use Rattle.octets.specs.Octets.{AllBytes}
 use Rattle.pdu.specs.declared.Destination.the-variants.{Everyone}
 use Rattle.pdu.specs.Header.{headerOf}
 use Rattle.pdu.specs.Reading.{readOf}
 use Rattle.pdu.specs.Parts.{addressesAt, inPath}
 use Rattle.writing.specs.Writing.{headerBytes, pathBytes, encode}
-use Rattle.lists.specs.Lists.{lowAboveHigh, faultOf, firstFault}
+use Rattle.lists.specs.Lists.{listsOf, lowAboveHigh, faultOf, firstFault}
 use Rattle.bound.specs.Bound.{product, series, terms, bound, bytesBound}
 use Rattle.origin.specs.declared.Settings.{Settings}
-use Rattle.origin.specs.Origination.{freshHeader, fresh, originationNumber}
-use Rattle.node.specs.Decision.{listsOf, passFault, repeatFault, listOrReadingFault, givenTwice, repeatNumber}
+use Rattle.origin.specs.Origination.{freshHeader, fresh, settingsFault, originationNumber}
+use Rattle.node.specs.Decision.{nodeOf, echoFault, passFault, dropFault, repeatFault, listOrReadingFault, stopFault, repeatNumber}
 use Rattle.node.specs.Repeat.{repeated}
-use Rattle.flood.specs.Air.{Node, address, sends, pathOf, onTheAir, Nodes, Open, Originated}
+use Rattle.flood.specs.Air.{Repeater, address, sends, pathOf, onTheAir, Nodes, Open, Originated}
 use Rattle.flood.specs.Flood.{flood, answer, total}
 use Rattle.flood.proofs.Rounds.{round, rounds}
 
 -- a node that repeats, with its lists off and empty and an output of 100 bytes
-abbrev pub plain : Bool → ℕ → Node
+abbrev pub plain : Bool → ℕ → Repeater
 plain echo own =
     record {
-      settings = record { own = own; echo = echo; repeating = true; «source_pass» = false; «source_reject» = false; «destination_pass» = false; «destination_reject» = false };
-      lists = listsOf [] [] [] [];
+      node =
+          nodeOf
+          (record {
+            own = own;
+            echo = echo;
+            repeating = true;
+            «source_pass» = false;
+            «source_reject» = false;
+            «destination_pass» = false;
+            «destination_reject» = false;
+          })
+          (listsOf [] [] [] []);
       room = 100;
     }
 
@@ -50,10 +60,10 @@ abbrev pub begun : Bool → ℕ → List ℕ
 begun path hop = fresh (asked path hop) (0x70 ∷ [])
 
 -- what goes out where each of the nodes hears each of the first n transmissions
-unfoldable pub air : List Node → Bool → ℕ → ℕ → List (List ℕ)
+unfoldable pub air : List Repeater → Bool → ℕ → ℕ → List (List ℕ)
 air nodes path hop n = onTheAir nodes (begun path hop) (rounds (length nodes) n)
 
-abbrev pub three : List Node
+abbrev pub three : List Repeater
 three = plain true 1 ∷ plain true 2 ∷ plain true 3 ∷ []
 
 -- The theorems are about these nodes and this message: the conditions can be met.
@@ -61,15 +71,16 @@ own-addresses : (addresses : List ℕ) → map address (map (plain true) address
 own-addresses [] = refl
 own-addresses (a ∷ l) = ap (λ (x : List ℕ). a ∷ x) (own-addresses l)
 
-pub plain-nodes : (addresses : List ℕ) → List·Nodup addresses → ((a : ℕ) → List·Memᴰ a addresses → a < 65536) → Nodes (map (plain true) addresses)
+pub plain-nodes : (addresses : List ℕ) → List·Nodup addresses → ((a : ℕ) → List·Memᴰ a addresses → a < 65536)
+    → Nodes (map (plain true) addresses)
 plain-nodes addresses differ fit =
     record {
       addresses-differ = subst List·Nodup (sym (own-addresses addresses)) differ;
-      addresses-fit = λ node m. let (a, a-in, e) = Memᴰ·of-map (plain true) addresses m in subst (λ (x : Node). address x < 65536) e (fit a a-in);
-      echo-on = λ node m. let (a, a-in, e) = Memᴰ·of-map (plain true) addresses m in ap (λ (x : Node). x .settings .echo) (sym e);
+      addresses-fit = λ each m. let (a, a-in, e) = Memᴰ·of-map (plain true) addresses m in subst (λ (x : Repeater). address x < 65536) e (fit a a-in);
+      echo-on = λ each m. let (a, a-in, e) = Memᴰ·of-map (plain true) addresses m in ap (λ (x : Repeater). x .node .settings .echo) (sym e);
     }
 
-pub plain-open : (echo : Bool) (own : ℕ) → Open (plain echo own)
+pub plain-open : (echo : Bool) (own : ℕ) → Open (plain echo own .node)
 unfolding firstFault faultOf lowAboveHigh _gives_ _orElse_
 plain-open echo own =
     record {
@@ -82,7 +93,7 @@ plain-open echo own =
     }
 
 pub asked-taken : (hop : ℕ) → hop ≤ 7 → Originated (asked true hop) (0x70 ∷ []) 100
-unfolding originationNumber freshHeader _gives_ _orElse_
+unfolding settingsFault originationNumber freshHeader _gives_ _orElse_
 asked-taken hop small =
     record {
       taken = rw (le-ltb 7 hop small);
@@ -93,7 +104,7 @@ asked-taken hop small =
       payload-fits = one;
     }
   where
-    one : (place : ℕ) → at (0x70 ∷ []) place < 256
+    one : AllBytes (0x70 ∷ [])
     one zero = omega arith
     one (suc place) = omega arith
 
@@ -113,13 +124,16 @@ pub record Computed : Type 0 where
   pub two : bound 2 7 ≡ 5
   pub one-address : map pathOf (air (plain true 1 ∷ plain true 1 ∷ []) true 7 5) ≡ [] ∷ (1 ∷ []) ∷ (1 ∷ []) ∷ []
   -- the bytes themselves, from hop limit 2: node 1's repeat, then node 2's of that, and none of node 3, since the hop limit is 0 by then
-  pub in-a-row : onTheAir three (begun true 2) (record { node = 0; transmission = 0 } ∷ record { node = 1; transmission = 1 } ∷ record { node = 2; transmission = 2 } ∷ [])
+  pub in-a-row : onTheAir three (begun true 2)
+      (record { node = 0; transmission = 0 } ∷ record { node = 1; transmission = 1 } ∷ record { node = 2; transmission = 2 } ∷ [])
       ≡ (0x02 ∷ 0x00 ∷ 0x20 ∷ 0x01 ∷ 0x03 ∷ 0xE8 ∷ 0x00 ∷ 0x70 ∷ [])
       ∷ (0x02 ∷ 0x00 ∷ 0x10 ∷ 0x01 ∷ 0x03 ∷ 0xE8 ∷ 0x01 ∷ 0x00 ∷ 0x01 ∷ 0x70 ∷ [])
       ∷ (0x02 ∷ 0x00 ∷ 0x00 ∷ 0x01 ∷ 0x03 ∷ 0xE8 ∷ 0x02 ∷ 0x00 ∷ 0x01 ∷ 0x00 ∷ 0x02 ∷ 0x70 ∷ []) ∷ []
 
 pub computed : Computed
-unfolding bound bytesBound series product terms total air rounds round flood answer sends fresh freshHeader encode headerBytes pathBytes repeated repeatNumber givenTwice listOrReadingFault firstFault faultOf lowAboveHigh readOf headerOf passFault repeatFault addressesAt inPath _gives_ _orElse_
+unfolding bound bytesBound series product terms total air rounds round flood answer sends fresh freshHeader encode headerBytes pathBytes
+    repeated repeatNumber stopFault listOrReadingFault firstFault faultOf lowAboveHigh readOf headerOf dropFault echoFault passFault
+    repeatFault addressesAt inPath _gives_ _orElse_
 computed =
     record {
       hop-0 = refl;

@@ -1,13 +1,13 @@
--- A message that origination takes, with the path bit, begins a flood: its bytes are bytes, it reads back, and its path is empty. Assumes nothing.
+-- A message that origination takes, with the path bit, begins a flood, with the hop limit and the destination that were set. Assumes nothing.
 use mathlib.Core.Path.{_≡_, refl, ap, sym, _∙_}
 use mathlib.Core.Bool.{Bool, true, false, cond}
 use mathlib.Core.List.{List, [], _∷_, _++_, append-nil}
-use Prim.Native.Nat.{ℕ, zero, suc, _/_, _%_, _+_, _≤_, _<_}
+use Prim.Native.Nat.{ℕ, _≤_, _<_}
 use native.Mathlib.Omega.{arith}
 use lib.Dec.{eqb}
 use lib.ListN.{length}
 use Rattle.octets.specs.Numbers.{flag}
-use Rattle.octets.specs.Octets.{wordBytes}
+use Rattle.octets.specs.Octets.{AllBytes, wordBytes}
 use Rattle.pdu.specs.declared.Destination.{Destination}
 use Rattle.pdu.specs.declared.Destination.the-variants.{Everyone, Address}
 use Rattle.pdu.specs.declared.Header.{Header}
@@ -18,39 +18,26 @@ use Rattle.pdu.specs.Reading.{readOf}
 use Rattle.pdu.specs.Parts.{pathIn}
 use Rattle.writing.specs.Writing.{fixedPart, destinationBytes, onlyIf, headerBytes, pathBytes, encode}
 use Rattle.pdu.proofs.Inversion.{shown}
-use Rattle.octets.proofs.Words.{Bytes}
+use Rattle.pdu.proofs.Exact.{is-exact}
+use Rattle.octets.proofs.Words.{bytes-none, bytes-more, bytes-joined, bytes-word}
 use Rattle.origin.specs.declared.Settings.{Settings}
 use Rattle.origin.specs.Origination.{freshHeader, fresh}
 use Rattle.origin.proofs.Deciding.{Accepted, accepted}
 use Rattle.origin.proofs.Fresh.{flag-small}
 use Rattle.origin.proofs.ReadBack.{length-fresh, fresh-back}
-use Rattle.flood.specs.Air.{pathOf, hopOf, Originated}
-use Rattle.flood.proofs.Sent.{Sound}
+use Rattle.flood.specs.Air.{pathOf, hopOf, Begins, Originated}
 
--- lists of bytes
-bytes-none : Bytes []
-bytes-none i = omega arith
-
-bytes-more : (byte : ℕ) (bytes : List ℕ) → byte < 256 → Bytes bytes → Bytes (byte ∷ bytes)
-bytes-more byte bytes h b zero = h
-bytes-more byte bytes h b (suc i) = b i
-
-bytes-joined : (front later : List ℕ) → Bytes front → Bytes later → Bytes (front ++ later)
-bytes-joined [] later b c = c
-bytes-joined (byte ∷ front) later b c = bytes-more byte (front ++ later) (b 0) (bytes-joined front later (λ i. b (suc i)) c)
-
-bytes-word : (number : ℕ) → number < 65536 → Bytes (wordBytes number)
-bytes-word number h = bytes-more (number / 256) (number % 256 ∷ []) (omega arith) (bytes-more (number % 256) [] (omega arith) bytes-none)
-
-bytes-four : (a b c d : ℕ) (later : List ℕ) → a < 256 → b < 256 → c < 256 → d < 256 → Bytes later → Bytes (a ∷ b ∷ c ∷ d ∷ later)
+-- the parts of a header
+bytes-four : (a b c d : ℕ) (later : List ℕ) → a < 256 → b < 256 → c < 256 → d < 256 → AllBytes later
+    → AllBytes (a ∷ b ∷ c ∷ d ∷ later)
 bytes-four a b c d later ha hb hc hd h =
     bytes-more a (b ∷ c ∷ d ∷ later) ha (bytes-more b (c ∷ d ∷ later) hb (bytes-more c (d ∷ later) hc (bytes-more d later hd h)))
 
-bytes-if : (called : Bool) (byte : ℕ) → byte < 256 → Bytes (onlyIf called (byte ∷ []))
+bytes-if : (called : Bool) (byte : ℕ) → byte < 256 → AllBytes (onlyIf called (byte ∷ []))
 bytes-if true byte h = bytes-more byte [] h bytes-none
 bytes-if false byte h = bytes-none
 
-bytes-destination : (to : Destination) → ((a : ℕ) → to ≡ Address a → a < 65536) → Bytes (destinationBytes to)
+bytes-destination : (to : Destination) → ((a : ℕ) → to ≡ Address a → a < 65536) → AllBytes (destinationBytes to)
 bytes-destination Everyone h = bytes-none
 bytes-destination (Address a) h = bytes-word a (h a refl)
 
@@ -66,14 +53,21 @@ module _ (settings : Settings) (payload : List ℕ) (room : ℕ) (message : Orig
   takes : Accepted settings payload room
   takes = accepted settings payload room (message .taken)
 
-  fixed-small : Bytes (fixedPart (freshHeader settings (length payload)))
+  fixed-small : AllBytes (fixedPart (freshHeader settings (length payload)))
   unfolding freshHeader
   fixed-small =
       bytes-four _ _ _ _ (wordBytes (settings .source))
-      (omega (arith, flag-small (settings .reliable), flag-small (settings .«time_stamp_request»), flag-small (settings .«with_path»), flag-destination (settings .destination)))
-      (omega (arith, takes .port)) (omega (arith, takes .hop, takes .payload-limit)) (omega arith) (bytes-word (settings .source) (message .source-fits))
+      (omega (
+        arith,
+        flag-small (settings .reliable),
+        flag-small (settings .«time_stamp_request»),
+        flag-small (settings .«with_path»),
+        flag-destination (settings .destination),
+      ))
+      (omega (arith, takes .port)) (omega (arith, takes .hop, takes .payload-limit)) (omega arith)
+      (bytes-word (settings .source) (message .source-fits))
 
-  fresh-small : Bytes (fresh settings payload)
+  fresh-small : AllBytes (fresh settings payload)
   unfolding fresh freshHeader encode headerBytes pathBytes
   fresh-small =
       let fixed = fixedPart (freshHeader settings (length payload)) in
@@ -98,7 +92,7 @@ module _ (settings : Settings) (payload : List ℕ) (room : ℕ) (message : Orig
   fresh-shows : freshHeader settings (length payload) ≡ headerOf first
   fresh-shows = shown first _ fresh-reads .is
 
-  pub fresh-path : pathOf first ≡ []
+  fresh-path : pathOf first ≡ []
   fresh-path =
       ap (λ (h : Header). pathIn h first) (sym fresh-shows) ∙ ap (pathIn (freshHeader settings (length payload))) (sym (append-nil first))
       ∙ fresh-back settings payload room (message .taken) [] .no-path
@@ -116,13 +110,15 @@ module _ (settings : Settings) (payload : List ℕ) (room : ℕ) (message : Orig
   unfolding freshHeader
   fresh-bit = ap (λ (h : Header). h .«path_bit») (sym fresh-shows) ∙ message .with-path
 
-  pub fresh-sound : Sound first first
-  fresh-sound =
+  pub originated-begins : Begins (fresh settings payload)
+  originated-begins =
       record {
-        small = fresh-small;
-        reads = fresh-reads ∙ ap Pdu fresh-shows;
-        has-path = fresh-bit;
-        alone = length-fresh settings payload room (message .taken) ∙ ap (λ (h : Header). pduLength h) fresh-shows;
-        longer = omega (arith, ap length fresh-path);
-        same-place = refl;
+        all-bytes = fresh-small;
+        one-pdu =
+            is-exact first (record {
+              reads = fresh-reads ∙ ap Pdu fresh-shows;
+              alone = length-fresh settings payload room (message .taken) ∙ ap (λ (h : Header). pduLength h) fresh-shows;
+            });
+        path-bit = fresh-bit;
+        path-empty = fresh-path;
       }

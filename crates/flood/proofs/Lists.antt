@@ -56,7 +56,8 @@ module _ {A : Type 0} where
   apart d h e = (nodup-cons .0 d) .0 ∣ Memᴰ·cast (sym e) h ∣₁
 
   -- the pigeonhole principle by weight: a list without repetition, all of it in another, adds up to no more than that
-  pub no-more : (weight : A → ℕ) (xs l : List A) → List·Nodup xs → ((a : A) → List·Memᴰ a xs → List·Memᴰ a l) → total weight xs ≤ total weight l
+  pub no-more : (weight : A → ℕ) (xs l : List A) → List·Nodup xs → ((a : A) → List·Memᴰ a xs → List·Memᴰ a l)
+      → total weight xs ≤ total weight l
   unfolding total
   no-more weight [] l d inside = omega arith
   no-more weight (x ∷ xs) l d inside =
@@ -75,7 +76,8 @@ module _ {A : Type 0} where
   pub nodup-snoc : (p : List A) {a : A} → List·Nodup p → ¬ List·Memᴰ a p → List·Nodup (p ++ (a ∷ []))
   nodup-snoc p {a} d new = subst List·Nodup (concat-eq-append p a) ((nodup-concat p a) .1 (λ m. ∥∥₁-elim m ⊥-prop new, d))
 
-  pub nodup-join : (xs ys : List A) → List·Nodup xs → List·Nodup ys → ((a : A) → List·Memᴰ a xs → ¬ List·Memᴰ a ys) → List·Nodup (xs ++ ys)
+  pub nodup-join : (xs ys : List A) → List·Nodup xs → List·Nodup ys → ((a : A) → List·Memᴰ a xs → ¬ List·Memᴰ a ys)
+      → List·Nodup (xs ++ ys)
   nodup-join xs ys d e differ =
       (nodup-append {l₁ = xs} {l₂ = ys}) .1 (d, e, λ a m k. ∥∥₁-elim m ⊥-prop (λ m′. ∥∥₁-elim k ⊥-prop (differ a m′)))
 
@@ -119,7 +121,8 @@ module _ {A B : Type 0} (f : A → B) where
       nodup-more (λ m. let (a, a-in, e) = Memᴰ·of-map f l m in apart d a-in (one a x e)) (nodup-map one l ((nodup-cons .0 d) .1))
 
   -- in a list whose values under f all differ, a value is at one place only
-  pub same-place : (l : List A) (i j : ℕ) {a b : A} → List·Nodup (map f l) → getElem? l i ≡ some a → getElem? l j ≡ some b → f a ≡ f b → i ≡ j
+  pub same-place : (l : List A) (i j : ℕ) {a b : A} → List·Nodup (map f l) → getElem? l i ≡ some a → getElem? l j ≡ some b → f a ≡ f b
+      → i ≡ j
   same-place [] i j d p q e = absurd (Option·none-ne-some _ p)
   same-place (x ∷ l) zero zero d p q e = refl
   same-place (x ∷ l) zero (suc j) d p q e =

@@ -89,7 +89,8 @@ module _ {Node Message : Type 0} (repeats : Node → Message → Option Message)
           let free′ : (c : ℕ) → List·Memᴰ c left → List·Memᴰ c (map own nodes) × (¬ List·Memᴰ c (p ++ (a ∷ []))) =
           λ c h. (
             free c (sel .others c h) .0,
-            λ h′. ⊎-elim (free c (sel .others c h) .1) (λ h″. sel .gone (Memᴰ·cast (sym (List·Memᴰ·eq-of-singleton h″)) h)) (List·Memᴰ·append-cases p h′),
+            λ h′. ⊎-elim (free c (sel .others c h) .1) (λ h″. sel .gone (Memᴰ·cast (sym (List·Memᴰ·eq-of-singleton h″)) h))
+                (List·Memᴰ·append-cases p h′),
           ) in
           Memᴰ·cast (ap (λ (x : List ℕ). p ++ x) (b .is) ∙ sym (append-assoc p (a ∷ []) (b .rest)))
           (all-made m left (p ++ (a ∷ [])) (b .rest) next (sel .differ) free′ (omega (arith, length-append p (a ∷ []))) (b .arranged-rest)))
@@ -101,12 +102,20 @@ module _ {Node Message : Type 0} (repeats : Node → Message → Option Message)
       full made weight =
           let m = terms (length nodes) (hop first) in
           let begin : Made log m [] =
-          record { sent = first; in-log = made; is-sound = net .first-sound; path-is = net .fresh; allows = allows-terms (length nodes) (hop first) } in
+          record {
+            sent = first;
+            in-log = made;
+            is-sound = net .first-sound;
+            path-is = net .fresh;
+            allows =
+                allows-terms (length nodes) (hop first);
+          } in
           let inside : (q : List ℕ) → List·Memᴰ q (arrangements m (map own nodes)) → List·Memᴰ q (map path log) =
           λ q k. all-made m (map own nodes) [] q begin (net .addresses-differ) (λ a h. (h, List·Memᴰ·not-nil)) (omega arith) k in
           omega (
             arith,
-            no-more (λ p. weight (length p)) (arrangements m (map own nodes)) (map path log) (nodup-arrangements m (map own nodes) (net .addresses-differ)) inside,
+            no-more (λ p. weight (length p)) (arrangements m (map own nodes)) (map path log)
+                (nodup-arrangements m (map own nodes) (net .addresses-differ)) inside,
             total-map path (λ p. weight (length p)) log,
             total-arrangements weight m (map own nodes),
             ap (λ (n : ℕ). series weight n m) (length-map nodes own),
@@ -115,7 +124,8 @@ module _ {Node Message : Type 0} (repeats : Node → Message → Option Message)
     -- Any complete schedule with no reception twice.
     module _ (receptions : List Reception) (once : List·Nodup receptions) (all : Complete repeats nodes (first ∷ []) receptions) where
       pub reached-weighed : (weight : ℕ → ℕ)
-          → total (λ t. weight (length (path t))) (flood repeats nodes (first ∷ []) receptions) ≡ series weight (length nodes) (terms (length nodes) (hop first))
+          → total (λ t. weight (length (path t))) (flood repeats nodes (first ∷ []) receptions)
+          ≡ series weight (length nodes) (terms (length nodes) (hop first))
       reached-weighed weight =
           let above = flood-weighed repeats own Sound path hop nodes first net receptions once weight in
           let below =

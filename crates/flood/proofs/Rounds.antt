@@ -61,7 +61,8 @@ pub record Split (rs : List Reception) (i t : ℕ) : Type 0 where
   pub split : rs ≡ before ++ (at i t ∷ after)
   pub later : (r : Reception) → List·Memᴰ r after → t ≤ r .transmission
 
-more-after : (rs more : List Reception) (i t : ℕ) → Split rs i t → ((r : Reception) → List·Memᴰ r more → t ≤ r .transmission) → Split (rs ++ more) i t
+more-after : (rs more : List Reception) (i t : ℕ) → Split rs i t → ((r : Reception) → List·Memᴰ r more → t ≤ r .transmission)
+    → Split (rs ++ more) i t
 more-after rs more i t s all =
     record {
       before = s .before;

@@ -38,7 +38,8 @@ module _ {Node Message : Type 0} (repeats : Node → Message → Option Message)
     where
       go : (o : Option Message)
           → ((log′ : List Message) → (more : List Message) × (flood repeats nodes log′ rs ≡ log′ ++ more))
-          → (more : List Message) × (_≡_ {A = List Message} (elim o [ none ↦ flood repeats nodes log rs | some s ↦ flood repeats nodes (log ++ (s ∷ [])) rs ]) (log ++ more))
+          → (more : List Message)
+          × (_≡_ {A = List Message} (elim o [ none ↦ flood repeats nodes log rs | some s ↦ flood repeats nodes (log ++ (s ∷ [])) rs ]) (log ++ more))
       go none below = below log
       go (some s) below = let (more, e) = below (log ++ (s ∷ [])) in (s ∷ more, e ∙ append-assoc log (s ∷ []) more)
 
@@ -58,7 +59,8 @@ module _ {Node Message : Type 0} (repeats : Node → Message → Option Message)
   unfolding flood answer
   hears log i t n m s p q e =
       let says : answer repeats (getElem? nodes i) (getElem? log t) ≡ some s = (λ j. answer repeats (p j) (q j)) ∙ e in
-      let is : flood repeats nodes log (at i t ∷ []) ≡ log ++ (s ∷ []) = ap (λ (o : Option Message). elim o as (λ x. List Message) [ none ↦ log | some s ↦ log ++ (s ∷ []) ]) says in
+      let is : flood repeats nodes log (at i t ∷ []) ≡ log ++ (s ∷ []) =
+      ap (λ (o : Option Message). elim o as (λ x. List Message) [ none ↦ log | some s ↦ log ++ (s ∷ []) ]) says in
       subst (λ (l : List Message). List·Memᴰ s l) (sym is) (Memᴰ·append-right log (List·Memᴰ·head refl))
 
   -- what is heard before it was made changes nothing
@@ -67,18 +69,22 @@ module _ {Node Message : Type 0} (repeats : Node → Message → Option Message)
   nothing-said none = refl
   nothing-said (some n) = refl
 
-  nothing-made : (rs : List Reception) (log : List Message) → ((r : Reception) → List·Memᴰ r rs → length log ≤ r .transmission) → flood repeats nodes log rs ≡ log
+  nothing-made : (rs : List Reception) (log : List Message) → ((r : Reception) → List·Memᴰ r rs → length log ≤ r .transmission)
+      → flood repeats nodes log rs ≡ log
   unfolding flood
   nothing-made [] log all = refl
   nothing-made (r ∷ rs) log all =
       let says : answer repeats (getElem? nodes (r .node)) (getElem? log (r .transmission)) ≡ none =
-      ap (answer repeats (getElem? nodes (r .node))) (at-past log (r .transmission) (all r (List·Memᴰ·head refl))) ∙ nothing-said (getElem? nodes (r .node)) in
-      ap (λ (o : Option Message). elim o as (λ x. List Message) [ none ↦ flood repeats nodes log rs | some s ↦ flood repeats nodes (log ++ (s ∷ [])) rs ]) says
+      ap (answer repeats (getElem? nodes (r .node))) (at-past log (r .transmission) (all r (List·Memᴰ·head refl)))
+      ∙ nothing-said (getElem? nodes (r .node)) in
+      ap (λ (o : Option Message). elim o as (λ x. List Message)
+      [ none ↦ flood repeats nodes log rs | some s ↦ flood repeats nodes (log ++ (s ∷ [])) rs ]) says
       ∙ nothing-made rs log (λ q m. all q (List·Memᴰ·tail m))
 
   -- a transmission that is heard after it was made is repeated, if the node repeats it
   pub heard-said : (log : List Message) (rs : List Reception) (i t : ℕ) → Heard repeats nodes log rs i t → (n : Node) (m s : Message)
-      → getElem? nodes i ≡ some n → getElem? (flood repeats nodes log rs) t ≡ some m → repeats n m ≡ some s → List·Memᴰ s (flood repeats nodes log rs)
+      → getElem? nodes i ≡ some n → getElem? (flood repeats nodes log rs) t ≡ some m → repeats n m ≡ some s
+      → List·Memᴰ s (flood repeats nodes log rs)
   heard-said log rs i t l n m s n-at m-at e =
       let was = flood repeats nodes log (l .before) in
       let this : List Reception = at i t ∷ [] in
@@ -91,7 +97,8 @@ module _ {Node Message : Type 0} (repeats : Node → Message → Option Message)
 
   -- nothing is left to be said
   abbrev pub Closed : List Message → Type 0
-  Closed log = (m : Message) → List·Memᴰ m log → (n : Node) → List·Memᴰ n nodes → (s : Message) → repeats n m ≡ some s → List·Memᴰ s log
+  Closed log =
+      (m : Message) → List·Memᴰ m log → (n : Node) → List·Memᴰ n nodes → (s : Message) → repeats n m ≡ some s → List·Memᴰ s log
 
   pub complete-close : (log : List Message) (rs : List Reception) → Complete repeats nodes log rs → Closed (flood repeats nodes log rs)
   complete-close log rs all m m-in n n-in s e =
@@ -100,7 +107,8 @@ module _ {Node Message : Type 0} (repeats : Node → Message → Option Message)
       heard-said log rs i t (all i t i-lt t-lt) n m s n-at m-at e
 
   -- as many rounds as there are transmissions leave out nothing
-  pub rounds-complete : (k : ℕ) (log : List Message) → length (flood repeats nodes log (rounds (length nodes) k)) ≤ k → Complete repeats nodes log (rounds (length nodes) k)
+  pub rounds-complete : (k : ℕ) (log : List Message) → length (flood repeats nodes log (rounds (length nodes) k)) ≤ k
+      → Complete repeats nodes log (rounds (length nodes) k)
   rounds-complete k log few i t i-lt t-lt =
       let s = rounds-split (length nodes) k i t i-lt (omega arith) in
       let was = flood repeats nodes log (s .before) in

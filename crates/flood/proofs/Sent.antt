@@ -9,7 +9,7 @@ use borrow.Author.Tests.{eqb-true}
 use lib.Dec.{eqb}
 use lib.ListN.{length, take, length-append}
 use Rattle.octets.specs.Numbers.{flag}
-use Rattle.octets.specs.Octets.{over}
+use Rattle.octets.specs.Octets.{AllBytes, over}
 use Rattle.octets.proofs.Placing.{take-over}
 use Rattle.pdu.specs.declared.Header.{Header}
 use Rattle.pdu.specs.declared.Reading.the-variants.{Pdu}
@@ -19,19 +19,18 @@ use Rattle.pdu.specs.Reading.{readOf}
 use Rattle.pdu.specs.Parts.{pathIn}
 use Rattle.writing.proofs.Back.{length-encode}
 use Rattle.pdu.proofs.Inversion.{shown}
-use Rattle.octets.proofs.Words.{Bytes}
 use Rattle.node.specs.Decision.{repeatNumber}
 use Rattle.node.specs.Repeat.{lowered, repeated, repeatedLength, repeatedHeader}
 use Rattle.node.specs.Answers.{answerOf, outputAfter}
 use Rattle.node.proofs.Encoded.{changed-hop, same-path-bit, same-destination, same-bytes, repeat-well-formed, alone-reads, alone-path, repeat-long, repeat-bytes}
 use Rattle.node.proofs.Heard.{repeats, not-in-path}
 use Rattle.node.proofs.Repeating.{Ready, length-repeated}
-use Rattle.flood.specs.Air.{Node, address, sends, pathOf, hopOf}
+use Rattle.flood.specs.Air.{Repeater, address, sends, pathOf, hopOf}
 use Rattle.flood.proofs.Network.{Keeps, Lawful}
 
 -- What is known of every transmission that the first leads to: a readable PDU with a path, to the same destination, longer by its path.
 pub record Sound (first sent : List ℕ) : Type 0 where
-  pub small : Bytes sent
+  pub small : AllBytes sent
   pub reads : readOf sent ≡ Pdu (headerOf sent)
   pub has-path : headerOf sent .«path_bit» ≡ true
   pub alone : length sent ≡ pduLength (headerOf sent)
@@ -77,21 +76,22 @@ module _ (first received : List ℕ) (sound : Sound first received) (ready : Rea
       }
 
 -- What a node sends is the repeated PDU, and its repeat number is 0.
-pub sent-is : (n : Node) (received sent : List ℕ) → sends n received ≡ some sent
-    → (repeated (address n) received ≡ sent) × (repeatNumber (n .settings) (n .lists) (n .room) received ≡ 0)
+pub sent-is : (n : Repeater) (received sent : List ℕ) → sends n received ≡ some sent
+    → (repeated (address n) received ≡ sent) × (repeatNumber (n .node) (n .room) received ≡ 0)
 unfolding sends
-sent-is n received sent e = go (eqb (repeatNumber (n .settings) (n .lists) (n .room) received) 0) refl e
+sent-is n received sent e = go (eqb (repeatNumber (n .node) (n .room) received) 0) refl e
   where
-    go : (t : Bool) → eqb (repeatNumber (n .settings) (n .lists) (n .room) received) 0 ≡ t
+    go : (t : Bool) → eqb (repeatNumber (n .node) (n .room) received) 0 ≡ t
         → _≡_ {A = Option (List ℕ)} (cond t (some (repeated (address n) received)) none) (some sent)
-        → (repeated (address n) received ≡ sent) × (repeatNumber (n .settings) (n .lists) (n .room) received ≡ 0)
+        → (repeated (address n) received ≡ sent) × (repeatNumber (n .node) (n .room) received ≡ 0)
     go true zero is = (Option·some-injective _ _ is, eqb-true _ 0 zero)
     go false zero is = absurd (Option·none-ne-some _ is)
 
-pub node-lawful : (first : List ℕ) (n : Node) → address n < 65536 → n .settings .echo ≡ true → Lawful sends address (Sound first) pathOf hopOf n
+pub node-lawful : (first : List ℕ) (n : Repeater) → address n < 65536 → n .node .settings .echo ≡ true
+    → Lawful sends address (Sound first) pathOf hopOf n
 node-lawful first n narrow echo received sent sound e =
     let (is, zero) = sent-is n received sent e in
-    let r = repeats (n .settings) (n .lists) (n .room) received zero in
+    let r = repeats (n .node) (n .room) received zero in
     let header = shown received (r .header) (r .read) .is in
     let ready : Ready received (headerOf received) = subst (Ready received) header (r .ready) in
     let bit : r .header .«path_bit» ≡ true = ap (λ (h : Header). h .«path_bit») header ∙ sound .has-path in
@@ -106,24 +106,24 @@ node-lawful first n narrow echo received sent sound e =
     )
 
 -- What a node sends is what its function `hear` answers and leaves in the output: so many bytes at its start, none where it sends nothing.
-module _ (n : Node) (received output : List ℕ) (long : length output ≡ n .room) where
+module _ (n : Repeater) (received output : List ℕ) (long : length output ≡ n .room) where
   abbrev written : List ℕ
-  written = take (answerOf (n .settings) (n .lists) (length output) received .«repeated_length») (outputAfter (n .settings) (n .lists) received output)
+  written = take (answerOf (n .node) (length output) received .«repeated_length») (outputAfter (n .node) received output)
 
   pub sent-written : (sent : List ℕ) → sends n received ≡ some sent → written ≡ sent
   unfolding answerOf outputAfter
   sent-written sent e =
       let (is, zero) = sent-is n received sent e in
-      let r = repeats (n .settings) (n .lists) (n .room) received zero in
+      let r = repeats (n .node) (n .room) received zero in
       let seen = shown received (r .header) (r .read) in
       let size : length (repeated (address n) received) ≡ repeatedLength (headerOf received) =
       length-repeated received [] (address n) (r .header) (seen .is) (seen .ends) ∙ ap (λ (h : Header). repeatedLength h) (seen .is) in
       rw (long, zero) (take-over (repeated (address n) received) output _ size) ∙ is
 
   pub none-written : sends n received ≡ none
-      → (answerOf (n .settings) (n .lists) (length output) received .«repeated_length» ≡ 0) × (outputAfter (n .settings) (n .lists) received output ≡ output)
+      → (answerOf (n .node) (length output) received .«repeated_length» ≡ 0) × (outputAfter (n .node) received output ≡ output)
   unfolding sends answerOf outputAfter
-  none-written e = rw long (go (eqb (repeatNumber (n .settings) (n .lists) (n .room) received) 0) e)
+  none-written e = rw long (go (eqb (repeatNumber (n .node) (n .room) received) 0) e)
     where
       go : (t : Bool) → _≡_ {A = Option (List ℕ)} (cond t (some (repeated (address n) received)) none) none
           → (cond t (repeatedLength (headerOf received)) 0 ≡ 0) × (cond t (over (repeated (address n) received) output) output ≡ output)

@@ -7,10 +7,9 @@ use mathlib.Core.Path.{_≡_, refl, _∙_}
 use lib.Dec.{ltb}
 use lib.ListN.{length}
 use borrow.Author.Tests.{ltb-false}
-use Rattle.octets.specs.Octets.{at, wordAt}
+use Rattle.octets.specs.Octets.{at, AllBytes, wordAt}
 use Rattle.octets.proofs.Numbering.{orElse-later}
-use Rattle.octets.proofs.Words.{Bytes}
-use Rattle.lists.specs.Lists.{four, firstFault}
+use Rattle.lists.specs.Lists.{firstFault, listFault}
 use Rattle.job.specs.declared.Head.{Head}
 use Rattle.job.specs.declared.Head.the-variants as head
 use Rattle.job.specs.declared.Section.{Section}
@@ -33,7 +32,8 @@ unfolding headOf
 head-in bytes own flags e = go (ltb (length bytes) 3) (ltb 63 (at bytes 2)) refl e
   where
     go : (short wrong : Bool) → ltb 63 (at bytes 2) ≡ wrong
-        → cond short (head.Refused 50) (cond wrong (head.Refused 51) (head.Found (wordAt bytes 0) (at bytes 2))) ≡ head.Found own flags → HeadIn bytes own flags
+        → cond short (head.Refused 50) (cond wrong (head.Refused 51) (head.Found (wordAt bytes 0) (at bytes 2))) ≡ head.Found own flags
+        → HeadIn bytes own flags
     go true wrong f e = let z : _≡_ {A = ℕ} 0 1 = cc in absurd (omega arith)
     go false true f e = let z : _≡_ {A = ℕ} 0 1 = cc in absurd (omega arith)
     go false false f e =
@@ -119,15 +119,15 @@ job-in bytes job e =
           );
     })
 
-pub own-small : (bytes : List ℕ) (job : Job) → Bytes bytes → JobIn bytes job → job .own < 65536
+pub own-small : (bytes : List ℕ) (job : Job) → AllBytes bytes → JobIn bytes job → job .own < 65536
 own-small bytes job small j = omega (arith, j .own, small 0, small 1)
 
 -- the lists of a job that was read have no fault
 pub lists-right : (bytes : List ℕ) (job : Job) → JobIn bytes job
-    → firstFault
-    (four (listsIn bytes job .sourcePass) (listsIn bytes job .sourceReject) (listsIn bytes job .destinationPass) (listsIn bytes job .destinationReject)) ≡ 0
+    → listFault (listsIn bytes job) ≡ 0
 unfolding firstFault
 lists-right bytes job j =
-    orElse-later _ _ (list-right bytes (job .«source_pass») (j .source-pass)) ∙ orElse-later _ _ (list-right bytes (job .«source_reject») (j .source-reject))
+    orElse-later _ _ (list-right bytes (job .«source_pass») (j .source-pass))
+    ∙ orElse-later _ _ (list-right bytes (job .«source_reject») (j .source-reject))
     ∙ orElse-later _ _ (list-right bytes (job .«destination_pass») (j .destination-pass))
     ∙ orElse-later _ _ (list-right bytes (job .«destination_reject») (j .destination-reject))

@@ -11,7 +11,8 @@ use borrow.Author.Tests.{lt-ltb, le-ltb, ltb-false, lt-leb, leb-true, leb-false}
 use Rattle.octets.specs.Numbers.{_gives_, _orElse_}
 use Rattle.octets.specs.Octets.{at, wordAt}
 use Rattle.octets.proofs.Numbering.{gives-here, gives-later, gives-none}
-use Rattle.pdu.specs.Sizes.{rangeLimit, batchLimit}
+use Rattle.lists.specs.Lists.{rangeLimit}
+use Rattle.batch.specs.Walk.{batchLimit}
 use Rattle.job.specs.declared.Head.{Head}
 use Rattle.job.specs.declared.Head.the-variants as head
 use Rattle.job.specs.declared.Section.{Section}

@@ -27,7 +27,8 @@ module _ (bytes : List ℕ) (section : Section) where
 
 pub length-padded : (values : List ℕ) → length (padded values) ≡ 128
 unfolding padded
-length-padded values = length-take-le 128 (values ++ replicate 128 0) (omega (arith, length-append values (replicate 128 0), length-replicate {A = ℕ} 128 0))
+length-padded values =
+    length-take-le 128 (values ++ replicate 128 0) (omega (arith, length-append values (replicate 128 0), length-replicate {A = ℕ} 128 0))
 
 -- zeros behind a list change no value of it
 value-before-zeros : (values : List ℕ) (n i : ℕ) → i < n → getD (values ++ replicate n 0) i 0 ≡ getD values i 0
@@ -40,14 +41,16 @@ unfolding padded
 padded-value values i h = getD-take 128 (values ++ replicate 128 0) i 0 h ∙ value-before-zeros values 128 i h
 
 -- an array that is filled from its start
-pub filled-more : (values array : List ℕ) (i value : ℕ) → length array ≡ 128 → i < 128 → value ≡ getD values i 0 → take i array ≡ take i (padded values)
+pub filled-more : (values array : List ℕ) (i value : ℕ) → length array ≡ 128 → i < 128 → value ≡ getD values i 0
+    → take i array ≡ take i (padded values)
     → take (i + 1) (set array i value) ≡ take (i + 1) (padded values)
 filled-more values array i value long h is e =
     rw (add-one i)
     (take-suc-set array i value (omega arith)
     ∙ rw (e, is, ← padded-value values i h) (sym (take-suc (padded values) i 0 (omega (arith, length-padded values)))))
 
-pub filled-all : (values array : List ℕ) (i : ℕ) → length array ≡ 128 → 128 ≤ i → take i array ≡ take i (padded values) → array ≡ padded values
+pub filled-all : (values array : List ℕ) (i : ℕ) → length array ≡ 128 → 128 ≤ i → take i array ≡ take i (padded values)
+    → array ≡ padded values
 filled-all values array i long h e =
     sym (take-all i array (omega arith)) ∙ e ∙ take-all i (padded values) (omega (arith, length-padded values))
 

@@ -27,9 +27,11 @@ module _ (bytes : List ℕ) where
   unfolding rangesNumber
   range-wrong n left place e h low =
       rw (e, add-one left)
-      (gives-later _ 50 _ (le-ltb (length bytes) (place + 4) h) ∙ gives-here _ 20 _ (omega arith) (lt-ltb (wordAt bytes (place + 2)) (wordAt bytes place) low))
+      (gives-later _ 50 _ (le-ltb (length bytes) (place + 4) h)
+      ∙ gives-here _ 20 _ (omega arith) (lt-ltb (wordAt bytes (place + 2)) (wordAt bytes place) low))
 
-  pub range-right : (n left place next : ℕ) → n ≡ left + 1 → next ≡ place + 4 → place + 4 ≤ length bytes → wordAt bytes place ≤ wordAt bytes (place + 2)
+  pub range-right : (n left place next : ℕ) → n ≡ left + 1 → next ≡ place + 4 → place + 4 ≤ length bytes
+      → wordAt bytes place ≤ wordAt bytes (place + 2)
       → rangesNumber n bytes place ≡ rangesNumber left bytes next
   unfolding rangesNumber
   range-right n left place next e f h low =
@@ -37,7 +39,8 @@ module _ (bytes : List ℕ) where
       (gives-later _ 50 _ (le-ltb (length bytes) (place + 4) h) ∙ gives-later _ 20 _ (le-ltb (wordAt bytes (place + 2)) (wordAt bytes place) low))
 
   -- one range's two values, and those after it
-  two-values : (place n : ℕ) → addressesAt bytes place (2 * suc n) ≡ wordAt bytes place ∷ wordAt bytes (place + 2) ∷ addressesAt bytes (place + 4) (2 * n)
+  two-values : (place n : ℕ)
+      → addressesAt bytes place (2 * suc n) ≡ wordAt bytes place ∷ wordAt bytes (place + 2) ∷ addressesAt bytes (place + 4) (2 * n)
   unfolding addressesAt
   two-values place n =
       let twice : 2 * suc n ≡ suc (suc (2 * n)) = omega arith in

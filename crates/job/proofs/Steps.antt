@@ -99,6 +99,7 @@ module _ (own flags : ℕ) (bytes : List ℕ) where
     left-over h = sym (here .is ∙ rw was (simp (lt-ltb (e .place + e .count) (length bytes) h)))
 
     pub whole : length bytes ≤ e .place + e .count
-        → reading.Job (record { own = own; flags = flags; «source_pass» = a; «source_reject» = b; «destination_pass» = c; «destination_reject» = d; batch = e })
+        → reading.Job (record
+        { own = own; flags = flags; «source_pass» = a; «source_reject» = b; «destination_pass» = c; «destination_reject» = d; batch = e })
         ≡ job
     whole h = sym (here .is ∙ rw was (simp (le-ltb (e .place + e .count) (length bytes) h)))

@@ -10,11 +10,11 @@ use borrow.Author.Tests.{lt-ltb, le-ltb, ltb-false, le-leb, lt-leb, leb-false, e
 use Rattle.octets.specs.Octets.{at, wordAt}
 use Rattle.octets.proofs.Numbering.{orElse-zero, gives-zero, gives-here, gives-later, gives-last, gives-none}
 use Rattle.pdu.proofs.Paths.{length-addresses}
-use Rattle.lists.specs.Lists.{faultOf, lowAboveHigh}
+use Rattle.lists.specs.Lists.{rangeLimit, faultOf, lowAboveHigh}
 use Rattle.job.specs.declared.Section.{Section}
 use Rattle.job.specs.declared.Taken.the-variants.{At, Refused}
 use Rattle.job.specs.Jobs.{rangesNumber, listNumber, batchNumber, takenOf, listAt, batchAt, listEnd, valuesIn}
-use Rattle.pdu.specs.Sizes.{rangeLimit, batchLimit}
+use Rattle.batch.specs.Walk.{batchLimit}
 use Rattle.job.proofs.Ranges.{ranges-right}
 
 -- a section's number decides
@@ -141,4 +141,5 @@ batch-in bytes place section e =
 -- its bytes begin behind its length
 pub batch-place : (bytes : List ℕ) (place : ℕ) (section : Section) → batchAt bytes place ≡ At section → section .place ≡ place + 2
 unfolding batchAt
-batch-place bytes place section e = ap (λ (s : Section). s .place) (taken-with (batchNumber bytes place) (place + 2) (wordAt bytes place) section e .1)
+batch-place bytes place section e =
+    ap (λ (s : Section). s .place) (taken-with (batchNumber bytes place) (place + 2) (wordAt bytes place) section e .1)

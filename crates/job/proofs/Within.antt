@@ -87,13 +87,15 @@ module _ (bytes : List ℕ) where
       and-within (list-within 3)
       (λ a. and-within (list-within (listEnd a))
       (λ b. and-within (list-within (listEnd b))
-      (λ c. and-within (list-within (listEnd c)) (λ d. and-within (batch-within (listEnd d)) (λ e. last-within (ltb (e .place + e .count) (length bytes)) _)))))
+      (λ c. and-within (list-within (listEnd c))
+      (λ d. and-within (batch-within (listEnd d)) (λ e. last-within (ltb (e .place + e .count) (length bytes)) _)))))
 
   head-within : headNumber (headOf bytes) ≤ 54
   unfolding headOf
   head-within = go (ltb (length bytes) 3) (ltb 63 (at bytes 2))
     where
-      go : (short wrong : Bool) → headNumber (cond short (head.Refused 50) (cond wrong (head.Refused 51) (head.Found (wordAt bytes 0) (at bytes 2)))) ≤ 54
+      go : (short wrong : Bool)
+          → headNumber (cond short (head.Refused 50) (cond wrong (head.Refused 51) (head.Found (wordAt bytes 0) (at bytes 2)))) ≤ 54
       go true wrong = omega arith
       go false true = omega arith
       go false false = omega arith

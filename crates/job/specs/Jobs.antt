@@ -7,11 +7,11 @@ use lib.Dec.{eqb, ltb, leb}
 use lib.ListN.{length, take, drop, replicate}
 use Rattle.octets.specs.Numbers.{_gives_, _orElse_}
 use Rattle.octets.specs.Octets.{at, wordAt}
-use Rattle.pdu.specs.Sizes.{rangeLimit, batchLimit}
+use Rattle.batch.specs.Walk.{batchLimit}
 use Rattle.pdu.specs.Parts.{addressesAt}
-use Rattle.lists.specs.Lists.{valueLimit}
+use Rattle.lists.specs.Lists.{rangeLimit, Lists, valueLimit}
 use Rattle.node.specs.declared.Settings.{Settings}
-use Rattle.node.specs.Decision.{Lists}
+use Rattle.node.specs.Decision.{Node, nodeOf}
 use Rattle.job.specs.declared.Head.{Head}
 use Rattle.job.specs.declared.Head.the-variants as head
 use Rattle.job.specs.declared.Section.{Section}
@@ -145,3 +145,7 @@ listsIn bytes job =
       destinationPass = valuesIn bytes (job .«destination_pass»);
       destinationReject = valuesIn bytes (job .«destination_reject»);
     }
+
+-- the node of a job
+abbrev pub nodeIn : List ℕ → Job → Node
+nodeIn bytes job = nodeOf (settingsOf job) (listsIn bytes job)

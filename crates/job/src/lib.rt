@@ -163,7 +163,7 @@ pub fn batch_at(bytes: &[u8], place: usize) -> Taken
     let count = wide(octets::word(bytes, place));
     let start = place + 2;
     let rest = bytes.len() - start;
-    if count > 16384 {
+    if count > batch::Cursor::BATCH_LIMIT {
         return Taken::Refused(54);
     }
     if rest < count {

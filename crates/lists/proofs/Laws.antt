@@ -12,7 +12,7 @@ use lib.ListN.{length, getD, drop, drop-of-length-le, length-drop}
 use lib.Seq.{drop-cons}
 use Rattle.octets.specs.Numbers.{_gives_, _orElse_}
 use Rattle.octets.proofs.Numbering.{orElse-zero, gives-here, gives-later}
-use Rattle.lists.specs.Lists.{lowAboveHigh, faultOf, firstFault, holds, four}
+use Rattle.lists.specs.Lists.{lowAboveHigh, faultOf, firstFault, holds}
 
 -- What is left to look at from a place on.
 unfoldable pub rangeFaultFrom : List ℕ → ℕ → ℕ
@@ -47,7 +47,8 @@ module _ (list : List ℕ) where
   unfolding faultOf rangeFaultFrom
   only-ranges h e = gives-later _ 22 _ (le-ltb 128 (length list) h) ∙ gives-later _ 21 _ (ne-eqb (length list % 2) 1 e)
 
-  pub range-right : (i j : ℕ) → i + 1 < length list → j ≡ i + 2 → getD list i 0 ≤ getD list (i + 1) 0 → rangeFaultFrom list i ≡ rangeFaultFrom list j
+  pub range-right : (i j : ℕ) → i + 1 < length list → j ≡ i + 2 → getD list i 0 ≤ getD list (i + 1) 0
+      → rangeFaultFrom list i ≡ rangeFaultFrom list j
   unfolding lowAboveHigh rangeFaultFrom
   range-right i j h e g = rw (drop-two list i j h e) (simp (le-ltb (getD list (i + 1) 0) (getD list i 0) g))
 
@@ -65,11 +66,13 @@ module _ (lists : List (List ℕ)) where
   unfolding firstFaultFrom
   lists-start = refl
 
-  pub list-right : (k : ℕ) (list : List ℕ) → k < length lists → list ≡ getD lists k [] → faultOf list ≡ 0 → firstFaultFrom lists k ≡ firstFaultFrom lists (k + 1)
+  pub list-right : (k : ℕ) (list : List ℕ) → k < length lists → list ≡ getD lists k [] → faultOf list ≡ 0
+      → firstFaultFrom lists k ≡ firstFaultFrom lists (k + 1)
   unfolding firstFault firstFaultFrom _orElse_
   list-right k list h is e = rw (drop-one lists k [] h, ← is, e)
 
-  pub list-wrong : (k n : ℕ) (list : List ℕ) → k < length lists → list ≡ getD lists k [] → faultOf list ≡ n → 0 < n → firstFaultFrom lists k ≡ n
+  pub list-wrong : (k n : ℕ) (list : List ℕ) → k < length lists → list ≡ getD lists k [] → faultOf list ≡ n → 0 < n
+      → firstFaultFrom lists k ≡ n
   unfolding firstFault firstFaultFrom _orElse_
   list-wrong k zero list h is e p = absurd (omega arith)
   list-wrong k (suc n) list h is e p = rw (drop-one lists k [] h, ← is, e)
@@ -77,23 +80,6 @@ module _ (lists : List (List ℕ)) where
   pub lists-end : (k : ℕ) → length lists ≤ k → firstFaultFrom lists k ≡ 0
   unfolding firstFault firstFaultFrom
   lists-end k h = rw (drop-of-length-le lists h)
-
--- What a caller has of four lists without fault.
-pub record NoFault (sourcePass sourceReject destinationPass destinationReject : List ℕ) : Type 0 where
-  pub source-pass : faultOf sourcePass ≡ 0
-  pub source-reject : faultOf sourceReject ≡ 0
-  pub destination-pass : faultOf destinationPass ≡ 0
-  pub destination-reject : faultOf destinationReject ≡ 0
-
-pub no-fault : (sourcePass sourceReject destinationPass destinationReject : List ℕ)
-    → firstFault (four sourcePass sourceReject destinationPass destinationReject) ≡ 0 → NoFault sourcePass sourceReject destinationPass destinationReject
-unfolding firstFault
-no-fault sourcePass sourceReject destinationPass destinationReject e =
-    let one = orElse-zero _ _ e in
-    let two = orElse-zero _ _ (one .1) in
-    let three = orElse-zero _ _ (two .1) in
-    let last = orElse-zero _ _ (three .1) in
-    record { source-pass = one .0; source-reject = two .0; destination-pass = three .0; destination-reject = last .0 }
 
 -- A list without a whole range: no values, or one without a partner.
 holds-none : (list : List ℕ) (address : ℕ) → length list ≤ 1 → holds list address ≡ false
@@ -120,7 +106,8 @@ module _ (list : List ℕ) (address : ℕ) where
   unfolding holds holdsFrom
   below-low i j h e low = rw (drop-two list i j h e) (simp (lt-leb (getD list i 0) address low))
 
-  pub above-high : (i j : ℕ) → i + 1 < length list → j ≡ i + 2 → getD list i 0 ≤ address → getD list (i + 1) 0 < address → holdsFrom list i address ≡ holdsFrom list j address
+  pub above-high : (i j : ℕ) → i + 1 < length list → j ≡ i + 2 → getD list i 0 ≤ address → getD list (i + 1) 0 < address
+      → holdsFrom list i address ≡ holdsFrom list j address
   unfolding holds holdsFrom
   above-high i j h e low high =
       rw (drop-two list i j h e) (simp (le-leb (getD list i 0) address low, lt-leb address (getD list (i + 1) 0) high))
@@ -150,7 +137,8 @@ next-low range = omega arith
 next-high : (range : ℕ) → 2 * suc range + 1 ≡ suc (suc (2 * range + 1))
 next-high range = omega arith
 
-first-range : (low high : ℕ) (ranges : List ℕ) (address : ℕ) → (leb low address && leb address high) ≡ true → InRange (low ∷ high ∷ ranges) address
+first-range : (low high : ℕ) (ranges : List ℕ) (address : ℕ) → (leb low address && leb address high) ≡ true
+    → InRange (low ∷ high ∷ ranges) address
 first-range low high ranges address e =
     let (from, to) = both (leb low address) (leb address high) e in
     record { range = 0; within = omega arith; from-low = leb-true _ _ from; to-high = leb-true _ _ to }
@@ -172,13 +160,15 @@ held-in-range (low ∷ []) address e = absurd (false≢true e)
 held-in-range (low ∷ high ∷ ranges) address e =
     ⊎-elim (first-range low high ranges address) (λ h. later-range low high (held-in-range ranges address h)) (either _ _ e)
 
-held-at : (list : List ℕ) (address range : ℕ) → 2 * range + 1 < length list → getD list (2 * range) 0 ≤ address → address ≤ getD list (2 * range + 1) 0 → holds list address ≡ true
+held-at : (list : List ℕ) (address range : ℕ) → 2 * range + 1 < length list → getD list (2 * range) 0 ≤ address
+    → address ≤ getD list (2 * range + 1) 0 → holds list address ≡ true
 unfolding holds
 held-at [] address range within from to = absurd (omega arith)
 held-at (low ∷ []) address range within from to = absurd (omega arith)
 held-at (low ∷ high ∷ ranges) address zero within from to = simp (le-leb low address from, le-leb address high to)
 held-at (low ∷ high ∷ ranges) address (suc range) within from to =
-    rw (held-at ranges address range (omega arith) (rw (next-low range) at from) (rw (next-high range) at to)) (or-true (leb low address && leb address high))
+    rw (held-at ranges address range (omega arith) (rw (next-low range) at from) (rw (next-high range) at to))
+    (or-true (leb low address && leb address high))
 
 pub in-range-held : {list : List ℕ} {address : ℕ} → InRange list address → holds list address ≡ true
 in-range-held {list} {address} r = held-at list address (r .range) (r .within) (r .from-low) (r .to-high)

@@ -12,7 +12,10 @@ lowAboveHigh [] = false
 lowAboveHigh (low ∷ []) = false
 lowAboveHigh (low ∷ high ∷ ranges) = ltb high low || lowAboveHigh ranges
 
--- the most values that a list has ("Numbers answered", 22): two for each of the 64 ranges of "Sizes"
+-- each list holds 0 to 64 ranges ("Sizes"), and so at most 128 values ("Numbers answered", 22)
+abbrev pub rangeLimit : ℕ
+rangeLimit = 64
+
 abbrev pub valueLimit : ℕ
 valueLimit = 128
 
@@ -31,6 +34,20 @@ holds [] address = false
 holds (low ∷ []) address = false
 holds (low ∷ high ∷ ranges) address = (leb low address && leb address high) || holds ranges address
 
--- the four lists in the order in which they are checked ("One PDU at one node", 1)
-abbrev pub four : List ℕ → List ℕ → List ℕ → List ℕ → List (List ℕ)
-four sourcePass sourceReject destinationPass destinationReject = sourcePass ∷ sourceReject ∷ destinationPass ∷ destinationReject ∷ []
+-- the four lists of a node ("One PDU at one node", 1)
+pub record Lists : Type 0 where
+  pub sourcePass : List ℕ
+  pub sourceReject : List ℕ
+  pub destinationPass : List ℕ
+  pub destinationReject : List ℕ
+
+abbrev pub listsOf : List ℕ → List ℕ → List ℕ → List ℕ → Lists
+listsOf a b c d = record { sourcePass = a; sourceReject = b; destinationPass = c; destinationReject = d }
+
+-- in the order in which they are checked
+abbrev pub inOrder : Lists → List (List ℕ)
+inOrder lists = lists .sourcePass ∷ lists .sourceReject ∷ lists .destinationPass ∷ lists .destinationReject ∷ []
+
+-- the number of the first of the four that has a fault; 0 where none has
+abbrev pub listFault : Lists → ℕ
+listFault lists = firstFault (inOrder lists)

@@ -3,7 +3,7 @@ ghost use mathlib.Core.Path.{_≡_};
 ghost use mathlib.Core.List.{[]};
 ghost use Prim.Native.Nat.{_<_};
 ghost use lib.ListN.{getD};
-ghost use Rattle.lists.specs.Lists.{four, firstFault, holds};
+ghost use Rattle.lists.specs.Lists.{listsOf, inOrder, listFault, holds};
 
 // The list at place `k` of the four.
 fn nth<'a>(
@@ -14,7 +14,8 @@ fn nth<'a>(
     k: usize,
 ) -> &'a [u16]
     requires { ⌜ k < 4 ⌝ }
-    ensures { λ r. ⌜ now r ≡ getD (four (now («source_pass» .entry)) (now («source_reject» .entry)) (now («destination_pass» .entry)) (now («destination_reject» .entry))) k [] ⌝ }
+    ensures { λ r. ⌜ now r ≡ getD (inOrder (listsOf (now («source_pass» .entry)) (now («source_reject» .entry))
+        (now («destination_pass» .entry)) (now («destination_reject» .entry)))) k [] ⌝ }
 {
     match k {
         0 => source_pass,
@@ -33,7 +34,8 @@ pub fn fault<'a>(
     destination_pass: &'a [u16],
     destination_reject: &'a [u16],
 ) -> u8
-    ensures { λ r. ⌜ r ≡ firstFault (four (now («source_pass» .entry)) (now («source_reject» .entry)) (now («destination_pass» .entry)) (now («destination_reject» .entry))) ⌝ }
+    ensures { λ r. ⌜ r ≡ listFault (listsOf (now («source_pass» .entry)) (now («source_reject» .entry))
+        (now («destination_pass» .entry)) (now («destination_reject» .entry))) ⌝ }
 {
     let mut number: u8 = 0;
     'lists: for k in 0..4 {

@@ -1,31 +1,32 @@
--- The answers of the layer as the values that C sees, and what C gives as the layer's settings. What the values mean is defined below this crate.
+-- The answers of the layer as the values that C sees where the layer has an enum, and what C gives for one. `Written`, a node's `Settings` and
+-- `Answer`
+-- and a walk's `Cursor` go through as they are. What the values mean is defined below this crate.
 use Prim.Native.Nat.{ℕ}
 use mathlib.Core.Bool.{Bool, true, false, cond}
-use mathlib.Core.List.{List}
+use mathlib.Core.List.{List, []}
+use mathlib.Core.Path.{_≡_}
+use lib.ListN.{length}
 use Rattle.pdu.specs.declared.Destination.{Destination}
 use Rattle.pdu.specs.declared.Destination.the-variants.{Everyone, Address}
 use Rattle.pdu.specs.declared.Header.{Header}
 use Rattle.pdu.specs.declared.Reading.{Reading}
 use Rattle.pdu.specs.declared.Reading.the-variants.{Pdu, Refused}
-use Rattle.pdu.specs.declared.Written.{Written}
-use Rattle.pdu.specs.Sizes.{fixedLength, payloadLimit, pathLimit, headerLimit, pduLimit, batchLimit, headerLength, pduLength}
+use Rattle.pdu.specs.Header.{headerOf}
+use Rattle.pdu.specs.Sizes.{fixedLength, payloadLimit, pathLimit, headerLimit, pduLimit, headerLength, pduLength}
 use Rattle.pdu.specs.Reading.{refusalNumber}
 use Rattle.pdu.specs.Parts.{pathIn, pathAddress, inPath}
 use Rattle.lists.specs.Lists.{valueLimit}
 use Rattle.origin.specs.declared.Settings as origin
-use Rattle.node.specs.declared.Settings as node
-use Rattle.node.specs.declared.Answer.{Answer}
+use Rattle.node.specs.Decision.{Node}
+use Rattle.node.specs.Answers.{twice}
 use Rattle.batch.specs.declared.Cursor.{Cursor}
 use Rattle.batch.specs.declared.Stepped.{Stepped}
 use Rattle.batch.specs.declared.Stepped.the-variants.{TooLong, Ended, Answered}
+use Rattle.batch.specs.Walk.{batchLimit, stepOf, stepOutput}
 use Rattle.bound.specs.declared.Bound.{Bound}
 use Rattle.bound.specs.declared.Bound.the-variants.{Exactly, TooLarge, HopRefused}
 use Rattle.mant.specs.declared.MantHeader.{MantHeader}
-use Rattle.mant.specs.declared.MantWritten.{MantWritten}
 use Rattle.mant.specs.declared.MantFresh.{MantFresh}
-use Rattle.mant.specs.declared.MantNode.{MantNode}
-use Rattle.mant.specs.declared.MantAnswer.{MantAnswer}
-use Rattle.mant.specs.declared.MantCursor.{MantCursor}
 use Rattle.mant.specs.declared.MantStep.{MantStep}
 use Rattle.mant.specs.declared.MantBound.{MantBound}
 use Rattle.mant.specs.declared.MantLimits.{MantLimits}
@@ -43,11 +44,11 @@ destinationAddress (Address address) = address
 abbrev pub destinationFromC : Bool → ℕ → Destination
 destinationFromC present address = cond present (Address address) Everyone
 
--- the fields of a header that was read, number 0 ("Numbers answered"), with the lengths that follow from them ("Sizes")
-abbrev pub shownHeader : Header → MantHeader
-shownHeader header =
+-- the fields of a header, with a number and two lengths ("Header, byte by byte")
+abbrev pub fieldsInC : ℕ → Header → ℕ → ℕ → MantHeader
+fieldsInC number header ofHeader ofPdu =
     record {
-      number = 0;
+      number = number;
       protocol = header .protocol;
       «time_stamp_request» = header .«time_stamp_request»;
       «path_bit» = header .«path_bit»;
@@ -63,33 +64,17 @@ shownHeader header =
       destination = destinationAddress (header .destination);
       «pdu_id» = header .«pdu_id»;
       «path_count» = header .«path_count»;
-      «header_length» = headerLength header;
-      «pdu_length» = pduLength header;
+      «header_length» = ofHeader;
+      «pdu_length» = ofPdu;
     }
 
--- a refusal: its number alone, every field 0 or false ("Numbers answered": a length given with a refusal is 0)
+-- of a header that was read: number 0, and the lengths that follow from its fields ("Sizes")
+abbrev pub shownHeader : Header → MantHeader
+shownHeader header = fieldsInC 0 header (headerLength header) (pduLength header)
+
+-- a refusal: its number, the fields of no bytes, lengths 0 ("Numbers answered": a length given with a refusal is 0)
 abbrev pub refusedHeader : ℕ → MantHeader
-refusedHeader number =
-    record {
-      number = number;
-      protocol = 0;
-      «time_stamp_request» = false;
-      «path_bit» = false;
-      «has_destination» = false;
-      port = 0;
-      encrypted = false;
-      reserved = 0;
-      ack = false;
-      «added_header» = false;
-      «hop_limit» = 0;
-      «payload_length» = 0;
-      source = 0;
-      destination = 0;
-      «pdu_id» = 0;
-      «path_count» = 0;
-      «header_length» = 0;
-      «pdu_length» = 0;
-    }
+refusedHeader number = fieldsInC number (headerOf []) 0 0
 
 -- what reading answers ("Numbers answered", 1 to 6)
 abbrev pub headerInC : Reading → MantHeader
@@ -105,10 +90,6 @@ abbrev pub pathHas : Reading → List ℕ → ℕ → Bool
 pathHas (Pdu header) bytes address = inPath address (pathIn header bytes)
 pathHas (Refused refusal) bytes address = false
 
--- what writing answers, field by field
-abbrev pub writtenInC : Written → MantWritten
-writtenInC written = record { number = written .number; length = written .length }
-
 -- the settings of a fresh PDU, field by field ("Origination")
 abbrev pub freshFromC : MantFresh → origin.Settings
 freshFromC settings =
@@ -123,52 +104,20 @@ freshFromC settings =
       «pdu_id» = settings .«pdu_id»;
     }
 
--- the settings of a node, field by field ("One PDU at one node")
-abbrev pub nodeFromC : MantNode → node.Settings
-nodeFromC settings =
-    record {
-      own = settings .own;
-      echo = settings .echo;
-      repeating = settings .repeating;
-      «source_pass» = settings .«source_pass»;
-      «source_reject» = settings .«source_reject»;
-      «destination_pass» = settings .«destination_pass»;
-      «destination_reject» = settings .«destination_reject»;
-    }
-
--- a node's answer, field by field
-abbrev pub answerInC : Answer → MantAnswer
-answerInC answer =
-    record {
-      delivery = answer .delivery;
-      repeat = answer .repeat;
-      «delivered_place» = answer .«delivered_place»;
-      «delivered_length» = answer .«delivered_length»;
-      «repeated_length» = answer .«repeated_length»;
-      taken = answer .taken;
-    }
-
--- a cursor, field by field
-abbrev pub cursorFromC : MantCursor → Cursor
-cursorFromC cursor = record { place = cursor .place; ended = cursor .ended }
-
-abbrev pub cursorInC : Cursor → MantCursor
-cursorInC cursor = record { place = cursor .place; ended = cursor .ended }
-
--- a number that comes alone, in both fields for numbers
-abbrev pub numberAlone : ℕ → MantAnswer
-numberAlone number =
-    record { delivery = number; repeat = number; «delivered_place» = 0; «delivered_length» = 0; «repeated_length» = 0; taken = 0 }
-
 -- a walk that ends has no answer and so no number; C's two fields for numbers are there all the same, and hold 255, which 01 gives to nothing
 abbrev pub noNumber : ℕ
 noNumber = 255
 
 -- a step ("A batch"): kind 0 with an answer; 1 where the walk ends with no answer; 2 with 54 alone. After 1 and 2 the cursor stays and has ended
-abbrev pub stepInC : MantCursor → Stepped → MantStep
-stepInC cursor (Answered answer next) = record { kind = 0; answer = answerInC answer; next = cursorInC next }
-stepInC cursor Ended = record { kind = 1; answer = numberAlone noNumber; next = record { place = cursor .place; ended = true } }
-stepInC cursor TooLong = record { kind = 2; answer = numberAlone 54; next = record { place = cursor .place; ended = true } }
+abbrev pub stepInC : Cursor → Stepped → MantStep
+stepInC cursor (Answered answer next) = record { kind = 0; answer = answer; next = next }
+stepInC cursor Ended = record { kind = 1; answer = twice noNumber 0; next = record { place = cursor .place; ended = true } }
+stepInC cursor TooLong = record { kind = 2; answer = twice 54 0; next = record { place = cursor .place; ended = true } }
+
+-- what a step answers and leaves in the output
+abbrev pub StepsInC : Node → List ℕ → Cursor → List ℕ → MantStep → List ℕ → Type 0
+StepsInC node batch cursor output step left =
+    (step ≡ stepInC cursor (stepOf node (length output) batch cursor)) × (left ≡ stepOutput node batch cursor output)
 
 -- a bound: the value, that it is too large, or number 10 ("Numbers answered"); the value is 0 where there is none
 abbrev pub boundInC : Bound → MantBound
@@ -179,4 +128,13 @@ boundInC HopRefused = record { number = 10; «too_large» = false; value = 0 }
 -- "Sizes"; a list of 64 ranges has 128 values ("Numbers answered", 22)
 abbrev pub limitsInC : MantLimits
 limitsInC =
-    record { fixed = fixedLength; payload = payloadLimit; path = pathLimit; header = headerLimit; pdu = pduLimit; list = valueLimit; batch = batchLimit }
+    record {
+      fixed = fixedLength;
+      payload = payloadLimit;
+      path = pathLimit;
+      header = headerLimit;
+      pdu = pduLimit;
+      list = valueLimit;
+      batch =
+          batchLimit;
+    }

@@ -6,14 +6,17 @@ ghost use lib.ListN.{length};
 ghost use Rattle.pdu.specs.Reading.{readOf};
 ghost use Rattle.writing.specs.Writing.{writeAgain, writtenAgain};
 ghost use Rattle.origin.specs.Origination.{originated, originatedOutput};
-ghost use Rattle.lists.specs.Lists.{four, firstFault, holds};
-ghost use Rattle.node.specs.Decision.{listsOf};
-ghost use Rattle.node.specs.Answers.{answerOf, outputAfter};
-ghost use Rattle.batch.specs.Walk.{stepOf, stepOutput};
+ghost use Rattle.lists.specs.Lists.{listsOf, listFault, holds};
+ghost use Rattle.node.specs.Decision.{nodeOf};
+ghost use Rattle.node.specs.Answers.{Hears};
 ghost use Rattle.bound.specs.Bound.{bound, bytesBound};
 ghost use Rattle.bound.specs.Answer.{answer};
-ghost use Rattle.mant.specs.Boundary.{headerInC, pathAddressIn, pathHas, writtenInC, freshFromC, nodeFromC, answerInC, cursorFromC, stepInC, boundInC, limitsInC};
+ghost use Rattle.mant.specs.Boundary.{headerInC, pathAddressIn, pathHas, freshFromC, StepsInC, boundInC, limitsInC};
+use batch::Cursor;
+use node::Answer;
+use node::Settings;
 use pdu::Reading;
+use pdu::Written;
 
 // What `mant_read` answers: 0 or 1 to 6, and of a PDU every field of its header in document 01's order, the header's length and the PDU's.
 // With a refusal all fields after the number are 0 and false.
@@ -39,13 +42,6 @@ pub struct MantHeader {
     pub pdu_length: usize,
 }
 
-// What writing answers: 0 and how many bytes were written, or the refusal's number and 0.
-#[repr(C)]
-pub struct MantWritten {
-    pub number: u8,
-    pub length: usize,
-}
-
 // What a caller asks of a fresh PDU. `destination` counts where `has_destination` is set. Hop limit and port are wider than their bits, so that
 // a number too large arrives whole and is refused.
 #[repr(C)]
@@ -61,45 +57,14 @@ pub struct MantFresh {
     pub pdu_id: u8,
 }
 
-// What a node is set to; each of the four lists is on or off.
-#[repr(C)]
-pub struct MantNode {
-    pub own: u16,
-    pub echo: bool,
-    pub repeating: bool,
-    pub source_pass: bool,
-    pub source_reject: bool,
-    pub destination_pass: bool,
-    pub destination_reject: bool,
-}
-
-// What a node answers for one PDU. Place and length of the delivered payload are 0 where nothing is delivered, `repeated_length` is 0 where
-// nothing is repeated. `taken` is where the next PDU begins in the received bytes, and 0 where a list is at fault or no PDU can be read.
-#[repr(C)]
-pub struct MantAnswer {
-    pub delivery: u8,
-    pub repeat: u8,
-    pub delivered_place: usize,
-    pub delivered_length: usize,
-    pub repeated_length: usize,
-    pub taken: usize,
-}
-
-// Where a walk has come to. It begins with place 0 and not ended.
-#[repr(C)]
-pub struct MantCursor {
-    pub place: usize,
-    pub ended: bool,
-}
-
 // What one step of a walk finds. Kind 0: a PDU's answer and the cursor of the next. Kind 1: no more PDU, so no answer; its fields for numbers hold
 // 255, which is no number. Kind 2: the batch is too long, both numbers are 54. With kinds 1 and 2 the rest of the answer is 0 and the next cursor
 // is the one given, ended.
 #[repr(C)]
 pub struct MantStep {
     pub kind: u8,
-    pub answer: MantAnswer,
-    pub next: MantCursor,
+    pub answer: Answer,
+    pub next: Cursor,
 }
 
 // A bound: number 0 and the value; or 10 for a hop limit above 7; or that the value is too large for 64 bits. The value is 0 in the last two.
@@ -165,25 +130,21 @@ pub extern "C" fn mant_path_has(bytes: &[u8], address: u16) -> bool
 // PDU and 14 where the output is too short, with length 0 and the output as it was. Output past the PDU keeps its bytes.
 // Document 01, "Numbers answered", a PDU written again.
 #[no_mangle]
-pub extern "C" fn mant_write_again(bytes: &[u8], output: &mut [u8]) -> MantWritten
-    ensures { λ r. ⌜ (r ≡ writtenInC (writeAgain (now (bytes .entry)) (length (now (output .entry)))))
+pub extern "C" fn mant_write_again(bytes: &[u8], output: &mut [u8]) -> Written
+    ensures { λ r. ⌜ (r ≡ writeAgain (now (bytes .entry)) (length (now (output .entry))))
         × (now (output .exit) ≡ writtenAgain (now (bytes .entry)) (now (output .entry))) ⌝ }
 {
-    values::written_in_c(writing::write_again(bytes, output))
+    writing::write_again(bytes, output)
 }
 
 // Writes a fresh PDU at the start of the output and answers 0 and its length, or 10 to 14 with length 0 and the output as it was. The PDU ID
 // counts for reliable service only. Output past the PDU keeps its bytes. Document 01, "Origination", and "Numbers answered", 10 to 14.
 #[no_mangle]
-pub extern "C" fn mant_originate(
-    settings: MantFresh,
-    payload: &[u8],
-    output: &mut [u8],
-) -> MantWritten
-    ensures { λ r. ⌜ (r ≡ writtenInC (originated (freshFromC settings) (now (payload .entry)) (length (now (output .entry)))))
+pub extern "C" fn mant_originate(settings: MantFresh, payload: &[u8], output: &mut [u8]) -> Written
+    ensures { λ r. ⌜ (r ≡ originated (freshFromC settings) (now (payload .entry)) (length (now (output .entry))))
         × (now (output .exit) ≡ originatedOutput (freshFromC settings) (now (payload .entry)) (now (output .entry))) ⌝ }
 {
-    values::written_in_c(origin::originate(values::fresh_from_c(settings), payload, output))
+    origin::originate(values::fresh_from_c(settings), payload, output)
 }
 
 // The number of the first of the four lists that has a fault, 22, 21 or 20, and 0 where none has. An empty list has none.
@@ -195,7 +156,8 @@ pub extern "C" fn mant_list_fault<'a>(
     destination_pass: &'a [u16],
     destination_reject: &'a [u16],
 ) -> u8
-    ensures { λ r. ⌜ r ≡ firstFault (four (now («source_pass» .entry)) (now («source_reject» .entry)) (now («destination_pass» .entry)) (now («destination_reject» .entry))) ⌝ }
+    ensures { λ r. ⌜ r ≡ listFault (listsOf (now («source_pass» .entry)) (now («source_reject» .entry))
+        (now («destination_pass» .entry)) (now («destination_reject» .entry))) ⌝ }
 {
     lists::fault(
         source_pass,
@@ -219,25 +181,27 @@ pub extern "C" fn mant_list_holds(list: &[u16], address: u16) -> bool
 // the output keeps its bytes past it; with any other repeat number the output is left as it was. Document 01, "One PDU at one node".
 #[no_mangle]
 pub extern "C" fn mant_hear<'a>(
-    settings: MantNode,
+    settings: Settings,
     source_pass: &'a [u16],
     source_reject: &'a [u16],
     destination_pass: &'a [u16],
     destination_reject: &'a [u16],
     received: &[u8],
     output: &mut [u8],
-) -> MantAnswer
-    ensures { λ r. ⌜ (r ≡ answerInC (answerOf (nodeFromC settings) (listsOf (now («source_pass» .entry)) (now («source_reject» .entry)) (now («destination_pass» .entry)) (now («destination_reject» .entry))) (length (now (output .entry))) (now (received .entry)))) × (now (output .exit) ≡ outputAfter (nodeFromC settings) (listsOf (now («source_pass» .entry)) (now («source_reject» .entry)) (now («destination_pass» .entry)) (now («destination_reject» .entry))) (now (received .entry)) (now (output .entry))) ⌝ }
+) -> Answer
+    ensures { λ r. ⌜ Hears (nodeOf settings (listsOf (now («source_pass» .entry)) (now («source_reject» .entry))
+        (now («destination_pass» .entry)) (now («destination_reject» .entry))))
+        (now (received .entry)) (now (output .entry)) r (now (output .exit)) ⌝ }
 {
-    values::answer_in_c(node::hear(
-        values::node_from_c(settings),
+    node::hear(
+        settings,
         source_pass,
         source_reject,
         destination_pass,
         destination_reject,
         received,
         output,
-    ))
+    )
 }
 
 // One step of the walk over a batch: the node's answer for the PDU at the cursor, and the cursor of the next. With a number 1 to 6 or a fault of the
@@ -246,25 +210,27 @@ pub extern "C" fn mant_hear<'a>(
 // Document 01, "A batch".
 #[no_mangle]
 pub extern "C" fn mant_step<'a>(
-    settings: MantNode,
+    settings: Settings,
     source_pass: &'a [u16],
     source_reject: &'a [u16],
     destination_pass: &'a [u16],
     destination_reject: &'a [u16],
     batch: &[u8],
-    cursor: MantCursor,
+    cursor: Cursor,
     output: &mut [u8],
 ) -> MantStep
-    ensures { λ r. ⌜ (r ≡ stepInC cursor (stepOf (nodeFromC settings) (listsOf (now («source_pass» .entry)) (now («source_reject» .entry)) (now («destination_pass» .entry)) (now («destination_reject» .entry))) (length (now (output .entry))) (now (batch .entry)) (cursorFromC cursor))) × (now (output .exit) ≡ stepOutput (nodeFromC settings) (listsOf (now («source_pass» .entry)) (now («source_reject» .entry)) (now («destination_pass» .entry)) (now («destination_reject» .entry))) (now (batch .entry)) (cursorFromC cursor) (now (output .entry))) ⌝ }
+    ensures { λ r. ⌜ StepsInC (nodeOf settings (listsOf (now («source_pass» .entry)) (now («source_reject» .entry))
+        (now («destination_pass» .entry)) (now («destination_reject» .entry))))
+        (now (batch .entry)) cursor (now (output .entry)) r (now (output .exit)) ⌝ }
 {
     let stepped = batch::step(
-        values::node_from_c(settings),
+        settings,
         source_pass,
         source_reject,
         destination_pass,
         destination_reject,
         batch,
-        values::cursor_from_c(cursor),
+        cursor,
         output,
     );
     values::step_in_c(cursor, stepped)

@@ -1,21 +1,17 @@
 // The inner answers as the values that C sees, and what C gives as the inner settings.
-use super::MantAnswer;
 use super::MantBound;
-use super::MantCursor;
 use super::MantFresh;
 use super::MantHeader;
-use super::MantNode;
 use super::MantStep;
-use super::MantWritten;
 use batch::Cursor;
 use batch::Stepped;
 use bound::Bound;
 use node::Answer;
 use pdu::Destination;
 use pdu::Header;
-use pdu::Written;
 ghost use mathlib.Core.Path.{_≡_};
-ghost use Rattle.mant.specs.Boundary.{hasDestination, destinationAddress, refusedHeader, shownHeader, writtenInC, destinationFromC, freshFromC, nodeFromC, answerInC, cursorInC, cursorFromC, numberAlone, stepInC, boundInC};
+ghost use Rattle.node.specs.Answers.{twice};
+ghost use Rattle.mant.specs.Boundary.{hasDestination, destinationAddress, refusedHeader, shownHeader, destinationFromC, freshFromC, stepInC, boundInC};
 
 // What the fields for numbers hold where there is no answer.
 const NO_NUMBER: u8 = 255;
@@ -99,15 +95,6 @@ fn destination_from_c(present: bool, address: u16) -> Destination
     }
 }
 
-pub(crate) fn written_in_c(written: Written) -> MantWritten
-    ensures { λ r. ⌜ r ≡ writtenInC written ⌝ }
-{
-    MantWritten {
-        number: written.number,
-        length: written.length,
-    }
-}
-
 pub(crate) fn fresh_from_c(settings: MantFresh) -> origin::Settings
     ensures { λ r. ⌜ r ≡ freshFromC settings ⌝ }
 {
@@ -123,37 +110,10 @@ pub(crate) fn fresh_from_c(settings: MantFresh) -> origin::Settings
     }
 }
 
-pub(crate) fn node_from_c(settings: MantNode) -> node::Settings
-    ensures { λ r. ⌜ r ≡ nodeFromC settings ⌝ }
+fn number_alone(number: u8) -> Answer
+    ensures { λ r. ⌜ r ≡ twice number 0 ⌝ }
 {
-    node::Settings {
-        own: settings.own,
-        echo: settings.echo,
-        repeating: settings.repeating,
-        source_pass: settings.source_pass,
-        source_reject: settings.source_reject,
-        destination_pass: settings.destination_pass,
-        destination_reject: settings.destination_reject,
-    }
-}
-
-pub(crate) fn answer_in_c(answer: Answer) -> MantAnswer
-    ensures { λ r. ⌜ r ≡ answerInC answer ⌝ }
-{
-    MantAnswer {
-        delivery: answer.delivery,
-        repeat: answer.repeat,
-        delivered_place: answer.delivered_place,
-        delivered_length: answer.delivered_length,
-        repeated_length: answer.repeated_length,
-        taken: answer.taken,
-    }
-}
-
-fn number_alone(number: u8) -> MantAnswer
-    ensures { λ r. ⌜ r ≡ numberAlone number ⌝ }
-{
-    MantAnswer {
+    Answer {
         delivery: number,
         repeat: number,
         delivered_place: 0,
@@ -163,36 +123,18 @@ fn number_alone(number: u8) -> MantAnswer
     }
 }
 
-pub(crate) fn cursor_from_c(cursor: MantCursor) -> Cursor
-    ensures { λ r. ⌜ r ≡ cursorFromC cursor ⌝ }
-{
-    Cursor {
-        place: cursor.place,
-        ended: cursor.ended,
-    }
-}
-
-fn cursor_in_c(cursor: Cursor) -> MantCursor
-    ensures { λ r. ⌜ r ≡ cursorInC cursor ⌝ }
-{
-    MantCursor {
-        place: cursor.place,
-        ended: cursor.ended,
-    }
-}
-
-pub(crate) fn step_in_c(cursor: MantCursor, stepped: Stepped) -> MantStep
+pub(crate) fn step_in_c(cursor: Cursor, stepped: Stepped) -> MantStep
     ensures { λ r. ⌜ r ≡ stepInC cursor stepped ⌝ }
 {
-    let ended = MantCursor {
+    let ended = Cursor {
         place: cursor.place,
         ended: true,
     };
     match stepped {
         Stepped::Answered(answer, next) => MantStep {
             kind: 0,
-            answer: answer_in_c(answer),
-            next: cursor_in_c(next),
+            answer,
+            next,
         },
         Stepped::Ended => MantStep {
             kind: 1,

@@ -19,16 +19,11 @@ use Rattle.pdu.specs.Header.{headerOf}
 use Rattle.pdu.specs.Sizes.{headerLength, pduLength}
 use Rattle.pdu.specs.Reading.{readOf, readingNumber, refusalNumber}
 use Rattle.pdu.proofs.Inversion.{shown}
-use Rattle.lists.specs.Lists.{four, firstFault}
-use Rattle.node.specs.declared.Settings.{Settings}
+use Rattle.lists.specs.Lists.{listFault}
 use Rattle.node.specs.declared.Answer.{Answer}
-use Rattle.node.specs.Decision.{Lists, passFault, deliveryFault, repeatFault, listOrReadingFault, givenTwice, deliveryNumber, repeatNumber, taken}
+use Rattle.node.specs.Decision.{Node, dropFault, deliveryFault, repeatFault, roomFault, listOrReadingFault, stopFault, deliveryNumber, repeatNumber, taken}
 use Rattle.node.specs.Repeat.{repeated, repeatedLength}
-use Rattle.node.specs.Answers.{answerOf, outputAfter}
-
--- one number twice, nothing delivered and nothing repeated
-abbrev pub twice : ℕ → ℕ → Answer
-twice n bytes = record { delivery = n; repeat = n; «delivered_place» = 0; «delivered_length» = 0; «repeated_length» = 0; taken = bytes }
+use Rattle.node.specs.Answers.{answerOf, twice, outputAfter, Hears}
 
 -- the answer for a PDU with this header
 abbrev pub whole : Header → ℕ → ℕ → ℕ → Answer
@@ -42,9 +37,11 @@ whole header d r n =
       taken = pduLength header;
     }
 
-pub whole-is : (header : Header) (d r n place long bytes : ℕ) → place ≡ cond (eqb d 0) (headerLength header) 0 → long ≡ cond (eqb d 0) (header .«payload_length») 0
+pub whole-is : (header : Header) (d r n place long bytes : ℕ) → place ≡ cond (eqb d 0) (headerLength header) 0
+    → long ≡ cond (eqb d 0) (header .«payload_length») 0
     → bytes ≡ pduLength header
-    → _≡_ {A = Answer} (record { delivery = d; repeat = r; «delivered_place» = place; «delivered_length» = long; «repeated_length» = n; taken = bytes }) (whole header d r n)
+    → _≡_ {A = Answer} (record
+    { delivery = d; repeat = r; «delivered_place» = place; «delivered_length» = long; «repeated_length» = n; taken = bytes }) (whole header d r n)
 whole-is header d r n place long bytes e1 e2 e3 =
     λ i. record { delivery = d; repeat = r; «delivered_place» = e1 i; «delivered_length» = e2 i; «repeated_length» = n; taken = e3 i }
 
@@ -60,112 +57,112 @@ module _ (n room long : ℕ) (output written now : List ℕ) (e : (n ≡ cond (l
   pub was-room : (n ≡ 0 → ⊥) → (long ≤ room) × (n ≡ long) × (now ≡ written)
   was-room ne = go (ltb room long) refl (e .0) (e .1)
     where
-      go : (t : Bool) → ltb room long ≡ t → n ≡ cond t 0 long → now ≡ cond t output written → (long ≤ room) × (n ≡ long) × (now ≡ written)
+      go : (t : Bool) → ltb room long ≡ t → n ≡ cond t 0 long → now ≡ cond t output written
+          → (long ≤ room) × (n ≡ long) × (now ≡ written)
       go true b en eo = absurd (ne en)
       go false b en eo = (ltb-false room long b, en, eo)
 
-module _ (settings : Settings) (lists : Lists) (received output : List ℕ) where
+module _ (node : Node) (received output : List ℕ) where
   abbrev room : ℕ
   room = length output
 
-  -- what the function promises: its answer and its output
-  abbrev pub Right : Answer → List ℕ → Type 0
-  Right answer now = (answer ≡ answerOf settings lists room received) × (now ≡ outputAfter settings lists received output)
-
-  module _ (n : ℕ) (e : givenTwice settings lists room received ≡ n) where
-    twice-delivery : (n ≡ 0 → ⊥) → deliveryNumber settings lists room received ≡ n
+  module _ (n : ℕ) (e : stopFault node room received ≡ n) where
+    twice-delivery : (n ≡ 0 → ⊥) → deliveryNumber node room received ≡ n
     unfolding deliveryNumber
     twice-delivery ne = rw e (orElse-first n _ ne)
 
-    twice-repeat : (n ≡ 0 → ⊥) → repeatNumber settings lists room received ≡ n
+    twice-repeat : (n ≡ 0 → ⊥) → repeatNumber node room received ≡ n
     unfolding repeatNumber
     twice-repeat ne = rw e (orElse-first n _ ne)
 
-    own-delivery : n ≡ 0 → deliveryNumber settings lists room received ≡ deliveryFault settings (headerOf received)
+    own-delivery : n ≡ 0 → deliveryNumber node room received ≡ deliveryFault (node .settings) (headerOf received)
     unfolding deliveryNumber
     own-delivery z = rw e (orElse-later n _ z)
 
-    own-repeat : n ≡ 0 → repeatNumber settings lists room received ≡ repeatFault settings (headerOf received)
+    own-repeat : n ≡ 0 → repeatNumber node room received ≡ repeatFault (node .settings) (headerOf received)
     unfolding repeatNumber
     own-repeat z = rw e (orElse-later n _ z)
 
   -- a number that is given twice
-  pub given-twice : (n bytes : ℕ) → (n ≡ 0 → ⊥) → givenTwice settings lists room received ≡ n → taken lists received ≡ bytes → Right (twice n bytes) output
+  pub given-twice : (n bytes : ℕ) → (n ≡ 0 → ⊥) → stopFault node room received ≡ n → taken node received ≡ bytes
+      → Hears node received output (twice n bytes) output
   unfolding answerOf outputAfter
   given-twice n bytes ne e et = rw (twice-delivery n e ne, twice-repeat n e ne, et, ne-eqb n 0 ne) (refl, refl)
 
   -- a fault of the lists, or a PDU that can't be read
-  unreadable : (n : ℕ) → (n ≡ 0 → ⊥) → listOrReadingFault lists received ≡ n → Right (twice n 0) output
-  unfolding givenTwice taken
+  unreadable : (n : ℕ) → (n ≡ 0 → ⊥) → listOrReadingFault node received ≡ n → Hears node received output (twice n 0) output
+  unfolding stopFault taken
   unreadable n ne e = given-twice n 0 ne (rw e (orElse-first n _ ne)) (rw (e, ne-eqb n 0 ne))
 
-  abbrev faults : ℕ
-  faults = firstFault (four (lists .sourcePass) (lists .sourceReject) (lists .destinationPass) (lists .destinationReject))
-
-  pub fault-given : (n : ℕ) → (n ≡ 0 → ⊥) → n ≡ faults → Right (twice n 0) output
+  pub fault-given : (n : ℕ) → (n ≡ 0 → ⊥) → n ≡ listFault (node .lists) → Hears node received output (twice n 0) output
   unfolding listOrReadingFault
   fault-given n ne e = unreadable n ne (rw (← e) (orElse-first n _ ne))
 
-  module _ (clean : faults ≡ 0) where
-    pub refusal-given : (n : ℕ) → (n ≡ 0 → ⊥) → n ≡ readingNumber (readOf received) → Right (twice n 0) output
+  module _ (clean : listFault (node .lists) ≡ 0) where
+    pub refusal-given : (n : ℕ) → (n ≡ 0 → ⊥) → n ≡ readingNumber (readOf received) → Hears node received output (twice n 0) output
     unfolding listOrReadingFault
-    refusal-given n ne e = unreadable n ne (orElse-later faults _ clean ∙ sym e)
+    refusal-given n ne e = unreadable n ne (orElse-later (listFault (node .lists)) _ clean ∙ sym e)
 
     module _ (header : Header) (e : readOf received ≡ Pdu header) where
-      pub is-readable : listOrReadingFault lists received ≡ 0
+      pub is-readable : listOrReadingFault node received ≡ 0
       unfolding listOrReadingFault
-      is-readable = orElse-later faults _ clean ∙ ap readingNumber e
+      is-readable = orElse-later (listFault (node .lists)) _ clean ∙ ap readingNumber e
 
-      pub stopped : (n bytes : ℕ) → (n ≡ 0 → ⊥) → n ≡ passFault settings lists header received → bytes ≡ pduLength header → Right (twice n bytes) output
-      unfolding givenTwice taken
+      pub stopped : (n bytes : ℕ) → (n ≡ 0 → ⊥) → n ≡ dropFault node header received → bytes ≡ pduLength header
+          → Hears node received output (twice n bytes) output
+      unfolding stopFault taken
       stopped n bytes ne ep eb =
           let is = shown received header e .is in
           given-twice n bytes ne
           (orElse-later _ _ is-readable
-          ∙ ap (λ (x : Header). passFault settings lists x received orElse ((eqb (repeatFault settings x) 0 && ltb room (repeatedLength x)) gives 40)) (sym is)
-          ∙ ap (λ (m : ℕ). m orElse ((eqb (repeatFault settings header) 0 && ltb room (repeatedLength header)) gives 40)) (sym ep) ∙ orElse-first n _ ne)
+          ∙ ap (λ (x : Header). dropFault node x received orElse roomFault (node .settings) x room) (sym is)
+          ∙ ap (λ (m : ℕ). m orElse roomFault (node .settings) header room) (sym ep) ∙ orElse-first n _ ne)
           (rw is-readable (sym (eb ∙ ap pduLength is)))
 
 -- delivery and repeating, once no earlier number stopped the PDU
-module _ (settings : Settings) (received output : List ℕ) (header : Header) (e : readOf received ≡ Pdu header) (lists : Lists)
-    (clean : listOrReadingFault lists received ≡ 0) (passes : passFault settings lists header received ≡ 0) where
+module _ (node : Node) (received output : List ℕ) (header : Header) (e : readOf received ≡ Pdu header)
+    (clean : listOrReadingFault node received ≡ 0) (passes : dropFault node header received ≡ 0) where
   is : header ≡ headerOf received
   is = shown received header e .is
 
-  took : taken lists received ≡ pduLength header
+  took : taken node received ≡ pduLength header
   unfolding taken
   took = rw clean (ap pduLength (sym is))
 
   -- 40 is all that can still be given twice
-  only-room : givenTwice settings lists (length output) received
-      ≡ ((eqb (repeatFault settings header) 0 && ltb (length output) (repeatedLength header)) gives 40)
-  unfolding givenTwice
+  only-room : stopFault node (length output) received
+      ≡ roomFault (node .settings) header (length output)
+  unfolding stopFault
   only-room =
-      orElse-later _ _ clean ∙ ap (λ (x : Header). passFault settings lists x received orElse ((eqb (repeatFault settings x) 0 && ltb (length output) (repeatedLength x)) gives 40)) (sym is)
+      orElse-later _ _ clean ∙ ap (λ (x : Header). dropFault node x received orElse roomFault (node .settings) x (length output)) (sym is)
       ∙ orElse-later _ _ passes
 
-  module _ (d r n : ℕ) (now : List ℕ) (ed : d ≡ deliveryFault settings header) where
-    answered-is : givenTwice settings lists (length output) received ≡ 0 → r ≡ repeatFault settings header → n ≡ cond (eqb r 0) (repeatedLength header) 0
-        → now ≡ cond (eqb r 0) (over (repeated (settings .own) received) output) output → Right settings lists received output (whole header d r n) now
+  module _ (d r n : ℕ) (now : List ℕ) (ed : d ≡ deliveryFault (node .settings) header) where
+    answered-is : stopFault node (length output) received ≡ 0 → r ≡ repeatFault (node .settings) header
+        → n ≡ cond (eqb r 0) (repeatedLength header) 0
+        → now ≡ cond (eqb r 0) (over (repeated (node .settings .own) received) output) output → Hears node received output (whole header d r n) now
     unfolding answerOf outputAfter
     answered-is z er en eo =
-        let dn : deliveryNumber settings lists (length output) received ≡ d = own-delivery settings lists received output 0 z refl ∙ ap (deliveryFault settings) (sym is) ∙ sym ed in
-        let rn : repeatNumber settings lists (length output) received ≡ r = own-repeat settings lists received output 0 z refl ∙ ap (repeatFault settings) (sym is) ∙ sym er in
+        let dn : deliveryNumber node (length output) received ≡ d = own-delivery node received output 0 z refl
+        ∙ ap (deliveryFault (node .settings)) (sym is) ∙ sym ed in
+        let rn : repeatNumber node (length output) received ≡ r = own-repeat node received output 0 z refl
+        ∙ ap (repeatFault (node .settings)) (sym is) ∙ sym er in
         rw (dn, rn, took, ← is, ← en, ← eo) (refl, refl)
 
-    pub not-repeated : (r ≡ 0 → ⊥) → r ≡ repeatFault settings header → n ≡ 0 → now ≡ output → Right settings lists received output (whole header d r n) now
+    pub not-repeated : (r ≡ 0 → ⊥) → r ≡ repeatFault (node .settings) header → n ≡ 0 → now ≡ output
+        → Hears node received output (whole header d r n) now
     not-repeated ne er en eo =
         answered-is (only-room ∙ gives-none _ 40 (rw (← er, ne-eqb r 0 ne))) er (rw (ne-eqb r 0 ne) en) (rw (ne-eqb r 0 ne) eo)
 
-    pub is-repeated : r ≡ 0 → repeatFault settings header ≡ 0 → repeatedLength header ≤ length output → n ≡ repeatedLength header
-        → now ≡ over (repeated (settings .own) received) output → Right settings lists received output (whole header d r n) now
+    pub is-repeated : r ≡ 0 → repeatFault (node .settings) header ≡ 0 → repeatedLength header ≤ length output → n ≡ repeatedLength header
+        → now ≡ over (repeated (node .settings .own) received) output → Hears node received output (whole header d r n) now
     is-repeated z er fits en eo =
         answered-is (only-room ∙ gives-none _ 40 (rw (er, le-ltb _ _ fits))) (z ∙ sym er) (rw z en) (rw z eo)
 
-  pub no-room : (bytes : ℕ) → repeatFault settings header ≡ 0 → length output < repeatedLength header → bytes ≡ pduLength header
-      → Right settings lists received output (twice 40 bytes) output
+  pub no-room : (bytes : ℕ) → repeatFault (node .settings) header ≡ 0 → length output < repeatedLength header → bytes ≡ pduLength header
+      → Hears node received output (twice 40 bytes) output
   no-room bytes er short eb =
-      given-twice settings lists received output 40 bytes (omega arith) (only-room ∙ gives-last _ 40 (rw (er, lt-ltb _ _ short))) (took ∙ sym eb)
+      given-twice node received output 40 bytes (omega arith) (only-room ∙ gives-last _ 40 (rw (er, lt-ltb _ _ short))) (took ∙ sym eb)
 
 -- a refusal's number is not 0
 pub refusal-number : (reading : Reading) (refusal : Refusal) {n : ℕ} → reading ≡ Refused refusal → n ≡ readingNumber reading → n ≡ 0 → ⊥

@@ -1,15 +1,17 @@
--- The repeat is also the encoding of the changed header, of the path with the own address behind it and of the same payload, so it reads back to these.
-use Prim.Native.Nat.{ℕ, zero, suc, _+_, _-_, _*_, _/_, _≤_, _<_}
+-- The repeat is also the encoding of the changed header, of the path with the own address behind it and of the same payload, so it reads back to
+-- these.
+use Prim.Native.Nat.{ℕ, _+_, _-_, _*_, _/_, _≤_, _<_}
 use native.Mathlib.Omega.{arith}
 use mathlib.Core.Bool.{Bool, true, false, cond}
 use mathlib.Core.List.{List, [], _∷_, _++_, append-assoc, append-nil}
 use mathlib.Core.Path.{_≡_, refl, ap, sym, _∙_}
 use lib.Dec.{eqb}
-use lib.ListN.{length, take, drop, set, length-append, length-set}
+use lib.ListN.{length, take, set, length-append, length-set}
 use lib.Seq.{take-at, take-take, getD-take, set-at, set-append-left}
 use borrow.Author.Tests.{eqb-true}
 use Rattle.octets.specs.Numbers.{flag}
-use Rattle.octets.specs.Octets.{at, wordBytes}
+use Rattle.octets.specs.Octets.{at, AllBytes, wordBytes}
+use Rattle.octets.proofs.Words.{bytes-joined, bytes-set, bytes-take, bytes-drop, bytes-word}
 use Rattle.pdu.specs.declared.Header.{Header}
 use Rattle.pdu.specs.declared.Reading.the-variants.{Pdu}
 use Rattle.pdu.specs.Header.{hopLimit, pathCountPlace, pathCountIn, headerOf}
@@ -19,7 +21,6 @@ use Rattle.pdu.specs.Parts.{pathIn, payloadIn}
 use Rattle.writing.specs.Writing.{fixedPart, destinationBytes, onlyIf, headerBytes, pathBytes, encode, WellFormed}
 use Rattle.pdu.proofs.Inversion.{Shown, shown}
 use Rattle.writing.proofs.Encoding.{length-onlyIf, length-header, length-pathIn}
-use Rattle.octets.proofs.Words.{Bytes}
 use Rattle.writing.proofs.Back.{read-encode, path-encode, payload-encode}
 use Rattle.writing.proofs.Same.{written-same, shown-well-formed}
 use Rattle.node.specs.Repeat.{lowered, loweredByte, loweredHeader, repeated, repeatedLength, repeatedHeader}
@@ -103,8 +104,10 @@ length-before header =
 third-byte : (header : Header) → 2 < length (beforeCount header)
 third-byte header = omega arith
 
-changed-parts : (header : Header) (byte : ℕ) → flag (header .«added_header») * 128 + lowered (header .«hop_limit») * 16 + header .«payload_length» / 256 ≡ byte
-    → headerBytes (repeatedHeader header) ≡ set (beforeCount header) 2 byte ++ onlyIf (header .«path_bit») ((header .«path_count» + flag (header .«path_bit»)) ∷ [])
+changed-parts : (header : Header) (byte : ℕ)
+    → flag (header .«added_header») * 128 + lowered (header .«hop_limit») * 16 + header .«payload_length» / 256 ≡ byte
+    → headerBytes (repeatedHeader header)
+    ≡ set (beforeCount header) 2 byte ++ onlyIf (header .«path_bit») ((header .«path_count» + flag (header .«path_bit»)) ∷ [])
 unfolding headerBytes repeatedHeader
 changed-parts header byte e =
     ap (λ (b : ℕ). set (beforeCount header) 2 b ++ onlyIf (header .«path_bit») ((header .«path_count» + flag (header .«path_bit»)) ∷ [])) e
@@ -115,48 +118,27 @@ grown : (front path own payload : List ℕ) (count byte : ℕ) {head changed : L
     → set (set head 2 byte) place (count + 1) ++ own ++ payload ≡ changed ++ (path ++ own) ++ payload
 grown front path own payload count byte {head} {changed} {place} h e is-head is-changed =
     let inner : 2 < length (front ++ (count ∷ [])) = omega (arith, length-append front (count ∷ [])) in
-    rw (is-head, is-changed, set-append-left (front ++ (count ∷ [])) path 2 byte inner, set-append-left front (count ∷ []) 2 byte h, append-assoc (set front 2 byte) (count ∷ []) path, set-at (set front 2 byte) count path (count + 1) place (length-set front 2 byte ∙ e))
+    rw (
+      is-head,
+      is-changed,
+      set-append-left (front ++ (count ∷ [])) path 2 byte inner,
+      set-append-left front (count ∷ []) 2 byte h,
+      append-assoc (set front 2 byte) (count ∷ []) path,
+      set-at (set front 2 byte) count path (count + 1) place (length-set front 2 byte ∙ e),
+    )
     (simp append-assoc)
 
-not-grown : (front path payload : List ℕ) (byte : ℕ) {head changed : List ℕ} → 2 < length front → head ≡ front ++ [] ++ path → changed ≡ set front 2 byte ++ []
+not-grown : (front path payload : List ℕ) (byte : ℕ) {head changed : List ℕ} → 2 < length front → head ≡ front ++ [] ++ path
+    → changed ≡ set front 2 byte ++ []
     → set head 2 byte ++ payload ≡ changed ++ path ++ payload
 not-grown front path payload byte {head} {changed} h is-head is-changed =
     rw (is-head, is-changed, append-nil front, append-nil (set front 2 byte), set-append-left front path 2 byte h)
 
--- lists of bytes
-bytes-joined : (front later : List ℕ) → Bytes front → Bytes later → Bytes (front ++ later)
-bytes-joined [] later b c i = c i
-bytes-joined (byte ∷ front) later b c zero = b 0
-bytes-joined (byte ∷ front) later b c (suc i) = bytes-joined front later (λ j. b (suc j)) c i
-
-bytes-set : (bytes : List ℕ) (place value : ℕ) → Bytes bytes → value < 256 → Bytes (set bytes place value)
-bytes-set [] place value b small i = b i
-bytes-set (byte ∷ bytes) zero value b small zero = small
-bytes-set (byte ∷ bytes) zero value b small (suc i) = b (suc i)
-bytes-set (byte ∷ bytes) (suc place) value b small zero = b 0
-bytes-set (byte ∷ bytes) (suc place) value b small (suc i) = bytes-set bytes place value (λ j. b (suc j)) small i
-
-bytes-take : (n : ℕ) (bytes : List ℕ) → Bytes bytes → Bytes (take n bytes)
-bytes-take zero bytes b i = omega arith
-bytes-take (suc n) [] b i = b i
-bytes-take (suc n) (byte ∷ bytes) b zero = b 0
-bytes-take (suc n) (byte ∷ bytes) b (suc i) = bytes-take n bytes (λ j. b (suc j)) i
-
-bytes-drop : (n : ℕ) (bytes : List ℕ) → Bytes bytes → Bytes (drop n bytes)
-bytes-drop zero bytes b = b
-bytes-drop (suc n) [] b = b
-bytes-drop (suc n) (byte ∷ bytes) b = bytes-drop n bytes (λ j. b (suc j))
-
 byte-small : (byte : ℕ) → byte < 256 → loweredByte byte < 256
 byte-small byte h = omega arith
 
-word-small : (number : ℕ) → number < 65536 → Bytes (wordBytes number)
-word-small number h zero = omega arith
-word-small number h (suc zero) = omega arith
-word-small number h (suc (suc i)) = omega arith
-
 -- a PDU that was read
-module _ (received : List ℕ) (header : Header) (small : Bytes received) (read : readOf received ≡ Pdu header) where
+module _ (received : List ℕ) (header : Header) (small : AllBytes received) (read : readOf received ≡ Pdu header) where
   abbrev path : List ℕ
   path = pathIn header received
 
@@ -173,8 +155,10 @@ module _ (received : List ℕ) (header : Header) (small : Bytes received) (read 
   unfolding encode
   head-same =
       let front = headerBytes header ++ pathBytes path in
-      let long : length front ≡ headerLength header = omega (arith, length-append (headerBytes header) (pathBytes path), length-header header, length-pathIn header received) in
-      sym (take-take (headerLength header) (pduLength header) received (omega arith)) ∙ ap (take (headerLength header)) (sym (written-same received header small read))
+      let long : length front ≡ headerLength header =
+      omega (arith, length-append (headerBytes header) (pathBytes path), length-header header, length-pathIn header received) in
+      sym (take-take (headerLength header) (pduLength header) received (omega arith))
+      ∙ ap (take (headerLength header)) (sym (written-same received header small read))
       ∙ take-at front payload (headerLength header) long
 
   byte-two : at received 2 ≡ byteTwo header
@@ -182,25 +166,30 @@ module _ (received : List ℕ) (header : Header) (small : Bytes received) (read 
   byte-two = sym (getD-take (headerLength header) received 2 0 (omega arith)) ∙ ap (λ (bytes : List ℕ). at bytes 2) head-same
 
   changed : (header .«hop_limit» ≡ 0 → ⊥)
-      → headerBytes (repeatedHeader header) ≡ set (beforeCount header) 2 (loweredByte (at received 2)) ++ onlyIf (header .«path_bit») ((header .«path_count» + flag (header .«path_bit»)) ∷ [])
+      → headerBytes (repeatedHeader header)
+      ≡ set (beforeCount header) 2 (loweredByte (at received 2)) ++ onlyIf (header .«path_bit»)
+      ((header .«path_count» + flag (header .«path_bit»)) ∷ [])
   changed positive =
       changed-parts header (loweredByte (at received 2))
-      (byte-lowered (flag (header .«added_header»)) (header .«hop_limit») (header .«payload_length» / 256) (formed .hop) (omega (arith, formed .payload-short))
+      (byte-lowered (flag (header .«added_header»)) (header .«hop_limit») (header .«payload_length» / 256) (formed .hop)
+      (omega (arith, formed .payload-short))
       ∙ ap (λ (b : ℕ). loweredByte b) (sym byte-two))
 
-  header-small : Bytes (loweredHeader received)
+  header-small : AllBytes (loweredHeader received)
   header-small =
-      bytes-set (take (headerLength (headerOf received)) received) 2 (loweredByte (at received 2)) (bytes-take (headerLength (headerOf received)) received small)
+      bytes-set (take (headerLength (headerOf received)) received) 2 (loweredByte (at received 2))
+      (bytes-take (headerLength (headerOf received)) received small)
       (byte-small (at received 2) (small 2))
 
-  payload-small : Bytes (payloadIn (headerOf received) received)
+  payload-small : AllBytes (payloadIn (headerOf received) received)
   payload-small = bytes-take (headerOf received .«payload_length») _ (bytes-drop (headerLength (headerOf received)) received small)
 
   -- the repeat by its path bit
   abbrev byBit : ℕ → Bool → Header → List ℕ
   byBit own bit x =
       cond bit
-      (set (set (take (headerLength x) received) 2 (loweredByte (at received 2))) (pathCountPlace (at received 0)) (pathCountIn received + 1) ++ wordBytes own ++ payloadIn x received)
+      (set (set (take (headerLength x) received) 2 (loweredByte (at received 2))) (pathCountPlace (at received 0))
+      (pathCountIn received + 1) ++ wordBytes own ++ payloadIn x received)
       (set (take (headerLength x) received) 2 (loweredByte (at received 2)) ++ payloadIn x received)
 
   with-path : (header .«hop_limit» ≡ 0 → ⊥) → (own : ℕ) → header .«path_bit» ≡ true
@@ -208,20 +197,31 @@ module _ (received : List ℕ) (header : Header) (small : Bytes received) (read 
   with-path positive own bit =
       let shown-bit : headerOf received .«path_bit» ≡ true = ap (λ (x : Header). x .«path_bit») (sym (seen .is)) ∙ bit in
       let place : length (beforeCount header) ≡ pathCountPlace (at received 0) =
-      omega (arith, length-before header, ap (λ (t : Bool). flag t) bit, ap (λ (x : Header). pathStart x) (seen .is), count-place received shown-bit) in
+      omega (
+        arith,
+        length-before header,
+        ap (λ (t : Bool). flag t) bit,
+        ap (λ (x : Header). pathStart x) (seen .is),
+        count-place received shown-bit,
+      ) in
       let count : header .«path_count» ≡ pathCountIn received = ap (λ (x : Header). x .«path_count») (seen .is) ∙ count-byte received in
-      grown (beforeCount header) (pathBytes path) (wordBytes own) payload (pathCountIn received) (loweredByte (at received 2)) (third-byte header) place
-      (head-same ∙ ap (λ (bytes : List ℕ). bytes ++ pathBytes path) (header-parts header ∙ ap (λ (t : Bool). beforeCount header ++ onlyIf t (header .«path_count» ∷ [])) bit
+      grown (beforeCount header) (pathBytes path) (wordBytes own) payload (pathCountIn received) (loweredByte (at received 2))
+      (third-byte header) place
+      (head-same ∙ ap (λ (bytes : List ℕ). bytes ++ pathBytes path)
+      (header-parts header ∙ ap (λ (t : Bool). beforeCount header ++ onlyIf t (header .«path_count» ∷ [])) bit
       ∙ ap (λ (n : ℕ). beforeCount header ++ (n ∷ [])) count))
-      (changed positive ∙ ap (λ (t : Bool). set (beforeCount header) 2 (loweredByte (at received 2)) ++ onlyIf t ((header .«path_count» + flag t) ∷ [])) bit
+      (changed positive ∙ ap
+      (λ (t : Bool). set (beforeCount header) 2 (loweredByte (at received 2)) ++ onlyIf t ((header .«path_count» + flag t) ∷ [])) bit
       ∙ ap (λ (n : ℕ). set (beforeCount header) 2 (loweredByte (at received 2)) ++ ((n + 1) ∷ [])) count)
 
   without-path : (header .«hop_limit» ≡ 0 → ⊥) → (own : ℕ) → header .«path_bit» ≡ false
       → byBit own false header ≡ headerBytes (repeatedHeader header) ++ pathBytes path ++ payload
   without-path positive own bit =
       not-grown (beforeCount header) (pathBytes path) payload (loweredByte (at received 2)) (third-byte header)
-      (head-same ∙ ap (λ (bytes : List ℕ). bytes ++ pathBytes path) (header-parts header ∙ ap (λ (t : Bool). beforeCount header ++ onlyIf t (header .«path_count» ∷ [])) bit))
-      (changed positive ∙ ap (λ (t : Bool). set (beforeCount header) 2 (loweredByte (at received 2)) ++ onlyIf t ((header .«path_count» + flag t) ∷ [])) bit)
+      (head-same ∙ ap (λ (bytes : List ℕ). bytes ++ pathBytes path)
+      (header-parts header ∙ ap (λ (t : Bool). beforeCount header ++ onlyIf t (header .«path_count» ∷ [])) bit))
+      (changed positive ∙ ap
+      (λ (t : Bool). set (beforeCount header) 2 (loweredByte (at received 2)) ++ onlyIf t ((header .«path_count» + flag t) ∷ [])) bit)
 
   -- document 01's wording and the encoding of the changed header give the same bytes
   pub same-bytes : Ready received header → (own : ℕ)
@@ -229,11 +229,14 @@ module _ (received : List ℕ) (header : Header) (small : Bytes received) (read 
   unfolding repeated encode pathBytes
   same-bytes ready own = ap (λ (x : Header). byBit own (x .«path_bit») x) (sym (seen .is)) ∙ go (header .«path_bit») refl
     where
-      go : (bit : Bool) → header .«path_bit» ≡ bit → byBit own bit header ≡ headerBytes (repeatedHeader header) ++ pathBytes (path ++ cond bit (own ∷ []) []) ++ payload
+      go : (bit : Bool) → header .«path_bit» ≡ bit
+          → byBit own bit header ≡ headerBytes (repeatedHeader header) ++ pathBytes (path ++ cond bit (own ∷ []) []) ++ payload
       go true bit =
-          with-path (ready .hop) own bit ∙ ap (λ (bytes : List ℕ). headerBytes (repeatedHeader header) ++ bytes ++ payload) (sym (path-joined path (own ∷ [])))
+          with-path (ready .hop) own bit
+          ∙ ap (λ (bytes : List ℕ). headerBytes (repeatedHeader header) ++ bytes ++ payload) (sym (path-joined path (own ∷ [])))
       go false bit =
-          without-path (ready .hop) own bit ∙ ap (λ (entries : List ℕ). headerBytes (repeatedHeader header) ++ pathBytes entries ++ payload) (sym (append-nil path))
+          without-path (ready .hop) own bit
+          ∙ ap (λ (entries : List ℕ). headerBytes (repeatedHeader header) ++ pathBytes entries ++ payload) (sym (append-nil path))
 
   pub repeat-well-formed : (own : ℕ) → WellFormed (repeatedHeader header) (pathIn header received ++ ownEntry header own) (payloadIn header received)
   unfolding repeatedHeader
@@ -275,7 +278,8 @@ module _ (received : List ℕ) (header : Header) (small : Bytes received) (read 
     alone-path = ap (λ (bytes : List ℕ). pathIn (repeatedHeader header) bytes) (sym (append-nil (repeated own received))) ∙ repeat-path ready own []
 
     pub alone-payload : payloadIn (repeatedHeader header) (repeated own received) ≡ payloadIn header received
-    alone-payload = ap (λ (bytes : List ℕ). payloadIn (repeatedHeader header) bytes) (sym (append-nil (repeated own received))) ∙ repeat-payload ready own []
+    alone-payload =
+        ap (λ (bytes : List ℕ). payloadIn (repeatedHeader header) bytes) (sym (append-nil (repeated own received))) ∙ repeat-payload ready own []
 
     -- a repeat is no longer than the longest PDU
     pub repeat-long : length (repeated own received) ≡ repeatedLength header
@@ -285,19 +289,27 @@ module _ (received : List ℕ) (header : Header) (small : Bytes received) (read 
     repeat-short = omega (arith, repeat-long, ready-small ready small)
 
     -- a repeat's bytes are bytes
-    pub repeat-bytes : own < 65536 → Bytes (repeated own received)
+    pub repeat-bytes : own < 65536 → AllBytes (repeated own received)
     unfolding repeated
     repeat-bytes narrow = go (headerOf received .«path_bit») refl
       where
         go : (bit : Bool) → headerOf received .«path_bit» ≡ bit
-            → Bytes (cond bit
-            (set (loweredHeader received) (pathCountPlace (at received 0)) (pathCountIn received + 1) ++ wordBytes own ++ payloadIn (headerOf received) received)
+            → AllBytes (cond bit
+            (set (loweredHeader received) (pathCountPlace (at received 0)) (pathCountIn received + 1) ++ wordBytes own ++ payloadIn
+            (headerOf received) received)
             (loweredHeader received ++ payloadIn (headerOf received) received))
         go true bit =
             let count : pathCountIn received < pathLimit =
-            omega (arith, count-byte received, ap (λ (x : Header). x .«path_count») (seen .is), ready-count ready small (ap (λ (x : Header). x .«path_bit») (seen .is) ∙ bit)) in
+            omega (
+              arith,
+              count-byte received,
+              ap (λ (x : Header). x .«path_count») (seen .is),
+              ready-count ready small (ap (λ (x : Header). x .«path_bit») (seen .is) ∙ bit),
+            ) in
             let raised = set (loweredHeader received) (pathCountPlace (at received 0)) (pathCountIn received + 1) in
             bytes-joined (raised ++ wordBytes own) (payloadIn (headerOf received) received)
-            (bytes-joined raised (wordBytes own) (bytes-set (loweredHeader received) (pathCountPlace (at received 0)) (pathCountIn received + 1) header-small (omega arith)) (word-small own narrow))
+            (bytes-joined raised (wordBytes own)
+            (bytes-set (loweredHeader received) (pathCountPlace (at received 0)) (pathCountIn received + 1) header-small (omega arith))
+            (bytes-word own narrow))
             payload-small
         go false bit = bytes-joined (loweredHeader received) (payloadIn (headerOf received) received) header-small payload-small

@@ -8,6 +8,7 @@ use mathlib.Core.Path.{_≡_, refl, ap, sym, _∙_}
 use lib.Dec.{eqb, ltb}
 use lib.ListN.{take, drop}
 use borrow.Author.Tests.{eq-eqb, ne-eqb, eqb-false, le-ltb, ltb-false}
+use Rattle.octets.specs.Octets.{AllBytes}
 use Rattle.octets.proofs.Numbering.{orElse-zero, gives-zero, gives-here, gives-none, orElse-first, orElse-later}
 use Rattle.pdu.specs.declared.Header.{Header}
 use Rattle.pdu.specs.declared.Reading.{Reading}
@@ -17,10 +18,8 @@ use Rattle.pdu.specs.Sizes.{headerLength}
 use Rattle.pdu.specs.Reading.{readOf, readingNumber}
 use Rattle.pdu.specs.Parts.{pathIn, inPath, payloadIn}
 use Rattle.pdu.proofs.Inversion.{shown}
-use Rattle.octets.proofs.Words.{Bytes}
-use Rattle.lists.specs.Lists.{four, firstFault}
-use Rattle.node.specs.declared.Settings.{Settings}
-use Rattle.node.specs.Decision.{Lists, isEcho, passFault, repeatFault, listOrReadingFault, givenTwice, deliveryNumber, repeatNumber, delivered}
+use Rattle.lists.specs.Lists.{listFault}
+use Rattle.node.specs.Decision.{Node, isEcho, echoFault, dropFault, repeatFault, listOrReadingFault, stopFault, deliveryNumber, repeatNumber, delivered}
 use Rattle.node.specs.Repeat.{repeated, repeatedLength, repeatedHeader}
 use Rattle.node.specs.Answers.{answerOf}
 use Rattle.node.proofs.Repeating.{Ready, ready}
@@ -33,7 +32,8 @@ unfolding inPath
 not-in-path address [] e m = List·Memᴰ·not-nil m
 not-in-path address (entry ∷ path) e m = go (eqb entry address) refl e (λ later. not-in-path address path later)
   where
-    go : (t : Bool) → eqb entry address ≡ t → (t || inPath address path) ≡ false → (inPath address path ≡ false → ¬ List·Memᴰ address path) → ⊥
+    go : (t : Bool) → eqb entry address ≡ t → (t || inPath address path) ≡ false
+        → (inPath address path ≡ false → ¬ List·Memᴰ address path) → ⊥
     go true here e below = let z : _≡_ {A = ℕ} 0 1 = cc in omega arith
     go false here e below = ⊎-elim (λ (same : address ≡ entry). eqb-false entry address here (sym same)) (below e) (List·Memᴰ·cases-cons m)
 
@@ -52,19 +52,15 @@ last-in-path address (entry ∷ path) = go (eqb entry address) (last-in-path add
     go true later = refl
     go false later = later
 
--- the number of the first list with a fault, 0 where none has one
-abbrev pub listFault : Lists → ℕ
-listFault lists = firstFault (four (lists .sourcePass) (lists .sourceReject) (lists .destinationPass) (lists .destinationReject))
-
 -- what follows where the repeat number is 0
-pub record Repeats (settings : Settings) (lists : Lists) (room : ℕ) (received : List ℕ) : Type 0 where
+pub record Repeats (node : Node) (room : ℕ) (received : List ℕ) : Type 0 where
   pub header : Header
   pub read : readOf received ≡ Pdu header
   pub ready : Ready received header
-  pub no-echo : settings .echo ≡ true → header .«path_bit» ≡ true → inPath (settings .own) (pathIn header received) ≡ false
-  pub repeats : repeatFault settings header ≡ 0
-  pub passes : passFault settings lists header received ≡ 0
-  pub clean : listFault lists ≡ 0
+  pub no-echo : node .settings .echo ≡ true → header .«path_bit» ≡ true → inPath (node .settings .own) (pathIn header received) ≡ false
+  pub repeats : repeatFault (node .settings) header ≡ 0
+  pub passes : dropFault node header received ≡ 0
+  pub clean : listFault (node .lists) ≡ 0
   pub fits : repeatedLength header ≤ room
 
 not-echo : (echo bit found : Bool) → (echo && (bit && found)) ≡ false → echo ≡ true → bit ≡ true → found ≡ false
@@ -79,34 +75,37 @@ room-enough : (test : Bool) (room long : ℕ) → test ≡ true → (test && ltb
 room-enough true room long e f = ltb-false room long f
 room-enough false room long e f = let z : _≡_ {A = ℕ} 0 1 = cc in absurd (omega arith)
 
-module _ (settings : Settings) (lists : Lists) where
-  passing-no-echo : (header : Header) (received : List ℕ) → passFault settings lists header received ≡ 0 → settings .echo ≡ true → header .«path_bit» ≡ true
-      → inPath (settings .own) (pathIn header received) ≡ false
-  unfolding passFault
-  passing-no-echo header received zero = not-echo _ _ _ (gives-zero (isEcho settings header received) 30 (omega arith) (orElse-zero _ _ zero .0))
+module _ (node : Node) where
+  passing-no-echo : (header : Header) (received : List ℕ) → dropFault node header received ≡ 0 → node .settings .echo ≡ true
+      → header .«path_bit» ≡ true
+      → inPath (node .settings .own) (pathIn header received) ≡ false
+  unfolding dropFault echoFault
+  passing-no-echo header received zero =
+      not-echo _ _ _ (gives-zero (isEcho (node .settings) header received) 30 (omega arith) (orElse-zero _ _ zero .0))
 
   module _ (room : ℕ) (received : List ℕ) where
-    pub repeats : repeatNumber settings lists room received ≡ 0 → Repeats settings lists room received
-    unfolding repeatNumber givenTwice listOrReadingFault
+    pub repeats : repeatNumber node room received ≡ 0 → Repeats node room received
+    unfolding repeatNumber stopFault listOrReadingFault
     repeats zero =
         let t1 = orElse-zero _ _ zero in
         let t2 = orElse-zero _ _ (t1 .0) in
         let t3 = orElse-zero _ _ (t2 .0) in
         let t4 = orElse-zero _ _ (t2 .1) in
         go (readOf received) refl (t3 .0) (t3 .1) (t4 .0) (t1 .1)
-        (room-enough _ _ _ (eq-eqb (repeatFault settings (headerOf received)) 0 (t1 .1)) (gives-zero _ 40 (omega arith) (t4 .1)))
+        (room-enough _ _ _ (eq-eqb (repeatFault (node .settings) (headerOf received)) 0 (t1 .1)) (gives-zero _ 40 (omega arith) (t4 .1)))
       where
-        go : (reading : Reading) → readOf received ≡ reading → listFault lists ≡ 0 → readingNumber reading ≡ 0 → passFault settings lists (headerOf received) received ≡ 0
-            → repeatFault settings (headerOf received) ≡ 0 → repeatedLength (headerOf received) ≤ room → Repeats settings lists room received
+        go : (reading : Reading) → readOf received ≡ reading → listFault (node .lists) ≡ 0 → readingNumber reading ≡ 0
+            → dropFault node (headerOf received) received ≡ 0
+            → repeatFault (node .settings) (headerOf received) ≡ 0 → repeatedLength (headerOf received) ≤ room → Repeats node room received
         go (Refused refusal) e clean number pass again fit = absurd (refusal-number (Refused refusal) refusal refl refl number)
         go (Pdu header) e clean number pass again fit =
             let is = shown received header e .is in
-            let passes : passFault settings lists header received ≡ 0 = ap (λ (x : Header). passFault settings lists x received) is ∙ pass in
-            let repeats : repeatFault settings header ≡ 0 = ap (repeatFault settings) is ∙ again in
+            let passes : dropFault node header received ≡ 0 = ap (λ (x : Header). dropFault node x received) is ∙ pass in
+            let repeats : repeatFault (node .settings) header ≡ 0 = ap (repeatFault (node .settings)) is ∙ again in
             record {
               header = header;
               read = e;
-              ready = ready settings received header e repeats;
+              ready = ready (node .settings) received header e repeats;
               no-echo = passing-no-echo header received passes;
               repeats = repeats;
               passes = passes;
@@ -114,24 +113,24 @@ module _ (settings : Settings) (lists : Lists) where
               fits = omega (arith, fit, ap (λ (x : Header). repeatedLength x) is);
             }
 
-    pub will-repeat : (header : Header) → listFault lists ≡ 0 → readOf received ≡ Pdu header → passFault settings lists header received ≡ 0
-        → repeatFault settings header ≡ 0 → repeatedLength header ≤ room → repeatNumber settings lists room received ≡ 0
-    unfolding repeatNumber givenTwice
+    pub will-repeat : (header : Header) → listFault (node .lists) ≡ 0 → readOf received ≡ Pdu header → dropFault node header received ≡ 0
+        → repeatFault (node .settings) header ≡ 0 → repeatedLength header ≤ room → repeatNumber node room received ≡ 0
+    unfolding repeatNumber stopFault
     will-repeat header clean e passes repeats fits =
         let is = shown received header e .is in
-        let again : repeatFault settings (headerOf received) ≡ 0 = ap (repeatFault settings) (sym is) ∙ repeats in
+        let again : repeatFault (node .settings) (headerOf received) ≡ 0 = ap (repeatFault (node .settings)) (sym is) ∙ repeats in
         let fit : repeatedLength (headerOf received) ≤ room = omega (arith, fits, ap (λ (x : Header). repeatedLength x) is) in
         orElse-later _ _
-        (orElse-later _ _ (is-readable settings lists received [] clean header e)
-        ∙ orElse-later _ _ (ap (λ (x : Header). passFault settings lists x received) (sym is) ∙ passes)
+        (orElse-later _ _ (is-readable node received [] clean header e)
+        ∙ orElse-later _ _ (ap (λ (x : Header). dropFault node x received) (sym is) ∙ passes)
         ∙ gives-none _ 40 (rw (again, le-ltb _ _ fit)))
         ∙ again
 
     -- what is delivered is a part of the received bytes, at the answer's place and of its length
-    pub delivered-part : take (answerOf settings lists room received .«delivered_length») (drop (answerOf settings lists room received .«delivered_place») received)
-        ≡ delivered settings lists room received
+    pub delivered-part : take (answerOf node room received .«delivered_length») (drop (answerOf node room received .«delivered_place») received)
+        ≡ delivered node room received
     unfolding answerOf delivered
-    delivered-part = go (eqb (deliveryNumber settings lists room received) 0)
+    delivered-part = go (eqb (deliveryNumber node room received) 0)
       where
         go : (t : Bool) → take (cond t (headerOf received .«payload_length») 0) (drop (cond t (headerLength (headerOf received)) 0) received)
             ≡ cond t (payloadIn (headerOf received) received) []
@@ -139,38 +138,44 @@ module _ (settings : Settings) (lists : Lists) where
         go false = refl
 
     -- a PDU that was read and is an echo: 30, twice
-    module _ (header : Header) (clean : listFault lists ≡ 0) (e : readOf received ≡ Pdu header) (echo : passFault settings lists header received ≡ 30) where
-      echo-twice : givenTwice settings lists room received ≡ 30
-      unfolding givenTwice
+    module _ (header : Header) (clean : listFault (node .lists) ≡ 0) (e : readOf received ≡ Pdu header)
+        (echo : dropFault node header received ≡ 30) where
+      echo-twice : stopFault node room received ≡ 30
+      unfolding stopFault
       echo-twice =
-          let pass : passFault settings lists (headerOf received) received ≡ 30 = ap (λ (x : Header). passFault settings lists x received) (sym (shown received header e .is)) ∙ echo in
-          orElse-later _ _ (is-readable settings lists received [] clean header e) ∙ rw pass (orElse-first 30 _ (omega arith))
+          let pass : dropFault node (headerOf received) received ≡ 30 =
+          ap (λ (x : Header). dropFault node x received) (sym (shown received header e .is)) ∙ echo in
+          orElse-later _ _ (is-readable node received [] clean header e) ∙ rw pass (orElse-first 30 _ (omega arith))
 
-      echo-delivery : deliveryNumber settings lists room received ≡ 30
+      echo-delivery : deliveryNumber node room received ≡ 30
       unfolding deliveryNumber
       echo-delivery = rw echo-twice (orElse-first 30 _ (omega arith))
 
-      echo-repeat : repeatNumber settings lists room received ≡ 30
+      echo-repeat : repeatNumber node room received ≡ 30
       unfolding repeatNumber
       echo-repeat = rw echo-twice (orElse-first 30 _ (omega arith))
 
 -- a node that hears its own repeat
-module _ (received : List ℕ) (header : Header) (small : Bytes received) (read : readOf received ≡ Pdu header) (is-ready : Ready received header)
+module _ (received : List ℕ) (header : Header) (small : AllBytes received) (read : readOf received ≡ Pdu header) (is-ready : Ready received header)
     (bit : header .«path_bit» ≡ true) (own : ℕ) where
   pub own-in-path : inPath own (pathIn (repeatedHeader header) (repeated own received)) ≡ true
   own-in-path =
-      ap (inPath own) (alone-path received header small read is-ready own) ∙ ap (λ (t : Bool). inPath own (pathIn header received ++ cond t (own ∷ []) [])) bit
+      ap (inPath own) (alone-path received header small read is-ready own)
+      ∙ ap (λ (t : Bool). inPath own (pathIn header received ++ cond t (own ∷ []) [])) bit
       ∙ last-in-path own (pathIn header received)
 
-  module _ (settings : Settings) (lists : Lists) (same : settings .own ≡ own) (on : settings .echo ≡ true) where
-    pub echo-again : passFault settings lists (repeatedHeader header) (repeated own received) ≡ 30
-    unfolding passFault repeatedHeader
+  module _ (node : Node) (same : node .settings .own ≡ own) (on : node .settings .echo ≡ true) where
+    pub echo-again : dropFault node (repeatedHeader header) (repeated own received) ≡ 30
+    unfolding dropFault echoFault repeatedHeader
     echo-again =
         gives-here _ 30 _ (omega arith)
-        (all-true (settings .echo) (header .«path_bit») _ on bit (ap (λ (address : ℕ). inPath address (pathIn (repeatedHeader header) (repeated own received))) same ∙ own-in-path))
+        (all-true (node .settings .echo) (header .«path_bit») _ on bit
+        (ap (λ (address : ℕ). inPath address (pathIn (repeatedHeader header) (repeated own received))) same ∙ own-in-path))
 
-    pub echo-delivers-30 : listFault lists ≡ 0 → (room : ℕ) → deliveryNumber settings lists room (repeated own received) ≡ 30
-    echo-delivers-30 clean room = echo-delivery settings lists room (repeated own received) (repeatedHeader header) clean (alone-reads received header small read is-ready own) echo-again
+    pub echo-delivers-30 : listFault (node .lists) ≡ 0 → (room : ℕ) → deliveryNumber node room (repeated own received) ≡ 30
+    echo-delivers-30 clean room =
+        echo-delivery node room (repeated own received) (repeatedHeader header) clean (alone-reads received header small read is-ready own) echo-again
 
-    pub echo-repeats-30 : listFault lists ≡ 0 → (room : ℕ) → repeatNumber settings lists room (repeated own received) ≡ 30
-    echo-repeats-30 clean room = echo-repeat settings lists room (repeated own received) (repeatedHeader header) clean (alone-reads received header small read is-ready own) echo-again
+    pub echo-repeats-30 : listFault (node .lists) ≡ 0 → (room : ℕ) → repeatNumber node room (repeated own received) ≡ 30
+    echo-repeats-30 clean room =
+        echo-repeat node room (repeated own received) (repeatedHeader header) clean (alone-reads received header small read is-ready own) echo-again

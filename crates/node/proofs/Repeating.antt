@@ -9,7 +9,7 @@ use lib.ListN.{length, take, set, length-append, length-drop, length-set}
 use lib.Seq.{length-take-le}
 use borrow.Author.Tests.{eqb-true, eqb-false}
 use Rattle.octets.specs.Numbers.{flag}
-use Rattle.octets.specs.Octets.{at, wordBytes, over, placed, placeAfter}
+use Rattle.octets.specs.Octets.{at, AllBytes, wordBytes, over, placed, placeAfter}
 use Rattle.octets.proofs.Numbering.{orElse-zero, gives-zero}
 use Rattle.octets.proofs.Placing.{Begins, more, over-set, take-over, placed-start}
 use Rattle.pdu.specs.declared.Header.{Header}
@@ -21,7 +21,6 @@ use Rattle.pdu.specs.Parts.{payloadIn}
 use Rattle.pdu.proofs.Inversion.{Shown, shown}
 use Rattle.pdu.proofs.Showing.{start-shown}
 use Rattle.writing.proofs.Encoding.{start-small}
-use Rattle.octets.proofs.Words.{Bytes}
 use Rattle.writing.proofs.Within.{Within, within, shown-within}
 use Rattle.node.specs.declared.Settings.{Settings}
 use Rattle.node.specs.Decision.{repeatFault}
@@ -37,7 +36,8 @@ path-open : (bit : Bool) (count : ℕ) → (bit && eqb count pathLimit) ≡ fals
 path-open true count e p = eqb-false count pathLimit e
 path-open false count e p = let z : _≡_ {A = ℕ} 0 1 = cc in absurd (omega arith)
 
-pub ready : (settings : Settings) (received : List ℕ) (header : Header) → readOf received ≡ Pdu header → repeatFault settings header ≡ 0 → Ready received header
+pub ready : (settings : Settings) (received : List ℕ) (header : Header) → readOf received ≡ Pdu header → repeatFault settings header ≡ 0
+    → Ready received header
 unfolding repeatFault
 ready settings received header e zero =
     let t1 = orElse-zero _ _ zero in
@@ -68,9 +68,11 @@ module _ (received : List ℕ) where
   count-place e = omega (arith, start-shown received, bit-one e)
 
   pub length-lowered : headerLength (headerOf received) ≤ length received → length (loweredHeader received) ≡ headerLength (headerOf received)
-  length-lowered h = length-set (take (headerLength (headerOf received)) received) 2 (loweredByte (at received 2)) ∙ length-take-le (headerLength (headerOf received)) received h
+  length-lowered h =
+      length-set (take (headerLength (headerOf received)) received) 2 (loweredByte (at received 2))
+      ∙ length-take-le (headerLength (headerOf received)) received h
 
-pub count-small : (received : List ℕ) → Bytes received → pathCountIn received < 256
+pub count-small : (received : List ℕ) → AllBytes received → pathCountIn received < 256
 count-small received small = go (isSet (pathBit (at received 0)))
   where
     go : (t : Bool) → cond t (at received (pathCountPlace (at received 0))) 0 < 256
@@ -78,7 +80,8 @@ count-small received small = go (isSet (pathBit (at received 0)))
     go false = omega arith
 
 -- the received header, with byte 2 changed
-pub lowered-put : (received output o1 o2 : List ℕ) (byte : ℕ) → 6 ≤ headerLength (headerOf received) → headerLength (headerOf received) ≤ length received
+pub lowered-put : (received output o1 o2 : List ℕ) (byte : ℕ) → 6 ≤ headerLength (headerOf received)
+    → headerLength (headerOf received) ≤ length received
     → headerLength (headerOf received) ≤ length output → byte ≡ loweredByte (at received 2)
     → o1 ≡ placed output 0 (take (headerLength (headerOf received)) received) → o2 ≡ set o1 2 byte → o2 ≡ over (loweredHeader received) output
 lowered-put received output o1 o2 byte six whole room eb e1 e2 =
@@ -97,7 +100,8 @@ module _ (header : Header) (n : ℕ) (e : n ≡ pduLength header) where
 -- what `put_own` leaves, with the path bit
 pub own-put : (bit : Bool) (start k count place next : ℕ) (o o1 o2 own : List ℕ) → bit ≡ true → k ≡ start → o1 ≡ set o (k - 1) (count + 1)
     → (next ≡ placeAfter o1 place own) × (o2 ≡ placed o1 place own)
-    → (next ≡ cond bit (placeAfter (set o (start - 1) (count + 1)) place own) place) × (o2 ≡ cond bit (placed (set o (start - 1) (count + 1)) place own) o)
+    → (next ≡ cond bit (placeAfter (set o (start - 1) (count + 1)) place own) place)
+    × (o2 ≡ cond bit (placed (set o (start - 1) (count + 1)) place own) o)
 own-put bit start k count place next o o1 o2 own e ek e1 e2 = rw (e, ← ek, ← e1) e2
 
 -- the own address and the payload behind the lowered header
@@ -150,13 +154,16 @@ module _ (received output : List ℕ) (own : ℕ) (h : Header) (is : h ≡ heade
         let counts : h .«path_count» ≡ pathCountIn received = ap (λ (x : Header). x .«path_count») is ∙ count-byte received in
         let inside : place < length (loweredHeader received) = omega (arith, long-header, at-place, ap (λ (t : Bool). flag t) bit) in
         let is-raised : set o1 (pathStart h - 1) (h .«path_count» + 1) ≡ over raised output =
-        ap (λ (o : List ℕ). set o (pathStart h - 1) (h .«path_count» + 1)) e1 ∙ ap (λ (k : ℕ). set (over (loweredHeader received) output) k (h .«path_count» + 1)) at-place
-        ∙ ap (λ (n : ℕ). set (over (loweredHeader received) output) place (n + 1)) counts ∙ over-set (loweredHeader received) output place (pathCountIn received + 1) inside in
+        ap (λ (o : List ℕ). set o (pathStart h - 1) (h .«path_count» + 1)) e1
+        ∙ ap (λ (k : ℕ). set (over (loweredHeader received) output) k (h .«path_count» + 1)) at-place
+        ∙ ap (λ (n : ℕ). set (over (loweredHeader received) output) place (n + 1)) counts
+        ∙ over-set (loweredHeader received) output place (pathCountIn received + 1) inside in
         let begun : Begins output (set o1 (pathStart h - 1) (h .«path_count» + 1)) raised p1 =
         record { is = is-raised; ends = length-set (loweredHeader received) place (pathCountIn received + 1) ∙ long-header ∙ sym ep } in
         let all = longer h (pduLength h) refl bit in
         let g1 = more (wordBytes own) _ o2 p2 begun (omega (arith, all)) eq e2 in
-        let g2 = more (payloadIn h received) o2 o3 _ g1 (omega (arith, all, g1 .ends, begun .ends, length-append raised (wordBytes own), long-payload)) refl e3 in
+        let g2 = more (payloadIn h received) o2 o3 _ g1
+        (omega (arith, all, g1 .ends, begun .ends, length-append raised (wordBytes own), long-payload)) refl e3 in
         g2 .is ∙ ap (λ (r : List ℕ). over r output) (is-repeated true bit)
 
     without-path : h .«path_bit» ≡ false → (o1 o3 : List ℕ) (p1 : ℕ) → p1 ≡ headerLength h → o1 ≡ over (loweredHeader received) output
@@ -179,12 +186,12 @@ module _ (received output : List ℕ) (own : ℕ) (h : Header) (is : h ≡ heade
 
 -- the same of a header that was read
 module _ {received : List ℕ} {header : Header} (r : Ready received header) where
-  pub ready-count : Bytes received → header .«path_bit» ≡ true → header .«path_count» < pathLimit
+  pub ready-count : AllBytes received → header .«path_bit» ≡ true → header .«path_count» < pathLimit
   ready-count small bit =
       omega (arith, r .not-full bit, count-small received small, count-byte received, ap (λ (x : Header). x .«path_count») (r .shown .is))
 
   -- a repeat is never longer than the PDU limit
-  pub ready-small : Bytes received → repeatedLength header ≤ pduLimit
+  pub ready-small : AllBytes received → repeatedLength header ≤ pduLimit
   ready-small small = go (header .«path_bit») refl
     where
       fields : Within header
@@ -192,13 +199,28 @@ module _ {received : List ℕ} {header : Header} (r : Ready received header) whe
 
       go : (t : Bool) → header .«path_bit» ≡ t → repeatedLength header ≤ pduLimit
       go true bit =
-          omega (arith, longer header (pduLength header) refl bit, fields .payload, start-small header, ready-count small bit, ap (λ (t : Bool). cond t (header .«path_count») 0) bit)
+          omega (
+            arith,
+            longer header (pduLength header) refl bit,
+            fields .payload,
+            start-small header,
+            ready-count small bit,
+            ap (λ (t : Bool). cond t (header .«path_count») 0) bit,
+          )
       go false bit =
-          omega (arith, as-long header (pduLength header) refl bit, fields .payload, start-small header, ap (λ (t : Bool). cond t (header .«path_count») 0) bit)
+          omega (
+            arith,
+            as-long header (pduLength header) refl bit,
+            fields .payload,
+            start-small header,
+            ap (λ (t : Bool). cond t (header .«path_count») 0) bit,
+          )
 
 -- the repeat copied from the scratch array to the output
-pub copied-out : (received output scratch empty out part : List ℕ) (own n : ℕ) (header : Header) → Shown received header → repeatedLength header ≤ length output
-    → n ≡ repeatedLength header → scratch ≡ over (repeated own received) empty → part ≡ take n scratch → out ≡ placed output 0 part → out ≡ over (repeated own received) output
+pub copied-out : (received output scratch empty out part : List ℕ) (own n : ℕ) (header : Header) → Shown received header
+    → repeatedLength header ≤ length output
+    → n ≡ repeatedLength header → scratch ≡ over (repeated own received) empty → part ≡ take n scratch → out ≡ placed output 0 part
+    → out ≡ over (repeated own received) output
 copied-out received output scratch empty out part own n header s room en es ep eo =
     let long = length-repeated received output own header (s .is) (s .ends) in
     eo ∙ rw (ep, es, take-over (repeated own received) empty n (long ∙ sym en)) (placed-start (repeated own received) output (omega (arith, long)))

@@ -1,4 +1,4 @@
--- Nodes and outcomes that document 01 asks to try against the promise of `hear` and of `delivered` ("What the contracts must say", "Slips to rule
+-- Programs and outcomes that document 01 asks to try against the promise of `hear` and of `delivered` ("What the contracts must say", "Slips to rule
 -- out"): none of them keeps it.
 use Prim.Native.Nat.{ℕ, zero, suc, _<_}
 use native.Mathlib.Omega.{arith}
@@ -14,29 +14,27 @@ use Rattle.octets.specs.Octets.{at, over}
 use Rattle.pdu.specs.Header.{headerOf}
 use Rattle.pdu.specs.Reading.{readOf}
 use Rattle.pdu.specs.Parts.{addressesAt, inPath}
-use Rattle.lists.specs.Lists.{lowAboveHigh, faultOf, firstFault}
-use Rattle.node.specs.declared.Settings.{Settings}
+use Rattle.lists.specs.Lists.{listsOf, lowAboveHigh, faultOf, firstFault}
 use Rattle.node.specs.declared.Answer.{Answer}
-use Rattle.node.specs.Decision.{Lists, listsOf, passFault, deliveryFault, repeatFault, listOrReadingFault, givenTwice, deliveryNumber, repeatNumber, taken}
+use Rattle.node.specs.Decision.{Node, echoFault, passFault, dropFault, deliveryFault, repeatFault, listOrReadingFault, stopFault, deliveryNumber, repeatNumber, taken}
 use Rattle.node.specs.Repeat.{repeated}
-use Rattle.node.specs.Answers.{answerOf, outputAfter}
-use Rattle.node.proofs.Answering.{twice, Right}
+use Rattle.node.specs.Answers.{answerOf, twice, outputAfter, Hears}
 
 -- a node of an address, repeating, echo on, with no list on
-abbrev nodeAt : ℕ → Settings
+abbrev nodeAt : ℕ → Node
 nodeAt own =
     record {
-      own = own;
-      echo = true;
-      repeating = true;
-      «source_pass» = false;
-      «source_reject» = false;
-      «destination_pass» = false;
-      «destination_reject» = false;
+      settings = record {
+        own = own;
+        echo = true;
+        repeating = true;
+        «source_pass» = false;
+        «source_reject» = false;
+        «destination_pass» = false;
+        «destination_reject» = false;
+      };
+      lists = listsOf [] [] [] [];
     }
-
-abbrev noLists : Lists
-noLists = listsOf [] [] [] []
 
 -- an output of 100 bytes, all 0
 abbrev zeros : List ℕ
@@ -45,12 +43,14 @@ zeros = replicate 100 0
 -- the example of document 002
 abbrev example : List ℕ
 example =
-    0x03 ∷ 0x00 ∷ 0x10 ∷ 0x0B ∷ 0x03 ∷ 0xE8 ∷ 0x06 ∷ 0x40 ∷ 0x00 ∷ 0x70 ∷ 0x01 ∷ 0x08 ∷ 0x12 ∷ 0x12 ∷ 0x03 ∷ 0x24 ∷ 0x13 ∷ 0x22 ∷ 0x02 ∷ 0x76 ∷ []
+    0x03 ∷ 0x00 ∷ 0x10 ∷ 0x0B ∷ 0x03 ∷ 0xE8 ∷ 0x06 ∷ 0x40 ∷ 0x00 ∷ 0x70 ∷ 0x01 ∷ 0x08 ∷ 0x12 ∷ 0x12 ∷ 0x03 ∷ 0x24 ∷ 0x13
+    ∷ 0x22 ∷ 0x02 ∷ 0x76 ∷ []
 
 -- its repeat at node 2000
 abbrev exampleRepeated : List ℕ
 exampleRepeated =
-    0x03 ∷ 0x00 ∷ 0x00 ∷ 0x0B ∷ 0x03 ∷ 0xE8 ∷ 0x06 ∷ 0x40 ∷ 0x01 ∷ 0x07 ∷ 0xD0 ∷ 0x70 ∷ 0x01 ∷ 0x08 ∷ 0x12 ∷ 0x12 ∷ 0x03 ∷ 0x24 ∷ 0x13 ∷ 0x22 ∷ 0x02 ∷ 0x76 ∷ []
+    0x03 ∷ 0x00 ∷ 0x00 ∷ 0x0B ∷ 0x03 ∷ 0xE8 ∷ 0x06 ∷ 0x40 ∷ 0x01 ∷ 0x07 ∷ 0xD0 ∷ 0x70 ∷ 0x01 ∷ 0x08 ∷ 0x12 ∷ 0x12 ∷ 0x03
+    ∷ 0x24 ∷ 0x13 ∷ 0x22 ∷ 0x02 ∷ 0x76 ∷ []
 
 -- a PDU for address 1600 with an added header
 abbrev addedHeader : List ℕ
@@ -58,71 +58,71 @@ addedHeader = 0x01 ∷ 0x00 ∷ 0x90 ∷ 0x00 ∷ 0x00 ∷ 0x05 ∷ 0x06 ∷ 0x4
 
 -- what the definitions give for these
 record Given : Type 0 where
-  is-repeated : answerOf (nodeAt 2000) noLists 100 example
+  is-repeated : answerOf (nodeAt 2000) 100 example
       ≡ record { delivery = 39; repeat = 0; «delivered_place» = 0; «delivered_length» = 0; «repeated_length» = 22; taken = 20 }
-  is-copied : take 22 (outputAfter (nodeAt 2000) noLists example zeros) ≡ exampleRepeated
-  is-echo : answerOf (nodeAt 2000) noLists 100 exampleRepeated ≡ twice 30 22
-  is-unread : answerOf (nodeAt 2000) noLists 100 [] ≡ twice 1 0
-  is-another's : answerOf (nodeAt 2000) noLists 100 addedHeader .delivery ≡ 39
+  is-copied : take 22 (outputAfter (nodeAt 2000) example zeros) ≡ exampleRepeated
+  is-echo : answerOf (nodeAt 2000) 100 exampleRepeated ≡ twice 30 22
+  is-unread : answerOf (nodeAt 2000) 100 [] ≡ twice 1 0
+  is-another's : answerOf (nodeAt 2000) 100 addedHeader .delivery ≡ 39
 
 given : Given
-unfolding answerOf outputAfter deliveryNumber repeatNumber givenTwice listOrReadingFault passFault deliveryFault repeatFault taken repeated over readOf headerOf addressesAt inPath firstFault faultOf lowAboveHigh _gives_ _orElse_
+unfolding answerOf outputAfter deliveryNumber repeatNumber stopFault listOrReadingFault dropFault echoFault passFault deliveryFault
+    repeatFault taken repeated over readOf headerOf addressesAt inPath firstFault faultOf lowAboveHigh _gives_ _orElse_
 given = record { is-repeated = refl; is-copied = refl; is-echo = refl; is-unread = refl; is-another's = refl }
 
--- what a node leaves for any settings, lists, received bytes and output: an answer, and the output
-abbrev pub Node : Type 0
-Node = Settings → Lists → List ℕ → List ℕ → Answer × List ℕ
+-- a program for any node, received bytes and output: what it answers and what it leaves in the output
+abbrev pub Program : Type 0
+Program = Node → List ℕ → List ℕ → Answer × List ℕ
 
--- a node that keeps the promise of `hear`
-abbrev pub Keeps : Node → Type 0
-Keeps node =
-    (settings : Settings) (lists : Lists) (received output : List ℕ)
-    → Right settings lists received output (node settings lists received output .0) (node settings lists received output .1)
+-- one that keeps the promise of `hear`
+abbrev pub Keeps : Program → Type 0
+Keeps program =
+    (node : Node) (received output : List ℕ) → Hears node received output (program node received output .0) (program node received output .1)
 
--- a node that refuses all
-pub refuses-all : (node : Node) → ((settings : Settings) (lists : Lists) (received output : List ℕ) → node settings lists received output .0 .repeat ≡ 0 → ⊥)
-    → Keeps node → ⊥
-refuses-all node refuses keeps =
-    refuses (nodeAt 2000) noLists example zeros (ap (λ (answer : Answer). answer .repeat) (keeps (nodeAt 2000) noLists example zeros .0 ∙ given .is-repeated))
+-- a program that refuses all
+pub refuses-all : (program : Program) → ((node : Node) (received output : List ℕ) → program node received output .0 .repeat ≡ 0 → ⊥)
+    → Keeps program → ⊥
+refuses-all program refuses keeps =
+    refuses (nodeAt 2000) example zeros (ap (λ (answer : Answer). answer .repeat) (keeps (nodeAt 2000) example zeros .0 ∙ given .is-repeated))
 
--- a node that gives one fixed answer
-pub one-fixed-answer : (node : Node) (fixed : Answer)
-    → ((settings : Settings) (lists : Lists) (received output : List ℕ) → node settings lists received output .0 ≡ fixed) → Keeps node → ⊥
-one-fixed-answer node fixed same keeps =
+-- one that gives one fixed answer
+pub one-fixed-answer : (program : Program) (fixed : Answer)
+    → ((node : Node) (received output : List ℕ) → program node received output .0 ≡ fixed) → Keeps program → ⊥
+one-fixed-answer program fixed same keeps =
     let read : fixed .repeat ≡ 0 =
-    ap (λ (answer : Answer). answer .repeat) (sym (same (nodeAt 2000) noLists example zeros) ∙ keeps (nodeAt 2000) noLists example zeros .0 ∙ given .is-repeated) in
+    ap (λ (answer : Answer). answer .repeat) (sym (same (nodeAt 2000) example zeros) ∙ keeps (nodeAt 2000) example zeros .0 ∙ given .is-repeated) in
     let unread : fixed .repeat ≡ 1 =
-    ap (λ (answer : Answer). answer .repeat) (sym (same (nodeAt 2000) noLists [] zeros) ∙ keeps (nodeAt 2000) noLists [] zeros .0 ∙ given .is-unread) in
+    ap (λ (answer : Answer). answer .repeat) (sym (same (nodeAt 2000) [] zeros) ∙ keeps (nodeAt 2000) [] zeros .0 ∙ given .is-unread) in
     omega arith
 
--- a node that copies nothing out
-pub copies-nothing-out : (node : Node) → ((settings : Settings) (lists : Lists) (received output : List ℕ) → node settings lists received output .1 ≡ output)
-    → Keeps node → ⊥
-copies-nothing-out node leaves keeps =
+-- one that copies nothing out
+pub copies-nothing-out : (program : Program) → ((node : Node) (received output : List ℕ) → program node received output .1 ≡ output)
+    → Keeps program → ⊥
+copies-nothing-out program leaves keeps =
     let first : _≡_ {A = ℕ} 0 3 =
-    ap (λ (bytes : List ℕ). at (take 22 bytes) 0) (sym (leaves (nodeAt 2000) noLists example zeros) ∙ keeps (nodeAt 2000) noLists example zeros .1)
+    ap (λ (bytes : List ℕ). at (take 22 bytes) 0) (sym (leaves (nodeAt 2000) example zeros) ∙ keeps (nodeAt 2000) example zeros .1)
     ∙ ap (λ (bytes : List ℕ). at bytes 0) (given .is-copied) in
     omega arith
 
 -- an invented count of path entries in the repeat of the example
-pub invented-count : (answer : Answer) (now : List ℕ) → (at (take 22 now) 8 ≡ 1 → ⊥) → Right (nodeAt 2000) noLists example zeros answer now → ⊥
+pub invented-count : (answer : Answer) (now : List ℕ) → (at (take 22 now) 8 ≡ 1 → ⊥) → Hears (nodeAt 2000) example zeros answer now → ⊥
 invented-count answer now invented right =
     invented (ap (λ (bytes : List ℕ). at (take 22 bytes) 8) (right .1) ∙ ap (λ (bytes : List ℕ). at bytes 8) (given .is-copied))
 
 -- the hop limit before the echo: 37 for a PDU of hop limit 0 with the own address in its path
-pub hop-before-echo : (answer : Answer) (now : List ℕ) → answer .repeat ≡ 37 → Right (nodeAt 2000) noLists exampleRepeated zeros answer now → ⊥
+pub hop-before-echo : (answer : Answer) (now : List ℕ) → answer .repeat ≡ 37 → Hears (nodeAt 2000) exampleRepeated zeros answer now → ⊥
 hop-before-echo answer now hop right =
     let echo : answer .repeat ≡ 30 = ap (λ (answer : Answer). answer .repeat) (right .0 ∙ given .is-echo) in
     omega arith
 
 -- 0 bytes taken by a PDU that was read
-pub read-and-not-taken : (answer : Answer) (now : List ℕ) → answer .taken ≡ 0 → Right (nodeAt 2000) noLists exampleRepeated zeros answer now → ⊥
+pub read-and-not-taken : (answer : Answer) (now : List ℕ) → answer .taken ≡ 0 → Hears (nodeAt 2000) exampleRepeated zeros answer now → ⊥
 read-and-not-taken answer now none right =
     let took : answer .taken ≡ 22 = ap (λ (answer : Answer). answer .taken) (right .0 ∙ given .is-echo) in
     omega arith
 
 -- 35 before 39, for another's PDU with an added header
-pub added-header-first : (answer : Answer) (now : List ℕ) → answer .delivery ≡ 35 → Right (nodeAt 2000) noLists addedHeader zeros answer now → ⊥
+pub added-header-first : (answer : Answer) (now : List ℕ) → answer .delivery ≡ 35 → Hears (nodeAt 2000) addedHeader zeros answer now → ⊥
 added-header-first answer now added right =
     let another's : answer .delivery ≡ 39 = ap (λ (answer : Answer). answer .delivery) (right .0) ∙ given .is-another's in
     omega arith
@@ -136,34 +136,35 @@ none-is-40 false false true full e = omega arith
 none-is-40 false false false true e = omega arith
 none-is-40 false false false false e = omega arith
 
-module _ (settings : Settings) (lists : Lists) (received output : List ℕ) (answer : Answer) (now : List ℕ) where
+module _ (node : Node) (received output : List ℕ) (answer : Answer) (now : List ℕ) where
   abbrev room : ℕ
   room = length output
 
-  repeat-is : Right settings lists received output answer now → answer .repeat ≡ repeatNumber settings lists room received
+  repeat-is : Hears node received output answer now → answer .repeat ≡ repeatNumber node room received
   unfolding answerOf
   repeat-is right = ap (λ (answer : Answer). answer .repeat) (right .0)
 
   -- the output touched with a repeat number other than 0, whatever the input
-  pub output-touched : (answer .repeat ≡ 0 → ⊥) → (now ≡ output → ⊥) → Right settings lists received output answer now → ⊥
+  pub output-touched : (answer .repeat ≡ 0 → ⊥) → (now ≡ output → ⊥) → Hears node received output answer now → ⊥
   unfolding outputAfter
   output-touched refused touched right =
       touched
       (right .1
-      ∙ ap (λ (n : ℕ). cond (eqb n 0) (over (repeated (settings .own) received) output) output) (sym (repeat-is right))
-      ∙ ap (λ (t : Bool). cond t (over (repeated (settings .own) received) output) output) (ne-eqb (answer .repeat) 0 refused))
+      ∙ ap (λ (n : ℕ). cond (eqb n 0) (over (repeated (node .settings .own) received) output) output) (sym (repeat-is right))
+      ∙ ap (λ (t : Bool). cond t (over (repeated (node .settings .own) received) output) output) (ne-eqb (answer .repeat) 0 refused))
 
-  not-40 : repeatFault settings (headerOf received) ≡ 40 → ⊥
+  not-40 : repeatFault (node .settings) (headerOf received) ≡ 40 → ⊥
   unfolding repeatFault
   not-40 e = none-is-40 _ _ _ _ e
 
   -- 40 with a delivered payload, whatever the input
-  pub delivered-with-40 : answer .repeat ≡ 40 → answer .delivery ≡ 0 → Right settings lists received output answer now → ⊥
+  pub delivered-with-40 : answer .repeat ≡ 40 → answer .delivery ≡ 0 → Hears node received output answer now → ⊥
   unfolding answerOf deliveryNumber repeatNumber _orElse_
   delivered-with-40 short delivers right =
-      go (givenTwice settings lists room received) (sym (repeat-is right) ∙ short) (sym (ap (λ (answer : Answer). answer .delivery) (right .0)) ∙ delivers)
+      go (stopFault node room received) (sym (repeat-is right) ∙ short) (sym (ap (λ (answer : Answer). answer .delivery) (right .0)) ∙ delivers)
     where
-      go : (n : ℕ) → (n orElse repeatFault settings (headerOf received)) ≡ 40 → (n orElse deliveryFault settings (headerOf received)) ≡ 0 → ⊥
+      go : (n : ℕ) → (n orElse repeatFault (node .settings) (headerOf received)) ≡ 40
+          → (n orElse deliveryFault (node .settings) (headerOf received)) ≡ 0 → ⊥
       go zero e z = not-40 e
       go (suc n) e z = omega arith
 

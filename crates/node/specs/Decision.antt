@@ -1,4 +1,4 @@
--- Document 01, "One PDU at one node": its steps 1 to 6, as functions of the settings, the lists, the output's room and the received bytes.
+-- Document 01, "One PDU at one node": its steps 1 to 6, as functions of the node, its output's room and the received bytes.
 use Prim.Native.Nat.{ℕ}
 use mathlib.Core.Bool.{Bool, false, not, cond, _&&_}
 use mathlib.Core.List.{List, []}
@@ -11,19 +11,17 @@ use Rattle.pdu.specs.Header.{headerOf}
 use Rattle.pdu.specs.Sizes.{pathLimit, pduLength}
 use Rattle.pdu.specs.Reading.{readOf, readingNumber}
 use Rattle.pdu.specs.Parts.{pathIn, inPath, payloadIn}
-use Rattle.lists.specs.Lists.{four, firstFault, holds}
+use Rattle.lists.specs.Lists.{Lists, listFault, holds}
 use Rattle.node.specs.declared.Settings.{Settings}
 use Rattle.node.specs.Repeat.{repeatedLength}
 
--- the four lists of a node, each low, high, low, high and so on
-pub record Lists : Type 0 where
-  pub sourcePass : List ℕ
-  pub sourceReject : List ℕ
-  pub destinationPass : List ℕ
-  pub destinationReject : List ℕ
+-- a node: what it is set to, and its four lists
+pub record Node : Type 0 where
+  pub settings : Settings
+  pub lists : Lists
 
-abbrev pub listsOf : List ℕ → List ℕ → List ℕ → List ℕ → Lists
-listsOf a b c d = record { sourcePass = a; sourceReject = b; destinationPass = c; destinationReject = d }
+abbrev pub nodeOf : Settings → Lists → Node
+nodeOf settings lists = record { settings = settings; lists = lists }
 
 -- whether a PDU has a destination that is in a list; whether it has one that is not
 abbrev pub destinationIsIn : List ℕ → Destination → Bool
@@ -43,18 +41,28 @@ abbrev pub isForAnother : ℕ → Destination → Bool
 isForAnother own Everyone = false
 isForAnother own (Address address) = not (eqb address own)
 
--- step 3: echo on, path bit set, own address anywhere in the path
+-- steps 1 and 2: the fault of the lists, then number 1 to 6, or 0
+unfoldable pub listOrReadingFault : Node → List ℕ → ℕ
+listOrReadingFault node received = listFault (node .lists) orElse readingNumber (readOf received)
+
+-- step 3, of a PDU that was read: echo on, the path bit set and the own address anywhere in the path; then number 30, or 0
 abbrev pub isEcho : Settings → Header → List ℕ → Bool
 isEcho settings header received = settings .echo && (header .«path_bit» && inPath (settings .own) (pathIn header received))
 
--- steps 3 and 4, of a PDU that was read: number 30 to 34, or 0
-unfoldable pub passFault : Settings → Lists → Header → List ℕ → ℕ
-passFault settings lists header received =
-    isEcho settings header received gives 30
-    orElse (settings .«source_pass» && not (holds (lists .sourcePass) (header .source))) gives 31
-    orElse (settings .«source_reject» && holds (lists .sourceReject) (header .source)) gives 32
-    orElse (settings .«destination_pass» && destinationIsOutside (lists .destinationPass) (header .destination)) gives 33
-    orElse (settings .«destination_reject» && destinationIsIn (lists .destinationReject) (header .destination)) gives 34
+unfoldable pub echoFault : Settings → Header → List ℕ → ℕ
+echoFault settings header received = isEcho settings header received gives 30
+
+-- step 4: number 31 to 34, or 0 where the lists let the PDU pass
+unfoldable pub passFault : Node → Header → ℕ
+passFault node header =
+    (node .settings .«source_pass» && not (holds (node .lists .sourcePass) (header .source))) gives 31
+    orElse (node .settings .«source_reject» && holds (node .lists .sourceReject) (header .source)) gives 32
+    orElse (node .settings .«destination_pass» && destinationIsOutside (node .lists .destinationPass) (header .destination)) gives 33
+    orElse (node .settings .«destination_reject» && destinationIsIn (node .lists .destinationReject) (header .destination)) gives 34
+
+-- steps 3 and 4: what drops a PDU that was read
+unfoldable pub dropFault : Node → Header → List ℕ → ℕ
+dropFault node header received = echoFault (node .settings) header received orElse passFault node header
 
 -- step 5: number 39, then 35, or 0 where the payload is delivered
 unfoldable pub deliveryFault : Settings → Header → ℕ
@@ -68,31 +76,28 @@ repeatFault settings header =
     orElse eqb (header .«hop_limit») 0 gives 37
     orElse (header .«path_bit» && eqb (header .«path_count») pathLimit) gives 38
 
--- steps 1 and 2: the first list's fault, then number 1 to 6, or 0
-unfoldable pub listOrReadingFault : Lists → List ℕ → ℕ
-listOrReadingFault lists received =
-    firstFault (four (lists .sourcePass) (lists .sourceReject) (lists .destinationPass) (lists .destinationReject))
-    orElse readingNumber (readOf received)
+-- and 40, where the PDU would be repeated and the output is too short for that
+abbrev pub roomFault : Settings → Header → ℕ → ℕ
+roomFault settings header room = (eqb (repeatFault settings header) 0 && ltb room (repeatedLength header)) gives 40
 
--- the numbers that are given twice: those of steps 1 to 4, and 40 where the PDU would be repeated and the output is too short for that
-unfoldable pub givenTwice : Settings → Lists → ℕ → List ℕ → ℕ
-givenTwice settings lists room received =
-    listOrReadingFault lists received
-    orElse passFault settings lists (headerOf received) received
-    orElse (eqb (repeatFault settings (headerOf received)) 0 && ltb room (repeatedLength (headerOf received))) gives 40
+-- what stops the PDU, in the order of the steps: the numbers that are given twice
+unfoldable pub stopFault : Node → ℕ → List ℕ → ℕ
+stopFault node room received =
+    listOrReadingFault node received
+    orElse dropFault node (headerOf received) received
+    orElse roomFault (node .settings) (headerOf received) room
 
 -- the two numbers of the answer
-unfoldable pub deliveryNumber : Settings → Lists → ℕ → List ℕ → ℕ
-deliveryNumber settings lists room received = givenTwice settings lists room received orElse deliveryFault settings (headerOf received)
+unfoldable pub deliveryNumber : Node → ℕ → List ℕ → ℕ
+deliveryNumber node room received = stopFault node room received orElse deliveryFault (node .settings) (headerOf received)
 
-unfoldable pub repeatNumber : Settings → Lists → ℕ → List ℕ → ℕ
-repeatNumber settings lists room received = givenTwice settings lists room received orElse repeatFault settings (headerOf received)
+unfoldable pub repeatNumber : Node → ℕ → List ℕ → ℕ
+repeatNumber node room received = stopFault node room received orElse repeatFault (node .settings) (headerOf received)
 
 -- the delivered payload; empty where nothing is delivered
-unfoldable pub delivered : Settings → Lists → ℕ → List ℕ → List ℕ
-delivered settings lists room received =
-    cond (eqb (deliveryNumber settings lists room received) 0) (payloadIn (headerOf received) received) []
+unfoldable pub delivered : Node → ℕ → List ℕ → List ℕ
+delivered node room received = cond (eqb (deliveryNumber node room received) 0) (payloadIn (headerOf received) received) []
 
 -- where the next PDU begins in the received bytes ("A batch": after this one's payload); 0 where a list is at fault or this one can't be read
-unfoldable pub taken : Lists → List ℕ → ℕ
-taken lists received = cond (eqb (listOrReadingFault lists received) 0) (pduLength (headerOf received)) 0
+unfoldable pub taken : Node → List ℕ → ℕ
+taken node received = cond (eqb (listOrReadingFault node received) 0) (pduLength (headerOf received)) 0

@@ -27,7 +27,8 @@ loweredHeader received = set (take (headerLength (headerOf received)) received) 
 unfoldable pub repeated : ℕ → List ℕ → List ℕ
 repeated own received =
     cond (headerOf received .«path_bit»)
-    (set (loweredHeader received) (pathCountPlace (at received 0)) (pathCountIn received + 1) ++ wordBytes own ++ payloadIn (headerOf received) received)
+    (set (loweredHeader received) (pathCountPlace (at received 0)) (pathCountIn received + 1) ++ wordBytes own ++ payloadIn
+    (headerOf received) received)
     (loweredHeader received ++ payloadIn (headerOf received) received)
 
 -- so the PDU grows by 2 bytes

@@ -8,10 +8,10 @@ ghost use lib.ListN.{length};
 ghost use Rattle.octets.specs.Octets.{over, IsPart};
 ghost use Rattle.pdu.specs.declared.Reading.the-variants.{Pdu};
 ghost use Rattle.pdu.specs.Reading.{readOf};
-ghost use Rattle.lists.specs.Lists.{four, firstFault, holds};
-ghost use Rattle.node.specs.Decision.{Lists, listsOf, listOrReadingFault, destinationIsIn, destinationIsOutside, isForOwn, isForAnother, isEcho, passFault, deliveryFault, repeatFault};
-ghost use Rattle.node.specs.Repeat.{repeated, repeatedLength};
-ghost use Rattle.node.specs.Answers.{answerOf, outputAfter};
+ghost use Rattle.lists.specs.Lists.{Lists, listsOf, holds};
+ghost use Rattle.node.specs.Decision.{nodeOf, listOrReadingFault, destinationIsIn, destinationIsOutside, isForOwn, isForAnother};
+ghost use Rattle.node.specs.Decision.{isEcho, passFault, dropFault, deliveryFault, repeatFault};
+ghost use Rattle.node.specs.Answers.{twice, Hears};
 use pdu::Destination;
 use pdu::Header;
 use pdu::Reading;
@@ -19,6 +19,7 @@ use pdu::Reading;
 mod repeat;
 
 // What a node is set to. Each of the four lists is on or off; an empty pass list that is on passes nothing.
+#[repr(C)]
 pub struct Settings {
     pub own: u16,
     pub echo: bool,
@@ -32,6 +33,7 @@ pub struct Settings {
 // What a node answers for one PDU. The delivered payload lies at `delivered_place` in the received bytes; place and length are 0 where nothing is
 // delivered. `repeated_length` is 0 where nothing is repeated. `taken` is where the next PDU begins in the received bytes, and 0 where a list is at
 // fault or no PDU can be read.
+#[repr(C)]
 pub struct Answer {
     pub delivery: u8,
     pub repeat: u8,
@@ -108,22 +110,19 @@ fn is_for_another(own: u16, destination: Destination) -> bool
     }
 }
 
-// The numbers 30 to 34, or 0. The source that is looked up is the PDU's.
-fn passing_number<'a>(
+// The numbers 31 to 34, or 0. The source that is looked up is the PDU's.
+fn pass_fault<'a>(
     settings: Settings,
     source_pass: &'a [u16],
     source_reject: &'a [u16],
     destination_pass: &'a [u16],
     destination_reject: &'a [u16],
     header: Header,
-    received: &[u8],
 ) -> u8
-    ensures { λ r. ⌜ r ≡ passFault settings (listsOf (now («source_pass» .entry)) (now («source_reject» .entry)) (now («destination_pass» .entry)) (now («destination_reject» .entry))) header (now (received .entry)) ⌝ }
+    ensures { λ r. ⌜ r ≡ passFault (nodeOf settings (listsOf (now («source_pass» .entry)) (now («source_reject» .entry))
+        (now («destination_pass» .entry)) (now («destination_reject» .entry)))) header ⌝ }
 {
     let destination = header.destination;
-    if is_echo(settings, header, received) {
-        return 30;
-    }
     if is_outside(settings.source_pass, source_pass, header.source) {
         return 31;
     }
@@ -139,8 +138,34 @@ fn passing_number<'a>(
     0
 }
 
+// The number 30, those of the lists, or 0.
+fn drop_fault<'a>(
+    settings: Settings,
+    source_pass: &'a [u16],
+    source_reject: &'a [u16],
+    destination_pass: &'a [u16],
+    destination_reject: &'a [u16],
+    header: Header,
+    received: &[u8],
+) -> u8
+    ensures { λ r. ⌜ r ≡ dropFault (nodeOf settings (listsOf (now («source_pass» .entry)) (now («source_reject» .entry))
+        (now («destination_pass» .entry)) (now («destination_reject» .entry)))) header (now (received .entry)) ⌝ }
+{
+    if is_echo(settings, header, received) {
+        return 30;
+    }
+    pass_fault(
+        settings,
+        source_pass,
+        source_reject,
+        destination_pass,
+        destination_reject,
+        header,
+    )
+}
+
 // 39 or 35, or 0 where the payload is delivered.
-fn delivery_number(settings: Settings, header: Header) -> u8
+fn delivery_fault(settings: Settings, header: Header) -> u8
     ensures { λ r. ⌜ r ≡ deliveryFault settings header ⌝ }
 {
     let destination = header.destination;
@@ -151,7 +176,7 @@ fn delivery_number(settings: Settings, header: Header) -> u8
 }
 
 // 41, 36, 37 or 38, or 0 where the PDU is repeated.
-fn repeat_number(settings: Settings, header: Header) -> u8
+fn repeat_fault(settings: Settings, header: Header) -> u8
     ensures { λ r. ⌜ r ≡ repeatFault settings header ⌝ }
 {
     let destination = header.destination;
@@ -190,7 +215,9 @@ pub fn hear<'a>(
     received: &[u8],
     output: &mut [u8],
 ) -> Answer
-    ensures { λ r. ⌜ (r ≡ answerOf settings (listsOf (now («source_pass» .entry)) (now («source_reject» .entry)) (now («destination_pass» .entry)) (now («destination_reject» .entry))) (length (now (output .entry))) (now (received .entry))) × (now (output .exit) ≡ outputAfter settings (listsOf (now («source_pass» .entry)) (now («source_reject» .entry)) (now («destination_pass» .entry)) (now («destination_reject» .entry))) (now (received .entry)) (now (output .entry))) ⌝ }
+    ensures { λ r. ⌜ Hears (nodeOf settings (listsOf (now («source_pass» .entry)) (now («source_reject» .entry))
+        (now («destination_pass» .entry)) (now («destination_reject» .entry))))
+        (now (received .entry)) (now (output .entry)) r (now (output .exit)) ⌝ }
 {
     let fault = lists::fault(
         source_pass,
@@ -199,13 +226,13 @@ pub fn hear<'a>(
         destination_reject,
     );
     if fault != 0 {
-        return given_twice(fault, 0);
+        return twice(fault, 0);
     }
     let reading = pdu::read(received);
     let Reading::Pdu(header) = reading else {
-        return given_twice(pdu::reading_number(reading), 0);
+        return twice(pdu::reading_number(reading), 0);
     };
-    let number = passing_number(
+    let number = drop_fault(
         settings,
         source_pass,
         source_reject,
@@ -215,7 +242,7 @@ pub fn hear<'a>(
         received,
     );
     if number != 0 {
-        return given_twice(number, header.pdu_length());
+        return twice(number, header.pdu_length());
     }
     decide(settings, received, header, output)
 }
@@ -223,22 +250,26 @@ pub fn hear<'a>(
 // Delivery and repeating, of a PDU that no earlier number stopped.
 fn decide(settings: Settings, received: &[u8], header: Header, output: &mut [u8]) -> Answer
     requires { ⌜ readOf (now received) ≡ Pdu header ⌝ }
-    ensures { λ r. ⌜ ((lists : Lists) → listOrReadingFault lists (now (received .entry)) ≡ 0 → passFault settings lists header (now (received .entry)) ≡ 0 → (r ≡ answerOf settings lists (length (now (output .entry))) (now (received .entry))) × (now (output .exit) ≡ outputAfter settings lists (now (received .entry)) (now (output .entry)))) ⌝ }
+    ensures { λ r. ⌜ ((lists : Lists) → listOrReadingFault (nodeOf settings lists) (now (received .entry)) ≡ 0
+        → dropFault (nodeOf settings lists) header (now (received .entry)) ≡ 0
+        → Hears (nodeOf settings lists) (now (received .entry)) (now (output .entry)) r (now (output .exit))) ⌝ }
 {
-    let delivery = delivery_number(settings, header);
-    let repeat = repeat_number(settings, header);
+    let delivery = delivery_fault(settings, header);
+    let repeat = repeat_fault(settings, header);
     if repeat != 0 {
         return answered(header, delivery, repeat, 0);
     }
-    let size = repeat::put_repeat(settings, received, header, output);
-    if size == 0 {
-        return given_twice(40, header.pdu_length());
+    let size = repeat::repeated_length(header);
+    if output.len() < size {
+        return twice(40, header.pdu_length());
     }
+    repeat::put_repeat(settings, received, header, output);
     answered(header, delivery, 0, size)
 }
 
-fn given_twice(number: u8, taken: usize) -> Answer
-    ensures { λ r. ⌜ r ≡ record { delivery = number; repeat = number; «delivered_place» = 0; «delivered_length» = 0; «repeated_length» = 0; taken = taken } ⌝ }
+// One number given twice: nothing is delivered and nothing repeated. The next PDU begins at `next`.
+fn twice(number: u8, next: usize) -> Answer
+    ensures { λ r. ⌜ r ≡ twice number next ⌝ }
 {
     Answer {
         delivery: number,
@@ -246,12 +277,19 @@ fn given_twice(number: u8, taken: usize) -> Answer
         delivered_place: 0,
         delivered_length: 0,
         repeated_length: 0,
-        taken,
+        taken: next,
     }
 }
 
 fn answered(header: Header, delivery: u8, repeat: u8, size: usize) -> Answer
-    ensures { λ r. ⌜ r ≡ record { delivery = delivery; repeat = repeat; «delivered_place» = cond (eqb delivery 0) (headerLength header) 0; «delivered_length» = cond (eqb delivery 0) (header .«payload_length») 0; «repeated_length» = size; taken = pduLength header } ⌝ }
+    ensures { λ r. ⌜ r ≡ record {
+      delivery = delivery;
+      repeat = repeat;
+      «delivered_place» = cond (eqb delivery 0) (headerLength header) 0;
+      «delivered_length» = cond (eqb delivery 0) (header .«payload_length») 0;
+      «repeated_length» = size;
+      taken = pduLength header;
+    } ⌝ }
 {
     let taken = header.pdu_length();
     if delivery == 0 {

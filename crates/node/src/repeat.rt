@@ -14,59 +14,46 @@ ghost use Rattle.pdu.specs.Reading.{readOf};
 ghost use Rattle.node.specs.Repeat.{loweredByte, loweredHeader, repeated, repeatedLength};
 ghost use Rattle.node.specs.Decision.{repeatFault};
 
-// Writes the repeat of the received PDU at the start of the output and answers its length. Where the output is too short, writes nothing and answers 0.
+// Writes the repeat of the received PDU at the start of an output that has room for it.
 pub(crate) fn put_repeat(
     settings: super::Settings,
     received: &[u8],
     header: Header,
     output: &mut [u8],
-) -> usize
-    requires { ⌜ (readOf (now received) ≡ Pdu header) × (repeatFault settings header ≡ 0) ⌝ }
-    ensures { λ r. ⌜ (r ≡ cond (ltb (length (now (output .entry))) (repeatedLength header)) 0 (repeatedLength header)) × (now (output .exit) ≡ cond (ltb (length (now (output .entry))) (repeatedLength header)) (now (output .entry)) (over (repeated (settings .own) (now (received .entry))) (now (output .entry)))) ⌝ }
+)
+    requires { ⌜ (readOf (now received) ≡ Pdu header) × (repeatFault settings header ≡ 0) × (repeatedLength header ≤ length (now output)) ⌝ }
+    ensures { λ _. ⌜ now (output .exit) ≡ over (repeated (settings .own) (now (received .entry))) (now (output .entry)) ⌝ }
 {
-    let size = repeated_length(header);
-    if output.len() < size {
-        return 0;
-    }
     let mut scratch = [0u8; Header::PDU_LIMIT];
     fill(&mut scratch, settings, received, header);
+    let size = repeated_length(header);
     octets::put(output, 0, &scratch[..size]);
-    size
 }
 
-fn repeated_length(header: Header) -> usize
+pub(crate) fn repeated_length(header: Header) -> usize
     ensures { λ r. ⌜ r ≡ repeatedLength header ⌝ }
 {
     let size = header.pdu_length();
     if header.path_bit { size + 2 } else { size }
 }
 
-fn fill(scratch: &mut [u8], settings: super::Settings, received: &[u8], header: Header)
-    requires { ⌜ (readOf (now received) ≡ Pdu header)
-        × (repeatFault settings header ≡ 0)
-        × (repeatedLength header ≤ length (now scratch)) ⌝ }
-    ensures { λ _. ⌜ now (scratch .exit) ≡ over (repeated (settings .own) (now (received .entry))) (now (scratch .entry)) ⌝ }
+fn fill(output: &mut [u8], settings: super::Settings, received: &[u8], header: Header)
+    requires { ⌜ (readOf (now received) ≡ Pdu header) × (repeatFault settings header ≡ 0) × (repeatedLength header ≤ length (now output)) ⌝ }
+    ensures { λ _. ⌜ now (output .exit) ≡ over (repeated (settings .own) (now (received .entry))) (now (output .entry)) ⌝ }
 {
-    let own_place = put_lowered(scratch, received, header);
-    let payload_place = put_own(scratch, own_place, settings.own, header);
-    octets::put(
-        scratch,
-        payload_place,
-        pdu::parts::payload(received, header),
-    );
+    let own_place = put_lowered(output, received, header);
+    let payload_place = put_own(output, own_place, settings.own, header);
+    octets::put(output, payload_place, pdu::parts::payload(received, header));
 }
 
 // The received header with its hop limit lowered.
-fn put_lowered(scratch: &mut [u8], received: &[u8], header: Header) -> usize
-    requires { ⌜ (readOf (now received) ≡ Pdu header)
-        × (header .«hop_limit» ≡ 0 → ⊥)
-        × (headerLength header ≤ length (now scratch)) ⌝ }
-    ensures { λ r. ⌜ (r ≡ headerLength header)
-        × (now (scratch .exit) ≡ over (loweredHeader (now (received .entry))) (now (scratch .entry))) ⌝ }
+fn put_lowered(output: &mut [u8], received: &[u8], header: Header) -> usize
+    requires { ⌜ (readOf (now received) ≡ Pdu header) × (header .«hop_limit» ≡ 0 → ⊥) × (headerLength header ≤ length (now output)) ⌝ }
+    ensures { λ r. ⌜ (r ≡ headerLength header) × (now (output .exit) ≡ over (loweredHeader (now (received .entry))) (now (output .entry))) ⌝ }
 {
     let end = header.header_length();
-    octets::put(scratch, 0, &received[..end]);
-    set_byte(scratch, 2, lowered_byte(received[2]));
+    octets::put(output, 0, &received[..end]);
+    set_byte(output, 2, lowered_byte(received[2]));
     end
 }
 
@@ -81,22 +68,24 @@ fn lowered_byte(byte2: u8) -> u8
     }
 }
 
-fn set_byte(scratch: &mut [u8], place: usize, byte: u8)
-    requires { ⌜ place < length (now scratch) ⌝ }
-    ensures { λ _. ⌜ now (scratch .exit) ≡ set (now (scratch .entry)) place byte ⌝ }
+fn set_byte(output: &mut [u8], place: usize, byte: u8)
+    requires { ⌜ place < length (now output) ⌝ }
+    ensures { λ _. ⌜ now (output .exit) ≡ set (now (output .entry)) place byte ⌝ }
 {
-    scratch[place] = byte;
+    output[place] = byte;
 }
 
 // With the path bit: the count one higher, and the own address after the last path entry.
-fn put_own(scratch: &mut [u8], place: usize, own: u16, header: Header) -> usize
-    requires { ⌜ (header .«path_bit» ≡ true → (header .«path_count» < pathLimit) × (pathStart header ≤ length (now scratch))) ⌝ }
-    ensures { λ r. ⌜ (r ≡ cond (header .«path_bit») (placeAfter (set (now (scratch .entry)) (pathStart header - 1) (header .«path_count» + 1)) place (wordBytes own)) place) × (now (scratch .exit) ≡ cond (header .«path_bit») (placed (set (now (scratch .entry)) (pathStart header - 1) (header .«path_count» + 1)) place (wordBytes own)) (now (scratch .entry))) ⌝ }
+fn put_own(output: &mut [u8], place: usize, own: u16, header: Header) -> usize
+    requires { ⌜ (header .«path_bit» ≡ true → (header .«path_count» < pathLimit) × (pathStart header ≤ length (now output))) ⌝ }
+    ensures { λ r. ⌜ (r ≡ cond (header .«path_bit») (placeAfter (set (now (output .entry)) (pathStart header - 1) (header .«path_count» + 1)) place (wordBytes own)) place)
+        × (now (output .exit)
+        ≡ cond (header .«path_bit») (placed (set (now (output .entry)) (pathStart header - 1) (header .«path_count» + 1)) place (wordBytes own)) (now (output .entry))) ⌝ }
 {
     if header.path_bit {
         let count_place = header.path_start() - 1;
-        set_byte(scratch, count_place, header.path_count + 1);
-        octets::put_word(scratch, place, own)
+        set_byte(output, count_place, header.path_count + 1);
+        octets::put_word(output, place, own)
     } else {
         place
     }

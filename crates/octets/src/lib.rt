@@ -2,7 +2,7 @@
 ghost use mathlib.Core.Path.{_≡_};
 ghost use Prim.Native.Nat.{_/_, _%_, _<_, _≤_};
 ghost use Rattle.octets.specs.Numbers.{flag};
-ghost use Rattle.octets.specs.Octets.{at, wordAt, wordBytes, IsPart, placed, placeAfter};
+ghost use Rattle.octets.specs.Octets.{at, wordAt, wordBytes, IsPart, Puts};
 
 // Byte `i`, and 0 past the end. Document 01, "Header, byte by byte", the table's column Byte; the 0 is this library's own choice.
 pub fn byte(bytes: &[u8], i: usize) -> u8
@@ -68,8 +68,7 @@ pub fn part(bytes: &[u8], place: usize, size: usize) -> &[u8]
 // Puts `part` into the output at `place`, and answers the place after it. Where it does not fit, nothing is written and the place stays.
 // Output around the part keeps its bytes. Document 01, "Numbers answered", what output keeps.
 pub fn put(output: &mut [u8], place: usize, part: &[u8]) -> usize
-    ensures { λ r. ⌜ (r ≡ placeAfter (now (output .entry)) place (now (part .entry)))
-        × (now (output .exit) ≡ placed (now (output .entry)) place (now (part .entry))) ⌝ }
+    ensures { λ r. ⌜ Puts (now (output .entry)) place (now (part .entry)) r (now (output .exit)) ⌝ }
 {
     if output.len() < place {
         return place;
@@ -84,8 +83,7 @@ pub fn put(output: &mut [u8], place: usize, part: &[u8]) -> usize
 // Puts the two bytes of a number into the output at `place`, as `put` does.
 // Document 01, "Header, byte by byte", the order of bytes, and "Numbers answered", what output keeps.
 pub fn put_word(output: &mut [u8], place: usize, x: u16) -> usize
-    ensures { λ r. ⌜ (r ≡ placeAfter (now (output .entry)) place (wordBytes x))
-        × (now (output .exit) ≡ placed (now (output .entry)) place (wordBytes x)) ⌝ }
+    ensures { λ r. ⌜ Puts (now (output .entry)) place (wordBytes x) r (now (output .exit)) ⌝ }
 {
     let part = [high(x), low(x)];
     put(output, place, &part)

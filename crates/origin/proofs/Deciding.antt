@@ -15,19 +15,11 @@ use Rattle.pdu.specs.declared.Destination.the-variants.{Everyone, Address}
 use Rattle.pdu.specs.declared.Written.{Written}
 use Rattle.pdu.specs.Sizes.{destinationFlag, pduLength}
 use Rattle.origin.specs.declared.Settings.{Settings}
-use Rattle.origin.specs.Origination.{freshHeader, fresh, originationNumber, originated, originatedOutput}
+use Rattle.origin.specs.Origination.{freshHeader, fresh, settingsFault, originationNumber, originated, originatedOutput}
 
--- the room that the PDU takes, and what is answered where there is just that: 10 to 13, or 0
+-- the room that the PDU takes
 abbrev pub enough : Settings → List ℕ → ℕ
 enough settings payload = pduLength (freshHeader settings (length payload))
-
-abbrev pub settingsNumber : Settings → List ℕ → ℕ
-settingsNumber settings payload = originationNumber settings payload (enough settings payload)
-
-orElse-assoc : (a b c : ℕ) → ((a orElse b) orElse c) ≡ (a orElse b orElse c)
-unfolding _orElse_
-orElse-assoc zero b c = refl
-orElse-assoc (suc n) b c = refl
 
 orElse-some : (n later : ℕ) → 0 < n → (n orElse later) ≡ n
 unfolding _orElse_
@@ -50,31 +42,52 @@ flag-one Everyone h = absurd (omega arith)
 flag-one (Address address) h = refl
 
 -- the tests one by one: each refusal where those above it do not hold
-module _ (settings : Settings) (payload : List ℕ) (room : ℕ) where
-  pub hop-refused : 7 < settings .«hop_limit» → 10 ≡ originationNumber settings payload room
-  unfolding originationNumber _gives_ _orElse_
+module _ (settings : Settings) (payload : List ℕ) where
+  pub hop-refused : 7 < settings .«hop_limit» → 10 ≡ settingsFault settings payload
+  unfolding settingsFault _gives_ _orElse_
   hop-refused h = simp (lt-ltb _ _ h)
 
   module _ (hop : settings .«hop_limit» ≤ 7) where
-    pub port-refused : 15 < settings .port → 11 ≡ originationNumber settings payload room
-    unfolding originationNumber _gives_ _orElse_
+    pub port-refused : 15 < settings .port → 11 ≡ settingsFault settings payload
+    unfolding settingsFault _gives_ _orElse_
     port-refused h = simp (le-ltb _ _ hop, lt-ltb _ _ h)
 
     module _ (port : settings .port ≤ 15) where
-      pub payload-refused : 4095 < length payload → 12 ≡ originationNumber settings payload room
-      unfolding originationNumber _gives_ _orElse_
+      pub payload-refused : 4095 < length payload → 12 ≡ settingsFault settings payload
+      unfolding settingsFault _gives_ _orElse_
       payload-refused h = simp (le-ltb _ _ hop, le-ltb _ _ port, lt-ltb _ _ h)
 
       module _ (short : length payload ≤ 4095) where
-        pub unaddressed-refused : true ≡ (settings .reliable && eqb (destinationFlag (settings .destination)) 0) → 13 ≡ originationNumber settings payload room
-        unfolding originationNumber _gives_ _orElse_
+        pub unaddressed-refused : true ≡ (settings .reliable && eqb (destinationFlag (settings .destination)) 0) → 13 ≡ settingsFault settings payload
+        unfolding settingsFault _gives_ _orElse_
         unaddressed-refused e = simp (le-ltb _ _ hop, le-ltb _ _ port, le-ltb _ _ short, ← e)
 
-        pub none-refused : false ≡ (settings .reliable && eqb (destinationFlag (settings .destination)) 0) → enough settings payload ≤ room → 0 ≡ originationNumber settings payload room
-        unfolding originationNumber _gives_ _orElse_
-        none-refused e h = simp (le-ltb _ _ hop, le-ltb _ _ port, le-ltb _ _ short, ← e, le-ltb _ _ h)
+        pub none-refused : false ≡ (settings .reliable && eqb (destinationFlag (settings .destination)) 0) → 0 ≡ settingsFault settings payload
+        unfolding settingsFault _gives_ _orElse_
+        none-refused e = simp (le-ltb _ _ hop, le-ltb _ _ port, le-ltb _ _ short, ← e)
 
--- what origination takes
+-- settings and a payload without fault
+pub record Settled (settings : Settings) (payload : List ℕ) : Type 0 where
+  pub hop : settings .«hop_limit» ≤ 7
+  pub port : settings .port ≤ 15
+  pub payload-limit : length payload ≤ 4095
+  pub addressed : settings .reliable ≡ true → destinationFlag (settings .destination) ≡ 1
+
+pub settled : (settings : Settings) (payload : List ℕ) → settingsFault settings payload ≡ 0 → Settled settings payload
+unfolding settingsFault
+settled settings payload e =
+    let t1 = orElse-zero _ _ e in
+    let t2 = orElse-zero _ _ (t1 .1) in
+    let t3 = orElse-zero _ _ (t2 .1) in
+    record {
+      hop = ltb-false _ _ (gives-zero _ 10 (omega arith) (t1 .0));
+      port = ltb-false _ _ (gives-zero _ 11 (omega arith) (t2 .0));
+      payload-limit = ltb-false _ _ (gives-zero _ 12 (omega arith) (t3 .0));
+      addressed =
+          λ reliable. flag-one (settings .destination) (addressed-from (settings .reliable) _ (gives-zero _ 13 (omega arith) (t3 .1)) reliable);
+    }
+
+-- what origination takes: that, and an output with room for it
 pub record Accepted (settings : Settings) (payload : List ℕ) (room : ℕ) : Type 0 where
   pub hop : settings .«hop_limit» ≤ 7
   pub port : settings .port ≤ 15
@@ -86,42 +99,39 @@ module _ (settings : Settings) (payload : List ℕ) (room : ℕ) where
   pub accepted : originationNumber settings payload room ≡ 0 → Accepted settings payload room
   unfolding originationNumber
   accepted e =
-      let t1 = orElse-zero _ _ e in
-      let t2 = orElse-zero _ _ (t1 .1) in
-      let t3 = orElse-zero _ _ (t2 .1) in
-      let t4 = orElse-zero _ _ (t3 .1) in
+      let t = orElse-zero _ _ e in
+      let s = settled settings payload (t .0) in
       record {
-        hop = ltb-false _ _ (gives-zero _ 10 (omega arith) (t1 .0));
-        port = ltb-false _ _ (gives-zero _ 11 (omega arith) (t2 .0));
-        payload-limit = ltb-false _ _ (gives-zero _ 12 (omega arith) (t3 .0));
-        addressed = λ reliable. flag-one (settings .destination) (addressed-from (settings .reliable) _ (gives-zero _ 13 (omega arith) (t4 .0)) reliable);
-        fits = ltb-false _ _ (gives-zero _ 14 (omega arith) (t4 .1));
+        hop = s .hop;
+        port = s .port;
+        payload-limit = s .payload-limit;
+        addressed = s .addressed;
+        fits = ltb-false _ _ (gives-zero _ 14 (omega arith) (t .1));
       }
 
-  split : originationNumber settings payload room ≡ (settingsNumber settings payload orElse ltb room (enough settings payload) gives 14)
-  unfolding originationNumber _gives_ _orElse_
-  split = simp (le-ltb (enough settings payload) (enough settings payload) (omega arith), orElse-assoc)
+  pub refused-early : (number : ℕ) → number ≡ settingsFault settings payload → 0 < number → originationNumber settings payload room ≡ number
+  unfolding originationNumber
+  refused-early number e h = rw (← e) (orElse-some _ _ h)
 
-  pub refused-early : (number : ℕ) → number ≡ settingsNumber settings payload → 0 < number → originationNumber settings payload room ≡ number
-  refused-early number e h = split ∙ rw (← e) (orElse-some _ _ h)
+  pub refused-room : settingsFault settings payload ≡ 0 → room < enough settings payload → originationNumber settings payload room ≡ 14
+  unfolding originationNumber _gives_
+  refused-room e h = orElse-none _ _ e ∙ simp (lt-ltb _ _ h)
 
-  pub refused-room : settingsNumber settings payload ≡ 0 → room < enough settings payload → originationNumber settings payload room ≡ 14
-  unfolding _gives_
-  refused-room e h = split ∙ orElse-none _ _ e ∙ simp (lt-ltb _ _ h)
-
-  pub not-refused : settingsNumber settings payload ≡ 0 → enough settings payload ≤ room → originationNumber settings payload room ≡ 0
-  unfolding _gives_
-  not-refused e h = split ∙ orElse-none _ _ e ∙ simp (le-ltb _ _ h)
+  pub not-refused : settingsFault settings payload ≡ 0 → enough settings payload ≤ room → originationNumber settings payload room ≡ 0
+  unfolding originationNumber _gives_
+  not-refused e h = orElse-none _ _ e ∙ simp (le-ltb _ _ h)
 
 -- the answer and the output with a refusal, and without
 module _ (settings : Settings) (payload output : List ℕ) where
-  pub refused : (number : ℕ) (answer : Written) → answer ≡ record { number = number; length = 0 } → originationNumber settings payload (length output) ≡ number → 0 < number
+  pub refused : (number : ℕ) (answer : Written) → answer ≡ record { number = number; length = 0 }
+      → originationNumber settings payload (length output) ≡ number → 0 < number
       → (answer ≡ originated settings payload (length output)) × (output ≡ originatedOutput settings payload output)
   unfolding originated originatedOutput
   refused number answer is e h = let n : eqb number 0 ≡ false = ne-eqb number 0 (λ (z : number ≡ 0). omega arith) in rw (is, e, n) (refl, refl)
 
   pub done : (long : ℕ) (now : List ℕ) → originationNumber settings payload (length output) ≡ 0 → long ≡ enough settings payload
       → now ≡ over (fresh settings payload) output
-      → (_≡_ {A = Written} (record { number = 0; length = long }) (originated settings payload (length output))) × (now ≡ originatedOutput settings payload output)
+      → (_≡_ {A = Written} (record { number = 0; length = long }) (originated settings payload (length output)))
+      × (now ≡ originatedOutput settings payload output)
   unfolding originated originatedOutput
   done long now e el en = rw (e, el, en) (refl, refl)

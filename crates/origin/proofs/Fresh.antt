@@ -15,8 +15,8 @@ use Rattle.writing.specs.Writing.{pathBytes, encode, fieldFault, headerWritten,
 use Rattle.writing.proofs.Encoding.{header-begins, length-header}
 use Rattle.writing.proofs.Within.{all-within}
 use Rattle.origin.specs.declared.Settings.{Settings}
-use Rattle.origin.specs.Origination.{freshHeader, fresh, originated, originatedOutput}
-use Rattle.origin.proofs.Deciding.{enough, settingsNumber, Accepted, accepted, not-refused, done}
+use Rattle.origin.specs.Origination.{settingsFault, freshHeader, fresh, originated, originatedOutput}
+use Rattle.origin.proofs.Deciding.{enough, Accepted, accepted, not-refused, done}
 
 pub flag-small : (bit : Bool) → flag bit ≤ 1
 flag-small true = omega arith
@@ -41,11 +41,13 @@ module _ (settings : Settings) (payload output : List ℕ) (header : Header) (is
   unfolding fresh encode pathBytes
   put-over begun now written a put-header put =
       let h = freshHeader settings (length payload) in
-      let b = header-begins h output (fresh-within a) (omega (arith, fresh-room a)) begun written (rw is at (put-header .0)) (rw is at (put-header .1)) in
+      let b = header-begins h output (fresh-within a) (omega (arith, fresh-room a)) begun written (rw is at (put-header .0))
+      (rw is at (put-header .1)) in
       let all = more payload begun now _ b (omega (arith, b .ends, length-header h, fresh-room a)) refl put in
       rw append-nil (all .is)
 
-  pub fresh-put : (begun now : List ℕ) (written : Written) (long : ℕ) → settingsNumber settings payload ≡ 0 → long ≡ pduLength header → long ≤ length output
+  pub fresh-put : (begun now : List ℕ) (written : Written) (long : ℕ) → settingsFault settings payload ≡ 0 → long ≡ pduLength header
+      → long ≤ length output
       → (written ≡ headerWritten header (length output)) × (begun ≡ headerOutput header output) → now ≡ placed begun (written .length) payload
       → (_≡_ {A = Written} (record { number = 0; length = long }) (originated settings payload (length output)))
       × (now ≡ originatedOutput settings payload output)

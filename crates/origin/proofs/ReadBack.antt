@@ -27,7 +27,8 @@ no-id : (reliable : Bool) (id : ℕ) → flag reliable ≡ 0 → cond reliable i
 no-id true id e = absurd (omega arith)
 no-id false id e = refl
 
-pub fresh-well-formed : {settings : Settings} {payload : List ℕ} {room : ℕ} → Accepted settings payload room → WellFormed (freshHeader settings (length payload)) [] payload
+pub fresh-well-formed : {settings : Settings} {payload : List ℕ} {room : ℕ} → Accepted settings payload room
+    → WellFormed (freshHeader settings (length payload)) [] payload
 unfolding freshHeader
 fresh-well-formed {settings} a =
     record {
@@ -72,6 +73,7 @@ hop-as-set settings payload room rest header done shown =
     rw same
 
 -- what the caller finds in the output
-pub output-back : (settings : Settings) (payload output : List ℕ) → originationNumber settings payload (length output) ≡ 0 → Holds settings payload (originatedOutput settings payload output)
+pub output-back : (settings : Settings) (payload output : List ℕ) → originationNumber settings payload (length output) ≡ 0
+    → Holds settings payload (originatedOutput settings payload output)
 unfolding originatedOutput over
 output-back settings payload output done = rw done (fresh-back settings payload (length output) done (drop (length (fresh settings payload)) output))

@@ -12,7 +12,8 @@ use Rattle.pdu.specs.Sizes.{payloadLimit, destinationFlag, pduLength}
 use Rattle.writing.specs.Writing.{encode}
 use Rattle.origin.specs.declared.Settings.{Settings}
 
--- the header of a PDU just originated: version 0; encrypted, reserved, ACK and added header 0; the rest as set; with the path bit, the count byte is 0;
+-- the header of a PDU just originated: version 0; encrypted, reserved, ACK and added header 0; the rest as set; with the path bit, the count byte
+-- is 0;
 -- the PDU ID for reliable service only
 unfoldable pub freshHeader : Settings → ℕ → Header
 freshHeader settings payloadLength =
@@ -37,14 +38,18 @@ freshHeader settings payloadLength =
 unfoldable pub fresh : Settings → List ℕ → List ℕ
 fresh settings payload = encode (freshHeader settings (length payload)) [] payload
 
--- what origination answers for an output of so many bytes: 0, or 10 to 14 in that order
-unfoldable pub originationNumber : Settings → List ℕ → ℕ → ℕ
-originationNumber settings payload room =
+-- what settings and payload are refused for, whatever the output: 10 to 13 in that order, or 0
+unfoldable pub settingsFault : Settings → List ℕ → ℕ
+settingsFault settings payload =
     ltb 7 (settings .«hop_limit») gives 10
     orElse ltb 15 (settings .port) gives 11
     orElse ltb payloadLimit (length payload) gives 12
     orElse (settings .reliable && eqb (destinationFlag (settings .destination)) 0) gives 13
-    orElse ltb room (pduLength (freshHeader settings (length payload))) gives 14
+
+-- what origination answers for an output of so many bytes: that, then 14; 0 where a PDU is written
+unfoldable pub originationNumber : Settings → List ℕ → ℕ → ℕ
+originationNumber settings payload room =
+    settingsFault settings payload orElse ltb room (pduLength (freshHeader settings (length payload))) gives 14
 
 -- the number, and the length of what was written: 0 with a refusal
 unfoldable pub originated : Settings → List ℕ → ℕ → Written

@@ -8,7 +8,7 @@ ghost use Prim.Native.Nat.{_≤_};
 ghost use lib.Dec.{eqb};
 ghost use lib.ListN.{length};
 ghost use Rattle.pdu.specs.Sizes.{payloadLimit, destinationFlag, pduLength};
-ghost use Rattle.origin.specs.Origination.{freshHeader, originationNumber, originated, originatedOutput};
+ghost use Rattle.origin.specs.Origination.{freshHeader, settingsFault, originated, originatedOutput};
 
 // What a caller asks of a fresh PDU. Hop limit and port are wider than their bits, so that a number too large arrives whole and is refused.
 pub struct Settings {
@@ -30,9 +30,9 @@ pub fn originate(settings: Settings, payload: &[u8], output: &mut [u8]) -> Writt
     ensures { λ r. ⌜ (r ≡ originated settings (now (payload .entry)) (length (now (output .entry))))
         × (now (output .exit) ≡ originatedOutput settings (now (payload .entry)) (now (output .entry))) ⌝ }
 {
-    let refusal = settings_refusal(settings, payload);
-    if refusal != 0 {
-        return refused(refusal);
+    let fault = settings_fault(settings, payload);
+    if fault != 0 {
+        return refused(fault);
     }
     let header = fresh_header(settings, payload.len());
     let length = header.pdu_length();
@@ -51,9 +51,9 @@ fn refused(number: u8) -> Written
     Written { number, length: 0 }
 }
 
-// The refusals that need no output, 10 to 13: what is answered where there is just room enough.
-fn settings_refusal(settings: Settings, payload: &[u8]) -> u8
-    ensures { λ r. ⌜ r ≡ originationNumber settings (now (payload .entry)) (pduLength (freshHeader settings (length (now (payload .entry))))) ⌝ }
+// The refusals that need no output, 10 to 13, or 0.
+fn settings_fault(settings: Settings, payload: &[u8]) -> u8
+    ensures { λ r. ⌜ r ≡ settingsFault settings (now (payload .entry)) ⌝ }
 {
     if 7 < settings.hop_limit {
         return 10;

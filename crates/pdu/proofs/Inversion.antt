@@ -31,7 +31,8 @@ read-whole bytes w =
     let head : headerLength (headerOf bytes) ≤ length bytes = omega (arith, w .all) in
     simp (le-ltb _ _ (w .six), eq-eqb _ _ (w .version-0), le-ltb _ _ (w .known), w .addressed, le-ltb _ _ head, le-ltb _ _ (w .all))
 
-passed : (test : Bool) (refusal : Refusal) (later : Reading) (header : Header) → cond test (Refused refusal) later ≡ Pdu header → (test ≡ false) × (later ≡ Pdu header)
+passed : (test : Bool) (refusal : Refusal) (later : Reading) (header : Header) → cond test (Refused refusal) later ≡ Pdu header
+    → (test ≡ false) × (later ≡ Pdu header)
 passed true refusal later header e = let z : _≡_ {A = ℕ} 0 1 = cc in absurd (omega arith)
 passed false refusal later header e = (refl, e)
 

@@ -34,7 +34,8 @@ module _ (bytes : List ℕ) where
     unfolding sought inPath addressesAt
     sought-here place n left e h = rw (e, add-one) (simp (eq-eqb (wordAt bytes place) address h))
 
-    pub sought-next : (place next n left : ℕ) → next ≡ place + 2 → n ≡ left + 1 → (wordAt bytes place ≡ address → ⊥) → sought place n ≡ sought next left
+    pub sought-next : (place next n left : ℕ) → next ≡ place + 2 → n ≡ left + 1 → (wordAt bytes place ≡ address → ⊥)
+        → sought place n ≡ sought next left
     unfolding sought inPath addressesAt
     sought-next place next n left e f h = rw (e, f, add-one) (simp (ne-eqb (wordAt bytes place) address h))
 

@@ -13,7 +13,8 @@ use Rattle.pdu.specs.Header.{isSet, protocol, timeStampBit, pathBit, des
 use Rattle.pdu.specs.Sizes.{destinationFlag, pathEntries, pathStart, headerLength, pduLength}
 
 pub header-is : (bytes : List ℕ) {byte0 byte1 byte2 byte3 from id count : ℕ} {to : Destination}
-    → byte0 ≡ at bytes 0 → byte1 ≡ at bytes 1 → byte2 ≡ at bytes 2 → byte3 ≡ payloadLength byte2 (at bytes 3) → from ≡ wordAt bytes sourcePlace
+    → byte0 ≡ at bytes 0 → byte1 ≡ at bytes 1 → byte2 ≡ at bytes 2 → byte3 ≡ payloadLength byte2 (at bytes 3)
+    → from ≡ wordAt bytes sourcePlace
     → to ≡ destinationIn bytes → id ≡ pduIdIn bytes → count ≡ pathCountIn bytes
     → _≡_ {A = Header}
     (record {
@@ -62,7 +63,11 @@ module _ (bytes : List ℕ) where
   pub start-shown : pathStart (headerOf bytes) ≡ pathCountPlace (at bytes 0) + pathBit (at bytes 0)
   unfolding headerOf
   start-shown =
-      omega (arith, destination-flag (destinationBit (at bytes 0)) (wordAt bytes destinationPlace) (omega arith), flag-isSet (pathBit (at bytes 0)) (omega arith))
+      omega (
+        arith,
+        destination-flag (destinationBit (at bytes 0)) (wordAt bytes destinationPlace) (omega arith),
+        flag-isSet (pathBit (at bytes 0)) (omega arith),
+      )
 
   pub length-shown : headerLength (headerOf bytes) ≡ pathCountPlace (at bytes 0) + pathBit (at bytes 0) + 2 * pathCountIn bytes
   length-shown = omega (arith, start-shown, entries-shown)

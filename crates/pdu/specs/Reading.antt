@@ -1,6 +1,6 @@
 -- Document 01, "Numbers answered", 1 to 6, in that order, on a PDU at the start of the bytes given.
 use Prim.Native.Nat.{ℕ}
-use mathlib.Core.Bool.{not, cond, _&&_}
+use mathlib.Core.Bool.{Bool, not, cond, _&&_}
 use mathlib.Core.List.{List}
 use lib.Dec.{eqb, ltb}
 use lib.ListN.{length}
@@ -37,3 +37,7 @@ refusalNumber PayloadCut = 6
 abbrev pub readingNumber : Reading → ℕ
 readingNumber (Pdu header) = 0
 readingNumber (Refused refusal) = refusalNumber refusal
+
+-- whether the bytes are exactly one PDU: it can be read, and no byte follows it
+unfoldable pub exactlyOne : List ℕ → Bool
+exactlyOne bytes = eqb (readingNumber (readOf bytes)) 0 && eqb (pduLength (headerOf bytes)) (length bytes)

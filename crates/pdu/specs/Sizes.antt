@@ -28,14 +28,6 @@ headerLimit = 520
 abbrev pub pduLimit : ℕ
 pduLimit = 4615
 
--- each address list holds 0 to 64 ranges
-abbrev pub rangeLimit : ℕ
-rangeLimit = 64
-
--- a batch is 0 to 16,384 bytes
-abbrev pub batchLimit : ℕ
-batchLimit = 16384
-
 -- those of a PDU together
 abbrev pub limits : Limits
 limits = record { fixed = fixedLength; payload = payloadLimit; path = pathLimit; header = headerLimit; pdu = pduLimit }

@@ -59,6 +59,7 @@ pub struct Limits {
 }
 
 // What writing answers: 0 and how many bytes were written, or the refusal's number and 0.
+#[repr(C)]
 pub struct Written {
     pub number: u8,
     pub length: usize,

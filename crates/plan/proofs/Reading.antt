@@ -46,10 +46,12 @@ read-step : (l : List ℕ) (n i : ℕ) → i < length l → readOn n (drop i l) 
 unfolding readOn
 read-step l n i h = rw (drop-cons l i 0 h, add-one i)
 
-pub read-more : (l : List ℕ) (n i m : ℕ) {r : Argument} → i < length l → r ≡ withDigit n (getD l i 0) → r ≡ Number m → readOn n (drop i l) ≡ readOn m (drop (i + 1) l)
+pub read-more : (l : List ℕ) (n i m : ℕ) {r : Argument} → i < length l → r ≡ withDigit n (getD l i 0) → r ≡ Number m
+    → readOn n (drop i l) ≡ readOn m (drop (i + 1) l)
 read-more l n i m h is number = read-step l n i h ∙ ap (λ (a : Argument). andThen a (λ k. readOn k (drop (i + 1) l))) (sym is ∙ number)
 
-pub read-stop : (l : List ℕ) (n i : ℕ) (r : Argument) → i < length l → r ≡ withDigit n (getD l i 0) → (tagOf the-type r ≡ 1) ⊎ (tagOf the-type r ≡ 2)
+pub read-stop : (l : List ℕ) (n i : ℕ) (r : Argument) → i < length l → r ≡ withDigit n (getD l i 0)
+    → (tagOf the-type r ≡ 1) ⊎ (tagOf the-type r ≡ 2)
     → readOn n (drop i l) ≡ r
 read-stop l n i r h is other = read-step l n i h ∙ ap (λ (a : Argument). andThen a (λ k. readOn k (drop (i + 1) l))) (sym is) ∙ stop r other
   where

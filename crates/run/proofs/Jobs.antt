@@ -8,14 +8,14 @@ use lib.Seq.{length-take-le}
 use Rattle.octets.specs.Octets.{placed, placeAfter}
 use Rattle.octets.proofs.Placing.{length-placed, after-within}
 use Rattle.node.specs.declared.Settings.{Settings}
-use Rattle.node.specs.Decision.{Lists, listsOf}
-use Rattle.pdu.specs.Sizes.{batchLimit}
-use Rattle.batch.specs.Walk.{walk}
+use Rattle.lists.specs.Lists.{Lists, listsOf}
+use Rattle.node.specs.Decision.{Node, nodeOf}
+use Rattle.batch.specs.Walk.{batchLimit, walk}
 use Rattle.text.specs.Text.{firstLine, refusedLine}
 use Rattle.job.specs.declared.Section.{Section}
 use Rattle.job.specs.declared.Job.{Job}
 use Rattle.job.specs.declared.Reading.the-variants as reading
-use Rattle.job.specs.Jobs.{jobOf, settingsOf, valuesIn, padded, listsIn, batchIn}
+use Rattle.job.specs.Jobs.{jobOf, settingsOf, valuesIn, padded, listsIn, batchIn, nodeIn}
 use Rattle.job.proofs.Inversion.{job-in}
 use Rattle.job.proofs.Padding.{length-padded, values-start}
 use Rattle.run.specs.Run.{roomForOne, walkLines, batchLines, runLines, textWith, placeWith}
@@ -31,11 +31,13 @@ module _ (bytes : List ℕ) (section : Section) (few : section .count ≤ 64) (a
   pub list-is : take (2 * section .count) array ≡ valuesIn bytes section
   list-is = ap (take (2 * section .count)) e ∙ values-start bytes section few
 
-pub lists-are : (bytes : List ℕ) (job : Job) (a b c d : List ℕ) → a ≡ valuesIn bytes (job .«source_pass») → b ≡ valuesIn bytes (job .«source_reject»)
+pub lists-are : (bytes : List ℕ) (job : Job) (a b c d : List ℕ) → a ≡ valuesIn bytes (job .«source_pass»)
+    → b ≡ valuesIn bytes (job .«source_reject»)
     → c ≡ valuesIn bytes (job .«destination_pass») → d ≡ valuesIn bytes (job .«destination_reject») → listsOf a b c d ≡ listsIn bytes job
 lists-are bytes job a b c d ea eb ec ed = λ i. record { sourcePass = ea i; sourceReject = eb i; destinationPass = ec i; destinationReject = ed i }
 
-pub batch-short : (bytes : List ℕ) (job : Job) (batch : List ℕ) → jobOf bytes ≡ reading.Job job → batch ≡ batchIn bytes job → length batch ≤ batchLimit
+pub batch-short : (bytes : List ℕ) (job : Job) (batch : List ℕ) → jobOf bytes ≡ reading.Job job → batch ≡ batchIn bytes job
+    → length batch ≤ batchLimit
 batch-short bytes job batch e eb =
     let i = job-in bytes job e in
     omega (arith, ap length eb, length-take (job .batch .count) (drop (job .batch .place) bytes), i .batch-limit)
@@ -45,22 +47,24 @@ pub own-is : (job : Job) → settingsOf job .own ≡ job .own
 unfolding settingsOf
 own-is job = refl
 
-place-first : (text line : List ℕ) (later : List (List ℕ)) → placeWith text 0 (line ∷ later) ≡ placeWith (placed text 0 line) (placeAfter text 0 line) later
+place-first : (text line : List ℕ) (later : List (List ℕ))
+    → placeWith text 0 (line ∷ later) ≡ placeWith (placed text 0 line) (placeAfter text 0 line) later
 unfolding placeWith
 place-first text line later = refl
 
-text-first : (text line : List ℕ) (later : List (List ℕ)) → textWith text 0 (line ∷ later) ≡ textWith (placed text 0 line) (placeAfter text 0 line) later
+text-first : (text line : List ℕ) (later : List (List ℕ))
+    → textWith text 0 (line ∷ later) ≡ textWith (placed text 0 line) (placeAfter text 0 line) later
 unfolding textWith
 text-first text line later = refl
 
-batch-put : (settings : Settings) (lists : Lists) (batch text t1 t2 : List ℕ) (own p1 p2 : ℕ) → own ≡ settings .own
+batch-put : (node : Node) (batch text t1 t2 : List ℕ) (own p1 p2 : ℕ) → own ≡ node .settings .own
     → (p1 ≡ placeAfter text 0 (firstLine own)) × (t1 ≡ placed text 0 (firstLine own))
-    → (p2 ≡ placeWith t1 p1 (walkLines settings lists batch 0 (walk settings lists roomForOne batch)))
-    × (t2 ≡ textWith t1 p1 (walkLines settings lists batch 0 (walk settings lists roomForOne batch)))
-    → (p2 ≡ placeWith text 0 (batchLines settings lists batch)) × (t2 ≡ textWith text 0 (batchLines settings lists batch))
+    → (p2 ≡ placeWith t1 p1 (walkLines node batch 0 (walk node roomForOne batch)))
+    × (t2 ≡ textWith t1 p1 (walkLines node batch 0 (walk node roomForOne batch)))
+    → (p2 ≡ placeWith text 0 (batchLines node batch)) × (t2 ≡ textWith text 0 (batchLines node batch))
 unfolding batchLines
-batch-put settings lists batch text t1 t2 own p1 p2 eo e1 e2 =
-    let later = walkLines settings lists batch 0 (walk settings lists roomForOne batch) in (
+batch-put node batch text t1 t2 own p1 p2 eo e1 e2 =
+    let later = walkLines node batch 0 (walk node roomForOne batch) in (
       e2 .0 ∙ ap (λ (t : List ℕ). placeWith t p1 later) (e1 .1) ∙ ap (λ (p : ℕ). placeWith (placed text 0 (firstLine own)) p later) (e1 .0)
           ∙ sym (place-first text (firstLine own) later) ∙ ap (λ (o : ℕ). placeWith text 0 (firstLine o ∷ later)) eo,
       e2 .1 ∙ ap (λ (t : List ℕ). textWith t p1 later) (e1 .1) ∙ ap (λ (p : ℕ). textWith (placed text 0 (firstLine own)) p later) (e1 .0)
@@ -70,13 +74,13 @@ batch-put settings lists batch text t1 t2 own p1 p2 eo e1 e2 =
 pub job-put : (bytes : List ℕ) (job : Job) (settings : Settings) (lists : Lists) (batch text t1 t2 : List ℕ) (p1 p2 : ℕ)
     → settings ≡ settingsOf job → lists ≡ listsIn bytes job → batch ≡ batchIn bytes job
     → (p1 ≡ placeAfter text 0 (firstLine (job .own))) × (t1 ≡ placed text 0 (firstLine (job .own)))
-    → (p2 ≡ placeWith t1 p1 (walkLines settings lists batch 0 (walk settings lists roomForOne batch)))
-    × (t2 ≡ textWith t1 p1 (walkLines settings lists batch 0 (walk settings lists roomForOne batch)))
-    → (p2 ≡ placeWith text 0 (batchLines (settingsOf job) (listsIn bytes job) (batchIn bytes job)))
-    × (t2 ≡ textWith text 0 (batchLines (settingsOf job) (listsIn bytes job) (batchIn bytes job)))
+    → (p2 ≡ placeWith t1 p1 (walkLines (nodeOf settings lists) batch 0 (walk (nodeOf settings lists) roomForOne batch)))
+    × (t2 ≡ textWith t1 p1 (walkLines (nodeOf settings lists) batch 0 (walk (nodeOf settings lists) roomForOne batch)))
+    → (p2 ≡ placeWith text 0 (batchLines (nodeIn bytes job) (batchIn bytes job)))
+    × (t2 ≡ textWith text 0 (batchLines (nodeIn bytes job) (batchIn bytes job)))
 job-put bytes job settings lists batch text t1 t2 p1 p2 es el eb e1 e2 =
     let own = sym (ap (λ (s : Settings). s .own) es ∙ own-is job) in
-    rw (← es, ← el, ← eb) (batch-put settings lists batch text t1 t2 (job .own) p1 p2 own e1 e2)
+    rw (← es, ← el, ← eb) (batch-put (nodeOf settings lists) batch text t1 t2 (job .own) p1 p2 own e1 e2)
 
 -- a job's lines by its reading
 module _ (bytes text : List ℕ) where
@@ -87,8 +91,8 @@ module _ (bytes text : List ℕ) where
   refused-put number t p e r = rw e r
 
   pub read-put : (job : Job) (t : List ℕ) (p : ℕ) → jobOf bytes ≡ reading.Job job
-      → (p ≡ placeWith text 0 (batchLines (settingsOf job) (listsIn bytes job) (batchIn bytes job)))
-      × (t ≡ textWith text 0 (batchLines (settingsOf job) (listsIn bytes job) (batchIn bytes job)))
+      → (p ≡ placeWith text 0 (batchLines (nodeIn bytes job) (batchIn bytes job)))
+      × (t ≡ textWith text 0 (batchLines (nodeIn bytes job) (batchIn bytes job)))
       → (p ≡ placeWith text 0 (runLines bytes)) × (t ≡ textWith text 0 (runLines bytes))
   unfolding runLines
   read-put job t p e r = rw e r
@@ -99,4 +103,9 @@ unfolding placeWith
 place-within [] text place h = h
 place-within (line ∷ later) text place h =
     let long = length-placed text place line in
-    omega (arith, long, place-within later (placed text place line) (placeAfter text place line) (omega (arith, long, after-within text place line h)))
+    omega (
+      arith,
+      long,
+      place-within later (placed text place line) (placeAfter text place line)
+          (omega (arith, long, after-within text place line h)),
+    )

@@ -8,8 +8,7 @@ use lib.Dec.{leb}
 use lib.ListN.{length, take, length-append}
 use lib.Seq.{take-all}
 use borrow.Author.Tests.{leb-true, leb-false}
-use Rattle.octets.specs.Octets.{placed, placeAfter}
-use Rattle.octets.proofs.Words.{Bytes}
+use Rattle.octets.specs.Octets.{AllBytes, placed, placeAfter}
 use Rattle.octets.proofs.Placing.{is-after, length-placed, nothing-placed, placed-more, placed-start, take-over}
 use Rattle.job.specs.declared.Reading.{Reading}
 use Rattle.job.specs.declared.Reading.the-variants as reading
@@ -35,7 +34,7 @@ all-placed (line ∷ later) text place h =
     )
 
 -- what a run leaves
-pub ran : (bytes before after : List ℕ) (end : ℕ) → Bytes bytes → LinesPut before 0 (runLines bytes) after end → Ran bytes before after end
+pub ran : (bytes before after : List ℕ) (end : ℕ) → AllBytes bytes → LinesPut before 0 (runLines bytes) after end → Ran bytes before after end
 unfolding printed
 ran bytes before after end small e =
     record {

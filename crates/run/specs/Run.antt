@@ -1,4 +1,4 @@
--- Document 01, "The program `relay`": the lines that a batch prints.
+-- Document 01, "The program `relay`": the lines that a job prints, and the room for them.
 use Prim.Native.Nat.{ℕ, _+_, _*_, _≤_}
 use mathlib.Core.Bool.{cond}
 use mathlib.Core.Path.{_≡_}
@@ -6,14 +6,13 @@ use mathlib.Core.List.{List, [], _∷_, _++_, flatten}
 use lib.Dec.{eqb}
 use lib.ListN.{length, take, drop}
 use Rattle.octets.specs.Octets.{placed, placeAfter}
-use Rattle.pdu.specs.Sizes.{pduLimit, batchLimit}
-use Rattle.node.specs.declared.Settings.{Settings}
-use Rattle.node.specs.Decision.{Lists, deliveryNumber, repeatNumber}
+use Rattle.pdu.specs.Sizes.{pduLimit}
+use Rattle.node.specs.Decision.{Node, deliveryNumber, repeatNumber}
 use Rattle.node.specs.Repeat.{repeated}
-use Rattle.batch.specs.Walk.{Walk, walk}
+use Rattle.batch.specs.Walk.{batchLimit, Walk, walk}
 use Rattle.job.specs.declared.Reading.{Reading}
 use Rattle.job.specs.declared.Reading.the-variants.{Job, Refused}
-use Rattle.job.specs.Jobs.{jobOf, jobLimit, settingsOf, listsIn, batchIn}
+use Rattle.job.specs.Jobs.{jobOf, jobLimit, batchIn, nodeIn}
 use Rattle.text.specs.Text.{firstLine, pduLine, lastLine, refusedLine}
 
 -- the program's output for one PDU has room for the longest, so that none is too long for it
@@ -21,32 +20,32 @@ abbrev pub roomForOne : ℕ
 roomForOne = pduLimit
 
 -- the repeated PDU, or nothing
-abbrev pub repeatedOrNone : Settings → Lists → List ℕ → List ℕ
-repeatedOrNone settings lists received = cond (eqb (repeatNumber settings lists roomForOne received) 0) (repeated (settings .own) received) []
+abbrev pub repeatedOrNone : Node → List ℕ → List ℕ
+repeatedOrNone node received = cond (eqb (repeatNumber node roomForOne received) 0) (repeated (node .settings .own) received) []
 
 -- the line of the PDU at an offset
-abbrev pub lineAt : Settings → Lists → List ℕ → ℕ → ℕ → List ℕ
-lineAt settings lists batch number offset =
-    pduLine number offset (deliveryNumber settings lists roomForOne (drop offset batch)) (repeatNumber settings lists roomForOne (drop offset batch))
-    (repeatedOrNone settings lists (drop offset batch))
+abbrev pub lineAt : Node → List ℕ → ℕ → ℕ → List ℕ
+lineAt node batch number offset =
+    pduLine number offset (deliveryNumber node roomForOne (drop offset batch)) (repeatNumber node roomForOne (drop offset batch))
+    (repeatedOrNone node (drop offset batch))
 
 -- a line for each offset, numbered from a number on
-unfoldable pub pduLines : Settings → Lists → List ℕ → ℕ → List ℕ → List (List ℕ)
-pduLines settings lists batch number [] = []
-pduLines settings lists batch number (offset ∷ later) = lineAt settings lists batch number offset ∷ pduLines settings lists batch (number + 1) later
+unfoldable pub pduLines : Node → List ℕ → ℕ → List ℕ → List (List ℕ)
+pduLines node batch number [] = []
+pduLines node batch number (offset ∷ later) = lineAt node batch number offset ∷ pduLines node batch (number + 1) later
 
 -- the PDU lines of a walk after so many were printed, and the last line
-unfoldable pub walkLines : Settings → Lists → List ℕ → ℕ → Walk → List (List ℕ)
-walkLines settings lists batch printed w =
-    pduLines settings lists batch (printed + 1) (w .offsets) ++ (lastLine (printed + length (w .offsets)) (w .end) ∷ [])
+unfoldable pub walkLines : Node → List ℕ → ℕ → Walk → List (List ℕ)
+walkLines node batch printed w =
+    pduLines node batch (printed + 1) (w .offsets) ++ (lastLine (printed + length (w .offsets)) (w .end) ∷ [])
 
 -- a line for each PDU of a batch that is not too long, and the last line
-abbrev pub linesOf : Settings → Lists → List ℕ → List (List ℕ)
-linesOf settings lists batch = walkLines settings lists batch 0 (walk settings lists roomForOne batch)
+abbrev pub linesOf : Node → List ℕ → List (List ℕ)
+linesOf node batch = walkLines node batch 0 (walk node roomForOne batch)
 
 -- all lines of it: own address first
-unfoldable pub batchLines : Settings → Lists → List ℕ → List (List ℕ)
-batchLines settings lists batch = firstLine (settings .own) ∷ linesOf settings lists batch
+unfoldable pub batchLines : Node → List ℕ → List (List ℕ)
+batchLines node batch = firstLine (node .settings .own) ∷ linesOf node batch
 
 -- lines put into a text one after another; one that does not fit is left out
 unfoldable pub textWith : List ℕ → ℕ → List (List ℕ) → List ℕ
@@ -64,7 +63,7 @@ LinesPut before place lines after end = (end ≡ placeWith before place lines) �
 -- the lines of a job: a bad job prints only `refused` and the number
 abbrev pub jobLines : List ℕ → Reading → List (List ℕ)
 jobLines bytes (Refused number) = refusedLine number ∷ []
-jobLines bytes (Job job) = batchLines (settingsOf job) (listsIn bytes job) (batchIn bytes job)
+jobLines bytes (Job job) = batchLines (nodeIn bytes job) (batchIn bytes job)
 
 -- what `relay` prints for the bytes of a job, line by line
 unfoldable pub runLines : List ℕ → List (List ℕ)

@@ -2,10 +2,11 @@
 ghost use mathlib.Core.Path.{_≡_};
 ghost use Prim.Native.Nat.{_≤_};
 ghost use lib.ListN.{length};
-ghost use Rattle.node.specs.Decision.{listsOf};
-ghost use Rattle.pdu.specs.Sizes.{batchLimit};
+ghost use Rattle.lists.specs.Lists.{listsOf};
+ghost use Rattle.node.specs.Decision.{nodeOf};
+ghost use Rattle.batch.specs.Walk.{batchLimit};
 ghost use Rattle.job.specs.declared.Reading.the-variants as reading;
-ghost use Rattle.job.specs.Jobs.{jobOf, settingsOf, listsIn, batchIn};
+ghost use Rattle.job.specs.Jobs.{jobOf, nodeIn, batchIn};
 ghost use Rattle.run.specs.Run.{linesOf, batchLines, LinesPut, Ran};
 use batch::Cursor;
 use batch::Stepped;
@@ -30,7 +31,7 @@ pub fn relay(bytes: &[u8], text: &mut [u8]) -> usize
 fn put_job(text: &mut [u8], bytes: &[u8], job: Job) -> usize
     requires { ⌜ jobOf (now bytes) ≡ reading.Job job ⌝ }
     ensures { λ r. ⌜ LinesPut (now (text .entry)) 0
-        (batchLines (settingsOf job) (listsIn (now (bytes .entry)) job) (batchIn (now (bytes .entry)) job)) (now (text .exit)) r ⌝ }
+        (batchLines (nodeIn (now (bytes .entry)) job) (batchIn (now (bytes .entry)) job)) (now (text .exit)) r ⌝ }
 {
     let source_pass = job::values(bytes, job.source_pass);
     let source_reject = job::values(bytes, job.source_reject);
@@ -65,8 +66,8 @@ fn put_walk<'a>(
     batch: &[u8],
 ) -> usize
     requires { ⌜ length (now batch) ≤ batchLimit ⌝ }
-    ensures { λ r. ⌜ LinesPut (now (text .entry)) place (linesOf settings
-        (listsOf (now («source_pass» .entry)) (now («source_reject» .entry)) (now («destination_pass» .entry)) (now («destination_reject» .entry)))
+    ensures { λ r. ⌜ LinesPut (now (text .entry)) place (linesOf (nodeOf settings
+        (listsOf (now («source_pass» .entry)) (now («source_reject» .entry)) (now («destination_pass» .entry)) (now («destination_reject» .entry))))
         (now (batch .entry))) (now (text .exit)) r ⌝ }
 {
     let mut repeated = [0u8; Header::PDU_LIMIT];

@@ -23,7 +23,8 @@ within-small : (places number : ℕ) → number < 10 → decimalWithin (suc plac
 unfolding decimalWithin
 within-small places number h = rw (lt-ltb number 10 h, decimalWithin)
 
-within-large : (places number : ℕ) → 10 ≤ number → decimalWithin (suc places) number ≡ decimalWithin places (number / 10) ++ digit (number % 10) ∷ []
+within-large : (places number : ℕ) → 10 ≤ number
+    → decimalWithin (suc places) number ≡ decimalWithin places (number / 10) ++ digit (number % 10) ∷ []
 unfolding decimalWithin
 within-large places number h = rw (le-ltb number 10 h, decimalWithin)
 
@@ -101,7 +102,8 @@ written digits first value h k =
     ∙ drop-at (take (first - 1) digits) (value ∷ drop (suc (first - 1)) digits) (first - 1) before
     ∙ ap (λ (n : ℕ). value ∷ drop n digits) behind
 
-pub one-written : {number first rest : ℕ} {digits : List ℕ} (value : ℕ) → Begun number digits first rest → 10 ≤ rest → value ≡ digit (rest % 10)
+pub one-written : {number first rest : ℕ} {digits : List ℕ} (value : ℕ) → Begun number digits first rest → 10 ≤ rest
+    → value ≡ digit (rest % 10)
     → Begun number (set digits (first - 1) value) (first - 1) (rest / 10)
 one-written {number} {first} {rest} {digits} value b h e =
     let left : length (decimal (rest / 10)) ≤ first - 1 = omega (arith, b .room, length-large rest h) in

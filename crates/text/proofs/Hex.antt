@@ -28,7 +28,8 @@ hex-next bytes i h = rw (add-one i, take-suc bytes i 0 h) (hex-append (take i by
 
 two-placed : (output : List ℕ) (place high low : ℕ) → place + 2 ≤ length output
     → set (set output place high) (place + 1) low ≡ placed output place (high ∷ low ∷ [])
-two-placed output place high low h = rw (add-one place) (sets-eq (high ∷ low ∷ []) output place h) ∙ sym (is-placed output place (high ∷ low ∷ []) h)
+two-placed output place high low h =
+    rw (add-one place) (sets-eq (high ∷ low ∷ []) output place h) ∙ sym (is-placed output place (high ∷ low ∷ []) h)
 
 -- one byte more, its two digits put by two stores
 pub byte-put : {output now : List ℕ} {place next : ℕ} (bytes : List ℕ) (i high low : ℕ) → Put output place (hex (take i bytes)) now next
@@ -41,6 +42,7 @@ byte-put {output} {now} {place} {next} bytes i high low before h room eh el =
     rw (hex-next bytes i h, ← eh, ← el)
     (then before (high ∷ low ∷ []) _ (next + 2) (omega arith) (sym (is-after now next (high ∷ low ∷ []) here), two-placed now next high low here))
 
-pub all-put : {output now : List ℕ} {place next : ℕ} (bytes : List ℕ) (i : ℕ) → Put output place (hex (take i bytes)) now next → length bytes ≤ i
+pub all-put : {output now : List ℕ} {place next : ℕ} (bytes : List ℕ) (i : ℕ) → Put output place (hex (take i bytes)) now next
+    → length bytes ≤ i
     → Promised output place (hex bytes) now next
 all-put bytes i before h = rw (← take-all i bytes h) (done before)

@@ -69,7 +69,8 @@ module _ (output start repeated : List ℕ) (place : ℕ) (answer : Bool)
 
 pub rest : (output start repeated now₁ now₂ now₃ : List ℕ) (place next₁ next₂ next₃ : ℕ)
     → place + length (start ++ shown repeated ++ text "\n") ≤ length output
-    → Promised output place start now₁ next₁ → Promised now₁ next₁ (shown repeated) now₂ next₂ → Promised now₂ next₂ (text "\n") now₃ next₃
+    → Promised output place start now₁ next₁ → Promised now₁ next₁ (shown repeated) now₂ next₂
+    → Promised now₂ next₂ (text "\n") now₃ next₃
     → Put output place (start ++ shown repeated ++ text "\n") now₃ next₃
 rest output start repeated now₁ now₂ now₃ place next₁ next₂ next₃ h p₁ p₂ p₃ =
     let front = length-append start (shown repeated) in

@@ -16,7 +16,8 @@ length-shown [] = refl
 length-shown (byte ∷ repeated) = simp (eqb·suc-zero (length repeated)) (length-hex (byte ∷ repeated))
 
 -- what is shown takes a place at least, and the line's end one more
-pub too-small : (output place start repeated : ℕ) → output < place + start + 2 → false ≡ leb (place + start + cond (eqb repeated 0) 1 (2 * repeated) + 1) output
+pub too-small : (output place start repeated : ℕ) → output < place + start + 2
+    → false ≡ leb (place + start + cond (eqb repeated 0) 1 (2 * repeated) + 1) output
 too-small output place start zero h = sym (lt-leb (place + start + 1 + 1) output (omega arith))
 too-small output place start (suc repeated) h = rw (eqb·suc-zero repeated) (sym (lt-leb (place + start + 2 * suc repeated + 1) output (omega arith)))
 
@@ -33,7 +34,8 @@ pub same-room : (output place start repeated : ℕ) → place ≤ output → sta
 same-room output place start zero h k l = leb·zero ((output - place - start - 1) / 2) ∙ sym (le-leb (place + start + 1 + 1) output (omega arith))
 same-room output place start (suc repeated) h k l =
     rw (eqb·suc-zero repeated)
-    (same-tests (suc repeated) ((output - place - start - 1) / 2) (place + start + 2 * suc repeated + 1) output (λ fits. omega arith) (λ fits. omega arith))
+    (same-tests (suc repeated) ((output - place - start - 1) / 2) (place + start + 2 * suc repeated + 1) output (λ fits. omega arith)
+    (λ fits. omega arith))
 
 -- two characters a byte are room for `-` too
 pub shown-within : (repeated : List ℕ) (n : ℕ) → length repeated ≤ n → 0 < n → length (shown repeated) ≤ 2 * n

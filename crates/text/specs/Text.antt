@@ -42,7 +42,8 @@ shown repeated = cond (eqb (length repeated) 0) (text "-") (hex repeated)
 -- "A PDU line: its number from 1, its offset, delivery number, repeat number, the repeated PDU"
 unfoldable pub pduLine : ℕ → ℕ → ℕ → ℕ → List ℕ → List ℕ
 pduLine number offset delivery repeat repeated =
-    decimal number ++ text " " ++ decimal offset ++ text " " ++ decimal delivery ++ text " " ++ decimal repeat ++ text " " ++ shown repeated ++ text "\n"
+    decimal number ++ text " " ++ decimal offset ++ text " " ++ decimal delivery ++ text " " ++ decimal repeat ++ text " " ++ shown
+    repeated ++ text "\n"
 
 -- "Last line: PDU lines printed and the offset of the first byte not taken"
 unfoldable pub lastLine : ℕ → ℕ → List ℕ

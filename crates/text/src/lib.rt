@@ -5,7 +5,7 @@ ghost use mathlib.Core.List.{[], _∷_, _++_};
 ghost use Prim.Native.Nat.{_+_, _*_, _≤_, _<_};
 ghost use lib.Dec.{leb, eqb};
 ghost use lib.ListN.{length};
-ghost use Rattle.octets.specs.Octets.{placed, placeAfter};
+ghost use Rattle.octets.specs.Octets.{Puts};
 ghost use Rattle.text.specs.Text.{text, digit, decimal, hex, shown, firstLine, pduLine, lastLine, refusedLine};
 use octets::put;
 
@@ -23,8 +23,7 @@ fn digit(value: u8) -> u8
 // No leading zeros; 0 is one digit. Where they do not fit, nothing is written and the place stays.
 // Document 01, "The program `relay`", the numbers on its lines.
 pub fn put_decimal(output: &mut [u8], place: usize, n: u64) -> usize
-    ensures { λ r. ⌜ (r ≡ placeAfter (now (output .entry)) place (decimal n))
-        × (now (output .exit) ≡ placed (now (output .entry)) place (decimal n)) ⌝ }
+    ensures { λ r. ⌜ Puts (now (output .entry)) place (decimal n) r (now (output .exit)) ⌝ }
 {
     let mut digits = [0u8; 20];
     let mut first: usize = 20;
@@ -43,8 +42,7 @@ pub fn put_decimal(output: &mut [u8], place: usize, n: u64) -> usize
 // Where they do not all fit, nothing is written and the place stays.
 // No bytes are no digits. Document 01, "The program `relay`", the repeated PDU on its line.
 pub fn put_hex(output: &mut [u8], place: usize, bytes: &[u8]) -> usize
-    ensures { λ r. ⌜ (r ≡ placeAfter (now (output .entry)) place (hex (now (bytes .entry))))
-        × (now (output .exit) ≡ placed (now (output .entry)) place (hex (now (bytes .entry)))) ⌝ }
+    ensures { λ r. ⌜ Puts (now (output .entry)) place (hex (now (bytes .entry))) r (now (output .exit)) ⌝ }
 {
     if output.len() < place {
         return place;
@@ -66,8 +64,7 @@ pub fn put_hex(output: &mut [u8], place: usize, bytes: &[u8]) -> usize
 // Puts the start of a line, a number and the character after it; nothing where they do not all fit.
 fn put_ended(output: &mut [u8], place: usize, start: &[u8], n: u64, end: u8) -> usize
     requires { ⌜ length (now start) ≤ 40 ⌝ }
-    ensures { λ r. ⌜ (r ≡ placeAfter (now (output .entry)) place (now (start .entry) ++ decimal n ++ end ∷ []))
-        × (now (output .exit) ≡ placed (now (output .entry)) place (now (start .entry) ++ decimal n ++ end ∷ [])) ⌝ }
+    ensures { λ r. ⌜ Puts (now (output .entry)) place (now (start .entry) ++ decimal n ++ end ∷ []) r (now (output .exit)) ⌝ }
 {
     let mut line = [0u8; 64];
     let next = put(&mut line, 0, start);
@@ -80,8 +77,7 @@ fn put_ended(output: &mut [u8], place: usize, start: &[u8], n: u64, end: u8) -> 
 // Puts the line `relay` and the own address, and answers the place after it.
 // Where the line does not fit, nothing is written and the place stays. Document 01, "The program `relay`", the first line.
 pub fn put_first_line(output: &mut [u8], place: usize, own: u16) -> usize
-    ensures { λ r. ⌜ (r ≡ placeAfter (now (output .entry)) place (firstLine own))
-        × (now (output .exit) ≡ placed (now (output .entry)) place (firstLine own)) ⌝ }
+    ensures { λ r. ⌜ Puts (now (output .entry)) place (firstLine own) r (now (output .exit)) ⌝ }
 {
     put_ended(output, place, b"relay ", own as u64, b'\n')
 }
@@ -89,8 +85,7 @@ pub fn put_first_line(output: &mut [u8], place: usize, own: u16) -> usize
 // Puts the line `refused` and the number of a bad job, and answers the place after it.
 // Where the line does not fit, nothing is written and the place stays. Document 01, "The program `relay`", a bad job.
 pub fn put_refused_line(output: &mut [u8], place: usize, number: u8) -> usize
-    ensures { λ r. ⌜ (r ≡ placeAfter (now (output .entry)) place (refusedLine number))
-        × (now (output .exit) ≡ placed (now (output .entry)) place (refusedLine number)) ⌝ }
+    ensures { λ r. ⌜ Puts (now (output .entry)) place (refusedLine number) r (now (output .exit)) ⌝ }
 {
     put_ended(output, place, b"refused ", number as u64, b'\n')
 }
@@ -98,8 +93,7 @@ pub fn put_refused_line(output: &mut [u8], place: usize, number: u8) -> usize
 // Puts the line `end`, the PDU lines printed and the bytes taken, and answers the place after it.
 // Where the line does not fit, nothing is written and the place stays. Document 01, "The program `relay`", the last line.
 pub fn put_last_line(output: &mut [u8], place: usize, lines: u64, taken: u64) -> usize
-    ensures { λ r. ⌜ (r ≡ placeAfter (now (output .entry)) place (lastLine lines taken))
-        × (now (output .exit) ≡ placed (now (output .entry)) place (lastLine lines taken)) ⌝ }
+    ensures { λ r. ⌜ Puts (now (output .entry)) place (lastLine lines taken) r (now (output .exit)) ⌝ }
 {
     let mut start = [0u8; 32];
     let next = put_ended(&mut start, 0, b"end ", lines, b' ');
@@ -108,8 +102,7 @@ pub fn put_last_line(output: &mut [u8], place: usize, lines: u64, taken: u64) ->
 
 // Puts the repeated PDU in hex, or `-` where there is none.
 fn put_shown(output: &mut [u8], place: usize, repeated: &[u8]) -> usize
-    ensures { λ r. ⌜ (r ≡ placeAfter (now (output .entry)) place (shown (now (repeated .entry))))
-        × (now (output .exit) ≡ placed (now (output .entry)) place (shown (now (repeated .entry)))) ⌝ }
+    ensures { λ r. ⌜ Puts (now (output .entry)) place (shown (now (repeated .entry))) r (now (output .exit)) ⌝ }
 {
     if repeated.len() == 0 {
         return put(output, place, b"-");
@@ -119,8 +112,7 @@ fn put_shown(output: &mut [u8], place: usize, repeated: &[u8]) -> usize
 
 // Puts the start of a PDU line, the repeated PDU and the line's end; nothing where they do not all fit.
 fn put_rest(output: &mut [u8], place: usize, start: &[u8], repeated: &[u8]) -> usize
-    ensures { λ r. ⌜ (r ≡ placeAfter (now (output .entry)) place (now (start .entry) ++ shown (now (repeated .entry)) ++ text "\n"))
-        × (now (output .exit) ≡ placed (now (output .entry)) place (now (start .entry) ++ shown (now (repeated .entry)) ++ text "\n")) ⌝ }
+    ensures { λ r. ⌜ Puts (now (output .entry)) place (now (start .entry) ++ shown (now (repeated .entry)) ++ text "\n") r (now (output .exit)) ⌝ }
 {
     if !has_room(output.len(), place, start.len(), repeated.len()) {
         return place;
@@ -160,8 +152,7 @@ pub fn put_pdu_line(
     repeat: u8,
     repeated: &[u8],
 ) -> usize
-    ensures { λ r. ⌜ (r ≡ placeAfter (now (output .entry)) place (pduLine number offset delivery repeat (now (repeated .entry))))
-        × (now (output .exit) ≡ placed (now (output .entry)) place (pduLine number offset delivery repeat (now (repeated .entry)))) ⌝ }
+    ensures { λ r. ⌜ Puts (now (output .entry)) place (pduLine number offset delivery repeat (now (repeated .entry))) r (now (output .exit)) ⌝ }
 {
     let mut start = [0u8; 64];
     let next = put_decimal(&mut start, 0, number);

@@ -53,7 +53,8 @@ found-number (Refused refusal) = refl
 pub opened-number : (view : View) (bytes : RefT (List ℕ)) → Opened view bytes → view .at .number ≡ readingNumber (readOf (now bytes))
 opened-number view bytes o = rw (o .finds) (found-number (readOf (now bytes)))
 
-pub opened-says : (view : View) (bytes : RefT (List ℕ)) (header : Header) → Opened view bytes → readOf (now bytes) ≡ Pdu header → Says view header bytes
+pub opened-says : (view : View) (bytes : RefT (List ℕ)) (header : Header) → Opened view bytes → readOf (now bytes) ≡ Pdu header
+    → Says view header bytes
 opened-says view bytes header o e =
     let at = o .finds ∙ ap placesOf e in
     let size : pduLength header - headerLength header ≡ header .«payload_length» = omega arith in
@@ -83,7 +84,8 @@ not-in-none : (address : ℕ) → inPath address [] ≡ false
 unfolding inPath
 not-in-none address = refl
 
-pub opened-nothing : (view : View) (bytes : RefT (List ℕ)) (refusal : Refusal) → Opened view bytes → readOf (now bytes) ≡ Refused refusal → Nothing view refusal
+pub opened-nothing : (view : View) (bytes : RefT (List ℕ)) (refusal : Refusal) → Opened view bytes → readOf (now bytes) ≡ Refused refusal
+    → Nothing view refusal
 opened-nothing view bytes refusal o e =
     let at = o .finds ∙ ap placesOf e in
     let fields : headerIn (now (view .bytes)) (view .at) ≡ headerOf [] = rw at (ap headerOf (nothing-shown (now (view .bytes)) refusal)) in

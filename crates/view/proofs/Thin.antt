@@ -56,7 +56,8 @@ use Rattle.view.proofs.Places.Laws as P′
 pub record Answer : Type 2 where
   pub slot : Slot 1
   pub ty : Ty
-  pub typed : {M : Type 1} (𝓤 : URA M) (H : Heap 𝓤) (A : Atoms 𝓤) → Given 𝓤 H A → (κs : Lfts 1) (r : typeAt slot κs .Denot) (u : Val) → Is (typeAt slot κs) r (u ∷ []) → Holds (hasTy ty u) × WT u
+  pub typed : {M : Type 1} (𝓤 : URA M) (H : Heap 𝓤) (A : Atoms 𝓤) → Given 𝓤 H A → (κs : Lfts 1) (r : typeAt slot κs .Denot) (u : Val)
+      → Is (typeAt slot κs) r (u ∷ []) → Holds (hasTy ty u) × WT u
 
 abbrev pub number : Width → Answer
 number width = record { slot = plain (λ _. UInt width); ty = tyInt width; typed = λ 𝓤 H A W κs r u is. uint-lawful 𝓤 H A W width .typed r _ is .0 }
@@ -81,7 +82,9 @@ thin-fn ty g = record {
   lifetimes = 1;
   outlives = [];
   params = 1;
-  locals = local ty valueLocal ∷ local (T′.mir (named 0)) valueLocal ∷ local (sliceTy (tyRef erased imm (tyInt w8))) valueLocal ∷ local P′.mir valueLocal ∷ [];
+  locals =
+      local ty valueLocal ∷ local (T′.mir (named 0)) valueLocal ∷ local (sliceTy (tyRef erased imm (tyInt w8))) valueLocal
+      ∷ local P′.mir valueLocal ∷ [];
   body = seq (assign (place 2 []) (rvOpd (copy (place 1 (field 0 ∷ [])))))
       (seq (assign (place 3 []) (rvOpd (copy (place 1 (field 1 ∷ [])))))
       (seq (call g (copy (place 2 []) ∷ copy (place 3 []) ∷ []) (place 0 [])) return));
@@ -92,7 +95,13 @@ module _ (answer : Answer) where
   thin-ended = record { signature = record { lifetimes = 1; outlives = []; params = plain B ∷ []; result = answer .slot }; kept = (yes, tt) }
 
   abbrev calls-ended : Ended
-  calls-ended = record { signature = record { lifetimes = 1; outlives = []; params = shrSlice 0 tt (λ _. u8) ∷ plain (λ _. P.the-row) ∷ []; result = answer .slot }; kept = (yes, (yes, tt)) }
+  calls-ended =
+      record {
+        signature = record
+            { lifetimes = 1; outlives = []; params = shrSlice 0 tt (λ _. u8) ∷ plain (λ _. P.the-row) ∷ []; result = answer .slot };
+        kept =
+            (yes, (yes, tt));
+      }
 
   abbrev stayed : Stays (thin-ended .signature .params) (thin-ended .kept)
   stayed = (stay-none B yes, tt)
@@ -143,58 +152,88 @@ module _ (answer : Answer) where
       to = (((κ, tt), (q, tt), tt, (d .bytes, (d .at, tt)), passed), tt)
 
       asked : ent 𝓤 (onEntry 𝓤 H A (calls-ended .signature) (κ, tt) (q, tt) (d .bytes, (d .at, tt)) passed) (Callee 𝓤 H A .pre to)
-      asked = qed W ((‵ (flft κ q) ⊛ ‵ ftrue) ∷ ‵ (owns (ShrSlice (named 0) κ u8 ∷ P.the-row ∷ []) (d .bytes, (d .at, tt)) passed) ∷ []) ∵ join ! $ frame ! $ done !
+      asked =
+          qed W ((‵ (flft κ q) ⊛ ‵ ftrue) ∷ ‵ (owns (ShrSlice (named 0) κ u8 ∷ P.the-row ∷ []) (d .bytes, (d .at, tt)) passed) ∷ []) ∵
+          join ! $ frame ! $ done !
 
       -- what the struct owns gives what the callee asks, and is kept: the callee takes the fields in their order
-      apart : ent 𝓤 (onEntry 𝓤 H A (thin-ended .signature) (κ, tt) (q, tt) (d, tt) (mach ∷ [], tt)) (sep 𝓤 (Callee 𝓤 H A .pre to) (sem 𝓤 H A Own))
+      apart : ent 𝓤 (onEntry 𝓤 H A (thin-ended .signature) (κ, tt) (q, tt) (d, tt) (mach ∷ [], tt))
+          (sep 𝓤 (Callee 𝓤 H A .pre to) (sem 𝓤 H A Own))
       apart =
           qed W ((‵ (flft κ q) ⊛ ‵ ftrue) ∷ ‵ (owns (B (κ, tt) ∷ []) (d, tt) (mach ∷ [], tt)) ∷ []) ∵
-          move ! (1 ∷ []) $ fsplit ! $ move ! (1 ∷ []) $ drop ! $ use1 W (‵ Own ⊛ ‵ Own) (LL.copy D (T′.the-copy (namedLft 1 0 tt (κ, tt))) 𝓤 H A W .twice d (mach ∷ [])) $ split ! $
+          move ! (1 ∷ []) $ fsplit ! $ move ! (1 ∷ []) $ drop ! $ use1 W (‵ Own ⊛ ‵ Own)
+          (LL.copy D (T′.the-copy (namedLft 1 0 tt (κ, tt))) 𝓤 H A W .twice d (mach ∷ [])) $ split ! $
           use1 W (given (mach ∷ [] ≡ mach ∷ []) (‵ (all-own (D .parts) L vd))) (own-open 𝓤 H A W D L vd mach) $ learn ! (λ _.
           -- [what the fields own together; what the struct owns; the token]
           move ! (2 ∷ 0 ∷ []) $ use2 W (raw (Callee 𝓤 H A .pre to)) asked $ frame ! $ done !)
 
-      said : (r : R .Denot) → ent 𝓤 (ensured 𝓤 H A calls-ended (calls 𝓤) (κ, tt) (d .bytes, (d .at, tt)) tt r) (fact 𝓤 (φ (κ, tt) (d .bytes) (d .at) r))
-      said r = exE 𝓤 _ (λ ws. snd∗ 𝓤 (sem 𝓤 H A (lasts calls-ended (κ, tt) (d .bytes, (d .at, tt)) ws)) (fact 𝓤 (φ (κ, tt) (d .bytes) (d .at) r)))
+      said : (r : R .Denot)
+          → ent 𝓤 (ensured 𝓤 H A calls-ended (calls 𝓤) (κ, tt) (d .bytes, (d .at, tt)) tt r) (fact 𝓤 (φ (κ, tt) (d .bytes) (d .at) r))
+      said r =
+          exE 𝓤 _ (λ ws. snd∗ 𝓤 (sem 𝓤 H A (lasts calls-ended (κ, tt) (d .bytes, (d .at, tt)) ws))
+          (fact 𝓤 (φ (κ, tt) (d .bytes) (d .at) r)))
 
-      exits : (r : R .Denot) (u : Val) → φ (κ, tt) (d .bytes) (d .at) r → ent 𝓤 (⋆ 𝓤 H A (‵ (R .own r (u ∷ [])) ∷ (‵ (flft κ q) ⊛ ‵ ftrue) ∷ ‵ Own ∷ [])) (Post u)
+      exits : (r : R .Denot) (u : Val) → φ (κ, tt) (d .bytes) (d .at) r
+          → ent 𝓤 (⋆ 𝓤 H A (‵ (R .own r (u ∷ [])) ∷ (‵ (flft κ q) ⊛ ‵ ftrue) ∷ ‵ Own ∷ [])) (Post u)
       exits r u e =
           qed W (‵ (R .own r (u ∷ [])) ∷ (‵ (flft κ q) ⊛ ‵ ftrue) ∷ ‵ Own ∷ []) ∵
-          suffices ! _ (ends-at 𝓤 H A thin-ended stayed (thin 𝓤) W (((κ, tt), (q, tt), tt, (d, tt), (mach ∷ [], tt)), tt) u r (tt, tt) (tt, tt)) $ says ! e $
+          suffices ! _ (ends-at 𝓤 H A thin-ended stayed (thin 𝓤) W (((κ, tt), (q, tt), tt, (d, tt), (mach ∷ [], tt)), tt) u r (tt, tt)
+          (tt, tt)) $ says ! e $
           move ! (1 ∷ []) $ frame ! $ nothing ! $ move ! (2 ∷ 0 ∷ []) $ fjoin ! $ frame ! $ done !
 
       module _ (g : Name) (C : Calls 𝓤 H) (Λ : Loops 𝓤 H) (fm : FmC 𝓤 H (W .laws) C) (known : Triple 𝓤 (C g) (Callee 𝓤 H A)) where
-        walk : Holds (hasTy (T′.mir (named 0)) mach) × WT mach → ent 𝓤 (onEntry 𝓤 H A (thin-ended .signature) (κ, tt) (q, tt) (d, tt) (mach ∷ [], tt)) (WpFn 𝓤 H C Λ (thin-fn (answer .ty) g) (mach ∷ []) Post)
+        walk : Holds (hasTy (T′.mir (named 0)) mach) × WT mach
+            → ent 𝓤 (onEntry 𝓤 H A (thin-ended .signature) (κ, tt) (q, tt) (d, tt) (mach ∷ [], tt))
+            (WpFn 𝓤 H C Λ (thin-fn (answer .ty) g) (mach ∷ []) Post)
         walk wt =
-            qed W (raw (onEntry 𝓤 H A (thin-ended .signature) (κ, tt) (q, tt) (d, tt) (mach ∷ [], tt)) ∷ []) ∵ enter ! C Λ (thin-fn (answer .ty) g) (mach ∷ []) _ $
+            qed W (raw (onEntry 𝓤 H A (thin-ended .signature) (κ, tt) (q, tt) (d, tt) (mach ∷ [], tt)) ∷ []) ∵ enter ! C Λ
+            (thin-fn (answer .ty) g) (mach ∷ []) _ $
             alloc1 ! (λ l₀. alloc1 ! (λ l₁. alloc1 ! (λ l₂. alloc1 ! (λ l₃. alloc0 ! $ params1 ! $ pass1 ! (init ! 4 refl wt) $ pass0 ! $
-            assigns ! (of-opd ! (load ! (from ! (fld ! refl (stop !))) (look-in ! 4 (sub ! 0 refl (whole !))))) (from ! (stop !)) (init ! 2 refl (tt, wt .1 .0)) $
-            assigns ! (of-opd ! (load ! (from ! (fld ! refl (stop !))) (look-in ! 4 (sub ! 1 refl (whole !))))) (from ! (stop !)) (init ! 0 refl (tt, wt .1 .1 .0)) $
+            assigns ! (of-opd ! (load ! (from ! (fld ! refl (stop !))) (look-in ! 4 (sub ! 0 refl (whole !))))) (from ! (stop !))
+            (init ! 2 refl (tt, wt .1 .0)) $
+            assigns ! (of-opd ! (load ! (from ! (fld ! refl (stop !))) (look-in ! 4 (sub ! 1 refl (whole !))))) (from ! (stop !))
+            (init ! 0 refl (tt, wt .1 .1 .0)) $
             move ! (8 ∷ []) $ use1 W (raw (Callee 𝓤 H A .pre to) ⊛ ‵ Own) apart $ split ! $
-            calls-at ! fm (Callee 𝓤 H A) known to (and-then ! (load ! (from ! (stop !)) (look ! 4 refl)) (and-then ! (load ! (from ! (stop !)) (look ! 2 refl)) (no-more !))) (λ u.
-            use1 W (later (some (λ (r : R .Denot). ((‵ (flft κ q) ⊛ ‵ ftrue) ⊛ ‵ (R .own r (u ∷ []))) ⊛ raw (ensured 𝓤 H A calls-ended (calls 𝓤) (κ, tt) (d .bytes, (d .at, tt)) tt r)))) (id⊢ 𝓤 _) $ await ! tt $ pick ! (λ r.
-            split ! $ move ! (1 ∷ []) $ use1 W (raw (fact 𝓤 (φ (κ, tt) (d .bytes) (d .at) r))) (said r) $ heard ! (φ (κ, tt) (d .bytes) (d .at) r) (λ e. split ! $ move ! (1 ∷ []) $
+            calls-at ! fm (Callee 𝓤 H A) known to
+            (and-then ! (load ! (from ! (stop !)) (look ! 4 refl)) (and-then ! (load ! (from ! (stop !)) (look ! 2 refl)) (no-more !))) (λ u.
+            use1 W (later (some (λ (r : R .Denot). ((‵ (flft κ q) ⊛ ‵ ftrue) ⊛ ‵ (R .own r (u ∷ []))) ⊛ raw
+            (ensured 𝓤 H A calls-ended (calls 𝓤) (κ, tt) (d .bytes, (d .at, tt)) tt r)))) (id⊢ 𝓤 _) $ await ! tt $ pick ! (λ r.
+            split ! $ move ! (1 ∷ []) $ use1 W (raw (fact 𝓤 (φ (κ, tt) (d .bytes) (d .at) r))) (said r) $ heard !
+            (φ (κ, tt) (d .bytes) (d .at) r) (λ e. split ! $ move ! (1 ∷ []) $
             -- [the result; the token; what the struct owns; _3; …; _2; …; _1; …; room for _0; …]
             peeks ! R (Is R) (shows 𝓤 H A R) r (u ∷ []) (λ is.
             land ! (from ! (stop !)) (init ! 9 refl (answer .typed 𝓤 H A W (κ, tt) r u is)) $
             returns ! (look ! 9 refl) $ forget ! 3 refl $ forget ! 5 refl $ forget ! 7 refl $ forget ! 9 refl $
-            move ! (9 ∷ 10 ∷ []) $ free1 ! $ move ! (7 ∷ 8 ∷ []) $ free1 ! $ move ! (5 ∷ 6 ∷ []) $ free1 ! $ move ! (3 ∷ 4 ∷ []) $ free1 ! $ free0 ! $ by ! (exits r u e)))))))))
+            move ! (9 ∷ 10 ∷ []) $ free1 ! $ move ! (7 ∷ 8 ∷ []) $ free1 ! $ move ! (5 ∷ 6 ∷ []) $ free1 ! $ move ! (3 ∷ 4 ∷ []) $ free1 ! $
+            free0 ! $ by ! (exits r u e)))))))))
 
     module _ {M : Type 1} (𝓤 : URA M) (H : Heap 𝓤) (A : Atoms 𝓤) (W : Given 𝓤 H A) (g : Name) where
-      walks : (C : Calls 𝓤 H) (Λ : Loops 𝓤 H) → FmC 𝓤 H (W .laws) C → Triple 𝓤 (C g) (Callee 𝓤 H A) → Walks 𝓤 H A thin-ended stayed (WpFn 𝓤 H C Λ (thin-fn (answer .ty) g)) (thin 𝓤)
-      walks C Λ fm known = walked 𝓤 H A thin-ended stayed (thin 𝓤) (WpFn 𝓤 H C Λ (thin-fn (answer .ty) g)) (λ κs. (LL.vals (T.the-type (namedLft 1 0 tt κs)) (T′.the-laws (namedLft 1 0 tt κs)), tt)) (λ κs. (LL.tells (T.the-type (namedLft 1 0 tt κs)) (T′.the-laws (namedLft 1 0 tt κs)), tt))
-          (λ κs qs bounds a gh are. via 𝓤 _ (fst∗ 𝓤 _ (emp 𝓤)) (walk 𝓤 H A W (κs .0) (qs .0) (a .0) g C Λ fm known (LL.lawful (T.the-type (namedLft 1 0 tt κs)) (T′.the-laws (namedLft 1 0 tt κs)) 𝓤 H A W .typed (a .0) _ (are .0) .0)))
+      walks : (C : Calls 𝓤 H) (Λ : Loops 𝓤 H) → FmC 𝓤 H (W .laws) C → Triple 𝓤 (C g) (Callee 𝓤 H A)
+          → Walks 𝓤 H A thin-ended stayed (WpFn 𝓤 H C Λ (thin-fn (answer .ty) g)) (thin 𝓤)
+      walks C Λ fm known =
+          walked 𝓤 H A thin-ended stayed (thin 𝓤) (WpFn 𝓤 H C Λ (thin-fn (answer .ty) g))
+          (λ κs. (LL.vals (T.the-type (namedLft 1 0 tt κs)) (T′.the-laws (namedLft 1 0 tt κs)), tt))
+          (λ κs. (LL.tells (T.the-type (namedLft 1 0 tt κs)) (T′.the-laws (namedLft 1 0 tt κs)), tt))
+          (λ κs qs bounds a gh are. via 𝓤 _ (fst∗ 𝓤 _ (emp 𝓤))
+          (walk 𝓤 H A W (κs .0) (qs .0) (a .0) g C Λ fm known
+          (LL.lawful (T.the-type (namedLft 1 0 tt κs)) (T′.the-laws (namedLft 1 0 tt κs)) 𝓤 H A W .typed (a .0) _ (are .0) .0)))
 
-      meets : (𝓣 : Tables 𝓤 H) → Triple 𝓤 (𝓣 .C g) (Callee 𝓤 H A) → Meets 𝓤 H A (thin-ended .signature) (WpFn 𝓤 H (𝓣 .C) (𝓣 .Λ) (thin-fn (answer .ty) g)) (closing 𝓤 H A thin-ended (thin 𝓤))
-      meets 𝓣 known = walk-meets 𝓤 H A thin-ended stayed W (goes-none 𝓤 H A W 1 B yes (λ κs x f. refl), tt) (thin 𝓤) (WpFn 𝓤 H (𝓣 .C) (𝓣 .Λ) (thin-fn (answer .ty) g)) (WpFn-mono 𝓤 H (W .laws) 𝓣 (thin-fn (answer .ty) g))
+      meets : (𝓣 : Tables 𝓤 H) → Triple 𝓤 (𝓣 .C g) (Callee 𝓤 H A)
+          → Meets 𝓤 H A (thin-ended .signature) (WpFn 𝓤 H (𝓣 .C) (𝓣 .Λ) (thin-fn (answer .ty) g)) (closing 𝓤 H A thin-ended (thin 𝓤))
+      meets 𝓣 known =
+          walk-meets 𝓤 H A thin-ended stayed W (goes-none 𝓤 H A W 1 B yes (λ κs x f. refl), tt) (thin 𝓤)
+          (WpFn 𝓤 H (𝓣 .C) (𝓣 .Λ) (thin-fn (answer .ty) g)) (WpFn-mono 𝓤 H (W .laws) 𝓣 (thin-fn (answer .ty) g))
           (walks (𝓣 .C) (𝓣 .Λ) (fmOf 𝓤 H (W .laws) 𝓣) known)
 
-    pub thin-spec : {M : Type 1} (𝓤 : URA M) (H : Heap 𝓤) (𝓜 : Model 𝓤 H) (𝓖 : GhostRules 𝓤 H) (𝓡 : Running 𝓤 H 𝓜) (γ : Env) (f g : Name) (called : Routine)
+    pub thin-spec : {M : Type 1} (𝓤 : URA M) (H : Heap 𝓤) (𝓜 : Model 𝓤 H) (𝓖 : GhostRules 𝓤 H) (𝓡 : Running 𝓤 H 𝓜) (γ : Env)
+        (f g : Name) (called : Routine)
         → Closed 𝓤 H (tables 𝓤 H 𝓜 𝓡 γ .C) (tables 𝓤 H 𝓜 𝓡 γ .Λ) f (thin-fn (answer .ty) g)
         → γ g ≡ called
         → Meets 𝓤 H (𝓖 .A) (calls-ended .signature) (𝓡 .run called) (closing 𝓤 H (𝓖 .A) calls-ended (calls 𝓤))
         → Meets 𝓤 H (𝓖 .A) (thin-ended .signature) (𝓡 .run (γ f)) (closing 𝓤 H (𝓖 .A) thin-ended (thin 𝓤))
     unfolding tablesOf
     thin-spec 𝓤 H 𝓜 𝓖 𝓡 γ f g called unfolded calls-g met =
-        entered 𝓤 H (tripleOf 𝓤 H (𝓖 .A) (thin-ended .signature) (closing 𝓤 H (𝓖 .A) thin-ended (thin 𝓤))) (tables 𝓤 H 𝓜 𝓡 γ .C) (tables 𝓤 H 𝓜 𝓡 γ .Λ) f (thin-fn (answer .ty) g) unfolded
-        (meets 𝓤 H (𝓖 .A) (givenOf 𝓤 H 𝓜 𝓖) g (tablesOf 𝓤 H 𝓜 (tables 𝓤 H 𝓜 𝓡 γ)) (cited 𝓤 H (Callee 𝓤 H (𝓖 .A)) 𝓜 𝓡 γ g called calls-g met))
+        entered 𝓤 H (tripleOf 𝓤 H (𝓖 .A) (thin-ended .signature) (closing 𝓤 H (𝓖 .A) thin-ended (thin 𝓤))) (tables 𝓤 H 𝓜 𝓡 γ .C)
+        (tables 𝓤 H 𝓜 𝓡 γ .Λ) f (thin-fn (answer .ty) g) unfolded
+        (meets 𝓤 H (𝓖 .A) (givenOf 𝓤 H 𝓜 𝓖) g (tablesOf 𝓤 H 𝓜 (tables 𝓤 H 𝓜 𝓡 γ))
+        (cited 𝓤 H (Callee 𝓤 H (𝓖 .A)) 𝓜 𝓡 γ g called calls-g met))

@@ -40,7 +40,12 @@ isSet-flag bit false e = rw e
 module _ (front tail : List ℕ) (place : ℕ) (ends : length front ≡ place) where
   word-there : (number : ℕ) → wordAt (front ++ wordBytes number ++ tail) place ≡ number
   word-there number =
-      rw (append-assoc front (wordBytes number) tail, ← ends, getD-append-seam front (number / 256) (number % 256 ∷ tail) 0, getD-append-add front (wordBytes number ++ tail) 1 0)
+      rw (
+        append-assoc front (wordBytes number) tail,
+        ← ends,
+        getD-append-seam front (number / 256) (number % 256 ∷ tail) 0,
+        getD-append-add front (wordBytes number ++ tail) 1 0,
+      )
       (word-back number)
 
   destination-there : (bit : ℕ) (destination : Destination) → bit ≡ destinationFlag destination
@@ -48,11 +53,13 @@ module _ (front tail : List ℕ) (place : ℕ) (ends : length front ≡ place) w
   destination-there bit Everyone e = rw e
   destination-there bit (Address address) e = rw e (ap Address (word-there address))
 
-  byte-there : (test called : Bool) (byte : ℕ) → test ≡ called → (called ≡ false → byte ≡ 0) → cond test (at (front ++ onlyIf called (byte ∷ []) ++ tail) place) 0 ≡ byte
+  byte-there : (test called : Bool) (byte : ℕ) → test ≡ called → (called ≡ false → byte ≡ 0)
+      → cond test (at (front ++ onlyIf called (byte ∷ []) ++ tail) place) 0 ≡ byte
   byte-there test true byte e z = rw (e, append-assoc front (byte ∷ []) tail, ← ends) (getD-append-seam front byte tail 0)
   byte-there test false byte e z = rw e (sym (z refl))
 
-addresses-there : (front path tail : List ℕ) (place n : ℕ) → length front ≡ place → length path ≡ n → addressesAt (front ++ pathBytes path ++ tail) place n ≡ path
+addresses-there : (front path tail : List ℕ) (place n : ℕ) → length front ≡ place → length path ≡ n
+    → addressesAt (front ++ pathBytes path ++ tail) place n ≡ path
 unfolding addressesAt pathBytes
 addresses-there front [] tail place zero e f = refl
 addresses-there front [] tail place (suc n) e f = absurd (omega arith)
@@ -60,12 +67,20 @@ addresses-there front (address ∷ path) tail place zero e f = absurd (omega ari
 addresses-there front (address ∷ path) tail place (suc n) e f =
     let next = front ++ wordBytes address in
     let later = addresses-there next path tail (place + 2) n (length-append front (wordBytes address) ∙ omega arith) (omega arith) in
-    rw (← append-assoc front (wordBytes address) (pathBytes path), later, append-assoc next (pathBytes path) tail, word-there front (pathBytes path ++ tail) place e address)
+    rw (
+      ← append-assoc front (wordBytes address) (pathBytes path),
+      later,
+      append-assoc next (pathBytes path) tail,
+      word-there front (pathBytes path ++ tail) place e address,
+    )
 
 -- a header from equations of its fields
-header-equal : (header : Header) {protocol port reserved hop payload source id count : ℕ} {stamp path encrypted ack added : Bool} {destination : Destination}
-    → protocol ≡ header .protocol → stamp ≡ header .«time_stamp_request» → path ≡ header .«path_bit» → port ≡ header .port → encrypted ≡ header .encrypted
-    → reserved ≡ header .reserved → ack ≡ header .ack → added ≡ header .«added_header» → hop ≡ header .«hop_limit» → payload ≡ header .«payload_length»
+header-equal : (header : Header) {protocol port reserved hop payload source id count : ℕ} {stamp path encrypted ack added : Bool}
+    {destination : Destination}
+    → protocol ≡ header .protocol → stamp ≡ header .«time_stamp_request» → path ≡ header .«path_bit» → port ≡ header .port
+    → encrypted ≡ header .encrypted
+    → reserved ≡ header .reserved → ack ≡ header .ack → added ≡ header .«added_header» → hop ≡ header .«hop_limit»
+    → payload ≡ header .«payload_length»
     → source ≡ header .source → destination ≡ header .destination → id ≡ header .«pdu_id» → count ≡ header .«path_count»
     → _≡_ {A = Header}
     (record {
@@ -175,10 +190,13 @@ module _ {header : Header} {path payload : List ℕ} (ok : WellFormed header pat
         (shows .payload-is)
         (word-back (header .source))
         (ap (λ (bytes : List ℕ). destinationIn bytes) behind-front
-        ∙ destination-there (fixedPart header) (id ++ (count ++ tail)) destinationPlace refl (destinationBit byte0) (header .destination) (shows .destination-is))
+        ∙ destination-there (fixedPart header) (id ++ (count ++ tail)) destinationPlace refl (destinationBit byte0) (header .destination)
+        (shows .destination-is))
         (ap (λ (bytes : List ℕ). pduIdIn bytes) behind-id
-        ∙ byte-there front (count ++ tail) (pduIdPlace byte0) front-long (eqb (protocol byte0) 1) (eqb (header .protocol) 1) (header .«pdu_id») reliable no-id)
-        (byte-there (front ++ id) tail (pathCountPlace byte0) id-long (isSet (pathBit byte0)) (header .«path_bit») (header .«path_count») path-set (ok .no-count))
+        ∙ byte-there front (count ++ tail) (pduIdPlace byte0) front-long (eqb (protocol byte0) 1) (eqb (header .protocol) 1)
+        (header .«pdu_id») reliable no-id)
+        (byte-there (front ++ id) tail (pathCountPlace byte0) id-long (isSet (pathBit byte0)) (header .«path_bit») (header .«path_count»)
+        path-set (ok .no-count))
 
     read-back : pduLength header ≤ length (headerBytes header ++ tail) → readOf (headerBytes header ++ tail) ≡ Pdu header
     read-back room =
@@ -188,7 +206,9 @@ module _ {header : Header} {path payload : List ℕ} (ok : WellFormed header pat
           six = omega arith;
           version-0 = shows .version-is;
           known = omega (arith, shows .protocol-is);
-          addressed = has-destination (protocol (at bytes 0)) (destinationBit (at bytes 0)) (omega (arith, shows .protocol-is, shows .destination-is)) (omega arith);
+          addressed =
+              has-destination (protocol (at bytes 0)) (destinationBit (at bytes 0))
+              (omega (arith, shows .protocol-is, shows .destination-is)) (omega arith);
           all = rw header-back room;
         } in
         read-whole bytes whole ∙ ap Pdu header-back
@@ -210,7 +230,8 @@ module _ {header : Header} {path payload : List ℕ} (ok : WellFormed header pat
     pub path-encode : pathIn header (encode header path payload ++ rest) ≡ path
     path-encode =
         ap (λ (bytes : List ℕ). pathIn header bytes) behind-path
-        ∙ addresses-there (headerBytes header) path (payload ++ rest) (pathStart header) (pathEntries header) (length-header header) (ok .path-long ∙ sym entries-are)
+        ∙ addresses-there (headerBytes header) path (payload ++ rest) (pathStart header) (pathEntries header) (length-header header)
+        (ok .path-long ∙ sym entries-are)
 
     pub payload-encode : payloadIn header (encode header path payload ++ rest) ≡ payload
     payload-encode =

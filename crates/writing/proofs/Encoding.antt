@@ -43,7 +43,12 @@ length-onlyIf false byte = refl
 pub length-header : (header : Header) → length (headerBytes header) ≡ pathStart header
 unfolding headerBytes
 length-header header =
-    simp (length-append, length-destination (header .destination), length-onlyIf (eqb (header .protocol) 1) (header .«pdu_id»), length-onlyIf (header .«path_bit») (header .«path_count»)) (omega arith)
+    simp (
+      length-append,
+      length-destination (header .destination),
+      length-onlyIf (eqb (header .protocol) 1) (header .«pdu_id»),
+      length-onlyIf (header .«path_bit») (header .«path_count»),
+    ) (omega arith)
 
 pub length-path : (path : List ℕ) → length (pathBytes path) ≡ 2 * length path
 unfolding pathBytes
@@ -51,13 +56,15 @@ length-path [] = refl
 length-path (address ∷ path) = omega (arith, length-path path)
 
 pub length-pathIn : (header : Header) (bytes : List ℕ) → length (pathBytes (pathIn header bytes)) ≡ 2 * pathEntries header
-length-pathIn header bytes = length-path (pathIn header bytes) ∙ ap (λ (n : ℕ). 2 * n) (length-addresses bytes (pathStart header) (pathEntries header))
+length-pathIn header bytes =
+    length-path (pathIn header bytes) ∙ ap (λ (n : ℕ). 2 * n) (length-addresses bytes (pathStart header) (pathEntries header))
 
 pub start-small : (header : Header) → pathStart header ≤ 10
 start-small header = omega (arith, flag-small (header .«path_bit»), flag-small (eqb (header .protocol) 1), destination-small (header .destination))
 
 -- the path, one address more
-snoc : (bytes : List ℕ) (place n : ℕ) → pathBytes (addressesAt bytes place (suc n)) ≡ pathBytes (addressesAt bytes place n) ++ wordBytes (wordAt bytes (place + 2 * n))
+snoc : (bytes : List ℕ) (place n : ℕ)
+    → pathBytes (addressesAt bytes place (suc n)) ≡ pathBytes (addressesAt bytes place n) ++ wordBytes (wordAt bytes (place + 2 * n))
 unfolding pathBytes addressesAt
 snoc bytes place zero = ap (λ (p : ℕ). wordBytes (wordAt bytes p)) (omega arith)
 snoc bytes place (suc n) =
@@ -73,18 +80,22 @@ module _ (bytes output : List ℕ) (place start : ℕ) where
   path-none = nothing-placed output place
 
   pub path-all : (n from k : ℕ) (now : List ℕ) → start ≡ from → n ≡ k → place + 2 * k ≤ length output → now ≡ withPath n
-      → (place + 2 * k ≡ placeAfter output place (pathBytes (addressesAt bytes from k))) × (now ≡ placed output place (pathBytes (addressesAt bytes from k)))
+      → (place + 2 * k ≡ placeAfter output place (pathBytes (addressesAt bytes from k)))
+      × (now ≡ placed output place (pathBytes (addressesAt bytes from k)))
   unfolding withPath
   path-all n from k now es e room en =
       let long = length-path (addressesAt bytes from k) ∙ ap (λ (i : ℕ). 2 * i) (length-addresses bytes from k) in
       (omega (arith, long, is-after output place (pathBytes (addressesAt bytes from k)) (omega (arith, long))), rw (← e, ← es) en)
 
-  pub path-more : (n word : ℕ) (now later : List ℕ) → place + 2 * n + 2 ≤ length output → word ≡ wordAt bytes (start + 2 * n) → now ≡ withPath n
+  pub path-more : (n word : ℕ) (now later : List ℕ) → place + 2 * n + 2 ≤ length output → word ≡ wordAt bytes (start + 2 * n)
+      → now ≡ withPath n
       → later ≡ placed now (place + 2 * n) (wordBytes word) → later ≡ withPath (n + 1)
   unfolding withPath
   path-more n word now later room e en el =
       let long = length-path (addressesAt bytes start n) ∙ ap (λ (k : ℕ). 2 * k) (length-addresses bytes start n) in
-      el ∙ rw (en, e, add-one n, snoc bytes start n) (placed-more output place (pathBytes (addressesAt bytes start n)) (wordBytes (wordAt bytes (start + 2 * n))) (place + 2 * n) (omega (arith, long)) room)
+      el ∙ rw (en, e, add-one n, snoc bytes start n)
+      (placed-more output place (pathBytes (addressesAt bytes start n)) (wordBytes (wordAt bytes (start + 2 * n))) (place + 2 * n)
+      (omega (arith, long)) room)
 
 -- what putting a header answers and leaves: with a refusal, where there is no room, and where its bytes were put
 module _ (header : Header) (output : List ℕ) where
@@ -151,7 +162,8 @@ module _ (header : Header) (output : List ℕ) (room : pathStart header ≤ leng
             let i = length-onlyIf (eqb (header .protocol) 1) (header .«pdu_id») in
             let k = length-onlyIf (header .«path_bit») (header .«path_count») in
             let l1 = length-append (fixedPart header) (destinationBytes (header .destination)) in
-            let l2 = length-append (fixedPart header ++ destinationBytes (header .destination)) (onlyIf (eqb (header .protocol) 1) (header .«pdu_id» ∷ [])) in
+            let l2 = length-append (fixedPart header ++ destinationBytes (header .destination))
+            (onlyIf (eqb (header .protocol) 1) (header .«pdu_id» ∷ [])) in
             let g1 = first (fixedPart header) output o1 p1 (omega arith) (e1 .0) (e1 .1) in
             let g2 = more (destinationBytes (header .destination)) o1 o2 p2 g1 (omega (arith, g1 .ends)) (e2 .0) (e2 .1) in
             let g3 = more (onlyIf (eqb (header .protocol) 1) (header .«pdu_id» ∷ [])) o2 o3 p3 g2 (omega (arith, g2 .ends)) (e3 .0) (e3 .1) in
@@ -169,7 +181,8 @@ module _ (header : Header) (output bytes o1 : List ℕ) (p1 : ℕ) (room : pduLe
 
   pub encode-put : (o2 o3 payload : List ℕ) (p2 : ℕ)
       → (p2 ≡ placeAfter o1 p1 (pathBytes (pathIn header bytes))) × (o2 ≡ placed o1 p1 (pathBytes (pathIn header bytes)))
-      → payload ≡ payloadIn header bytes → o3 ≡ placed o2 p2 payload → o3 ≡ over (encode header (pathIn header bytes) (payloadIn header bytes)) output
+      → payload ≡ payloadIn header bytes → o3 ≡ placed o2 p2 payload
+      → o3 ≡ over (encode header (pathIn header bytes) (payloadIn header bytes)) output
   unfolding encode
   encode-put o2 o3 payload p2 e2 ep e3 =
       let path = length-pathIn header bytes in

@@ -1,4 +1,4 @@
--- What is read of bytes and written again is the same bytes, and reading looks at no more than these.
+-- What is read of bytes and written again is the same bytes.
 use Prim.Native.Nat.{ℕ, zero, suc, _+_, _*_, _/_, _%_, _≤_, _<_}
 use native.Mathlib.Omega.{arith}
 use native.Mathlib.Nat.{div-div-eq-div-mul, mod-eq-of-lt}
@@ -10,7 +10,7 @@ use lib.Dec.{eqb}
 use lib.ListN.{length, take, drop, length-drop}
 use lib.Seq.{take-add, drop-cons, drop-drop, length-take-le}
 use Rattle.octets.specs.Numbers.{flag}
-use Rattle.octets.specs.Octets.{at, wordAt, wordBytes}
+use Rattle.octets.specs.Octets.{at, AllBytes, wordAt, wordBytes}
 use Rattle.octets.proofs.Words.{high-back, low-back}
 use Rattle.pdu.specs.declared.Destination.the-variants.{Everyone, Address}
 use Rattle.pdu.specs.declared.Header.{Header}
@@ -23,21 +23,35 @@ use Rattle.writing.specs.Writing.{fixedPart, destinationBytes, onlyIf, h
 use Rattle.pdu.proofs.Showing.{flag-isSet, destination-flag, entries-shown}
 use Rattle.pdu.proofs.Paths.{length-addresses}
 use Rattle.pdu.proofs.Inversion.{Whole, shown}
-use Rattle.octets.proofs.Words.{Bytes}
 use Rattle.writing.proofs.Within.{within, shown-within}
-use Rattle.writing.proofs.Back.{read-encode}
 
 -- bytes 0, 1 and 2, put together again from their fields
 byte-0 : (byte address : ℕ) → version byte ≡ 0
-    → protocol byte * 8 + flag (isSet (timeStampBit byte)) * 4 + flag (isSet (pathBit byte)) * 2 + destinationFlag (cond (isSet (destinationBit byte)) (Address address) Everyone) ≡ byte
+    → protocol byte * 8 + flag (isSet (timeStampBit byte)) * 4 + flag (isSet (pathBit byte)) * 2 + destinationFlag
+    (cond (isSet (destinationBit byte)) (Address address) Everyone) ≡ byte
 byte-0 byte address h =
     let known : protocol byte ≡ byte / 8 = mod-eq-of-lt (omega arith) in
-    omega (arith, div-div-eq-div-mul byte 2 2, div-div-eq-div-mul byte 4 2, flag-isSet (timeStampBit byte) (omega arith), flag-isSet (pathBit byte) (omega arith), destination-flag (destinationBit byte) address (omega arith))
+    omega (
+      arith,
+      div-div-eq-div-mul byte 2 2,
+      div-div-eq-div-mul byte 4 2,
+      flag-isSet (timeStampBit byte) (omega arith),
+      flag-isSet (pathBit byte) (omega arith),
+      destination-flag (destinationBit byte) address (omega arith),
+    )
 
 byte-1 : (byte : ℕ) → byte < 256 → port byte * 16 + flag (isSet (encryptedBit byte)) * 8 + reserved byte * 2 + flag (isSet (ackBit byte)) ≡ byte
-byte-1 byte h = omega (arith, div-div-eq-div-mul byte 2 4, div-div-eq-div-mul byte 8 2, flag-isSet (encryptedBit byte) (omega arith), flag-isSet (ackBit byte) (omega arith))
+byte-1 byte h =
+    omega (
+      arith,
+      div-div-eq-div-mul byte 2 4,
+      div-div-eq-div-mul byte 8 2,
+      flag-isSet (encryptedBit byte) (omega arith),
+      flag-isSet (ackBit byte) (omega arith),
+    )
 
-byte-2 : (byte next : ℕ) → byte < 256 → next < 256 → flag (isSet (addedHeaderBit byte)) * 128 + hopLimit byte * 16 + payloadLength byte next / 256 ≡ byte
+byte-2 : (byte next : ℕ) → byte < 256 → next < 256
+    → flag (isSet (addedHeaderBit byte)) * 128 + hopLimit byte * 16 + payloadLength byte next / 256 ≡ byte
 byte-2 byte next h k = omega (arith, flag-isSet (addedHeaderBit byte) (omega arith))
 
 -- each part as so many bytes from its place on
@@ -48,11 +62,12 @@ module _ (bytes : List ℕ) where
   joined : (n m : ℕ) {front part : List ℕ} → front ≡ take n bytes → part ≡ take m (drop n bytes) → front ++ part ≡ take (n + m) bytes
   joined n m e f = rw (take-add n m bytes, ← e, ← f)
 
-  byte-same : (called : Bool) (place next : ℕ) → place ≡ next → next + flag called ≤ length bytes → onlyIf called (cond called (at bytes place) 0 ∷ []) ≡ take (flag called) (drop next bytes)
+  byte-same : (called : Bool) (place next : ℕ) → place ≡ next → next + flag called ≤ length bytes
+      → onlyIf called (cond called (at bytes place) 0 ∷ []) ≡ take (flag called) (drop next bytes)
   byte-same true place next e h = rw e (sym (take-more 0 next (omega arith)))
   byte-same false place next e h = refl
 
-  module _ (small : Bytes bytes) where
+  module _ (small : AllBytes bytes) where
     word-same : (place : ℕ) → place + 2 ≤ length bytes → wordBytes (wordAt bytes place) ≡ take 2 (drop place bytes)
     word-same place h =
         let high = high-back (at bytes place) (at bytes (place + 1)) (small (place + 1)) in
@@ -60,7 +75,8 @@ module _ (bytes : List ℕ) where
         rw (high, low, take-more 1 place (omega arith), take-more 0 (suc place) (omega arith), add-one place)
 
     destination-same : (present : Bool) → let destination = cond present (Address (wordAt bytes destinationPlace)) Everyone in
-        destinationPlace + 2 * destinationFlag destination ≤ length bytes → destinationBytes destination ≡ take (2 * destinationFlag destination) (drop destinationPlace bytes)
+        destinationPlace + 2 * destinationFlag destination ≤ length bytes
+        → destinationBytes destination ≡ take (2 * destinationFlag destination) (drop destinationPlace bytes)
     destination-same true h = word-same destinationPlace h
     destination-same false h = refl
 
@@ -69,7 +85,13 @@ module _ (bytes : List ℕ) where
     path-same place zero h = refl
     path-same place (suc n) h =
         let long : 2 * suc n ≡ 2 + 2 * n = omega arith in
-        rw (long, take-add 2 (2 * n) (drop place bytes), drop-drop 2 place bytes, ← word-same place (omega arith), path-same (place + 2) n (omega arith))
+        rw (
+          long,
+          take-add 2 (2 * n) (drop place bytes),
+          drop-drop 2 place bytes,
+          ← word-same place (omega arith),
+          path-same (place + 2) n (omega arith),
+        )
 
     module _ (whole : Whole bytes) where
       fixed-same : fixedPart (headerOf bytes) ≡ take fixedLength bytes
@@ -79,7 +101,17 @@ module _ (bytes : List ℕ) where
           let e1 = byte-1 (at bytes 1) (small 1) in
           let e2 = byte-2 (at bytes 2) (at bytes 3) (small 2) (small 3) in
           let e3 = low-back (at bytes 2 % 16) (at bytes 3) (small 3) in
-          rw (e0, e1, e2, e3, word-same sourcePlace (omega arith), take-more 5 0 (omega arith), take-more 4 1 (omega arith), take-more 3 2 (omega arith), take-more 2 3 (omega arith))
+          rw (
+            e0,
+            e1,
+            e2,
+            e3,
+            word-same sourcePlace (omega arith),
+            take-more 5 0 (omega arith),
+            take-more 4 1 (omega arith),
+            take-more 3 2 (omega arith),
+            take-more 2 3 (omega arith),
+          )
 
       header-same : headerBytes (headerOf bytes) ≡ take (pathStart (headerOf bytes)) bytes
       unfolding headerBytes headerOf
@@ -94,7 +126,7 @@ module _ (bytes : List ℕ) where
           (byte-same reliable (pduIdPlace (at bytes 0)) (6 + 2 * destination) (omega (arith, bit)) (omega arith)))
           (byte-same path (pathCountPlace (at bytes 0)) (6 + 2 * destination + flag reliable) (omega (arith, bit)) (omega arith))
 
-pub written-same : (bytes : List ℕ) (header : Header) → Bytes bytes → readOf bytes ≡ Pdu header
+pub written-same : (bytes : List ℕ) (header : Header) → AllBytes bytes → readOf bytes ≡ Pdu header
     → encode header (pathIn header bytes) (payloadIn header bytes) ≡ take (pduLength header) bytes
 unfolding encode
 written-same bytes header small e =
@@ -105,13 +137,15 @@ written-same bytes header small e =
     refl
 
 -- what was read is well-formed
-is-addressed : (protocol address : ℕ) (present : Bool) → protocol ≤ 1 → (eqb protocol 1 && not present) ≡ false → protocol ≤ destinationFlag (cond present (Address address) Everyone)
+is-addressed : (protocol address : ℕ) (present : Bool) → protocol ≤ 1 → (eqb protocol 1 && not present) ≡ false
+    → protocol ≤ destinationFlag (cond present (Address address) Everyone)
 is-addressed protocol address true h e = h
 is-addressed zero address false h e = omega arith
 is-addressed (suc zero) address false h e = let z : _≡_ {A = ℕ} 0 1 = cc in absurd (omega arith)
 is-addressed (suc (suc n)) address false h e = absurd (omega arith)
 
-pub shown-well-formed : (bytes : List ℕ) (header : Header) → Bytes bytes → readOf bytes ≡ Pdu header → WellFormed header (pathIn header bytes) (payloadIn header bytes)
+pub shown-well-formed : (bytes : List ℕ) (header : Header) → AllBytes bytes → readOf bytes ≡ Pdu header
+    → WellFormed header (pathIn header bytes) (payloadIn header bytes)
 unfolding headerOf
 shown-well-formed bytes header small e =
     let s = shown bytes header e in
@@ -119,7 +153,9 @@ shown-well-formed bytes header small e =
     let byte0 = at bytes 0 in
     record {
       known = rw (s .is) (s .whole .known);
-      addressed = rw (s .is) (is-addressed (protocol byte0) (wordAt bytes destinationPlace) (isSet (destinationBit byte0)) (s .whole .known) (s .whole .addressed));
+      addressed =
+          rw (s .is) (is-addressed (protocol byte0) (wordAt bytes destinationPlace) (isSet (destinationBit byte0)) (s .whole .known)
+          (s .whole .addressed));
       port = omega arith;
       reserved = omega arith;
       hop = omega arith;
@@ -129,7 +165,3 @@ shown-well-formed bytes header small e =
       no-count = rw (s .is) (λ (z : isSet (pathBit byte0) ≡ false). rw z);
       path-long = length-addresses bytes (pathStart header) (pathEntries header) ∙ rw (s .is) (entries-shown bytes);
     }
-
-pub read-prefix : (bytes : List ℕ) (header : Header) → Bytes bytes → readOf bytes ≡ Pdu header → (rest : List ℕ) → readOf (take (pduLength header) bytes ++ rest) ≡ Pdu header
-read-prefix bytes header small e rest =
-    ap (λ (front : List ℕ). readOf (front ++ rest)) (sym (written-same bytes header small e)) ∙ read-encode (shown-well-formed bytes header small e) rest

@@ -6,7 +6,7 @@ use mathlib.Core.Path.{_≡_, sym}
 use borrow.Author.Tests.{lt-ltb, le-ltb, ltb-false}
 use Rattle.octets.specs.Numbers.{_gives_, _orElse_}
 use Rattle.octets.proofs.Numbering.{orElse-zero, gives-zero}
-use Rattle.octets.proofs.Words.{Bytes}
+use Rattle.octets.specs.Octets.{AllBytes}
 use Rattle.pdu.specs.declared.Header.{Header}
 use Rattle.pdu.specs.Header.{protocol, port, reserved, headerOf}
 use Rattle.writing.specs.Writing.{fieldFault}
@@ -67,7 +67,7 @@ within header e =
 pub all-within : (header : Header) → Within header → fieldFault header ≡ 0
 all-within header w = sym (none-refused header (w .protocol) (w .hop) (w .port) (w .payload) (w .reserved))
 
-pub shown-within : (bytes : List ℕ) (header : Header) → Bytes bytes → Shown bytes header → fieldFault header ≡ 0
+pub shown-within : (bytes : List ℕ) (header : Header) → AllBytes bytes → Shown bytes header → fieldFault header ≡ 0
 unfolding headerOf
 shown-within bytes header small s =
     rw (s .is)

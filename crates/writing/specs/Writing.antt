@@ -1,4 +1,5 @@
--- A PDU's bytes from its header, path and payload (document 01, "Header, byte by byte"), and a PDU written again ("Numbers answered", 1 to 6, then 14).
+-- A PDU's bytes from its header, path and payload (document 01, "Header, byte by byte"), and a PDU written again ("Numbers answered", 1 to 6, then
+-- 14).
 use Prim.Native.Nat.{ℕ, _+_, _*_, _/_, _%_, _≤_, _<_}
 use mathlib.Core.Bool.{Bool, false, cond}
 use mathlib.Core.List.{List, [], _∷_, _++_}
@@ -50,7 +51,7 @@ pathBytes (address ∷ path) = wordBytes address ++ pathBytes path
 unfoldable pub encode : Header → List ℕ → List ℕ → List ℕ
 encode header path payload = headerBytes header ++ pathBytes path ++ payload
 
--- the number of the first field that cannot be written in its bits ("Numbers answered", 3 and 10 to 12), or 0; 15 is not in document 01
+-- the number of the first field that no PDU has or that its bits do not hold ("Numbers answered", 3 and 10 to 12), or 0; 15 is not in document 01
 unfoldable pub fieldFault : Header → ℕ
 fieldFault header =
     ltb 1 (header .protocol) gives 3
@@ -90,7 +91,7 @@ unfoldable pub writtenAgain : List ℕ → List ℕ → List ℕ
 writtenAgain bytes output = outputOf (readOf bytes) bytes output
 
 -- a header, a path and a payload that can stand in one PDU: each field within its bits, a PDU ID and a path only where the table has them (the
--- same table, and numbers 3 and 4)
+-- same table, and numbers 3 and 4); that a field of one or two whole bytes holds no more is its type's
 pub record WellFormed (header : Header) (path payload : List ℕ) : Type 0 where
   pub known : header .protocol ≤ 1
   pub addressed : header .protocol ≤ destinationFlag (header .destination)

@@ -8,7 +8,7 @@ ghost use mathlib.Core.List.{[], _∷_};
 ghost use Prim.Native.Nat.{_+_, _*_, _/_, _<_, _≤_};
 ghost use lib.ListN.{length};
 ghost use Rattle.octets.specs.Numbers.{flag};
-ghost use Rattle.octets.specs.Octets.{wordBytes, over, placed, placeAfter};
+ghost use Rattle.octets.specs.Octets.{wordBytes, over, Puts};
 ghost use Rattle.pdu.specs.declared.Reading.the-variants.{Pdu};
 ghost use Rattle.pdu.specs.Sizes.{destinationFlag, pathEntries, pathStart};
 ghost use Rattle.pdu.specs.Reading.{readOf};
@@ -105,8 +105,7 @@ fn put_fields(output: &mut [u8], header: Header) -> usize
 
 fn put_fixed(output: &mut [u8], header: Header) -> usize
     requires { ⌜ fieldFault header ≡ 0 ⌝ }
-    ensures { λ r. ⌜ (r ≡ placeAfter (now (output .entry)) 0 (fixedPart header))
-        × (now (output .exit) ≡ placed (now (output .entry)) 0 (fixedPart header)) ⌝ }
+    ensures { λ r. ⌜ Puts (now (output .entry)) 0 (fixedPart header) r (now (output .exit)) ⌝ }
 {
     let destination = header.destination;
     let part = [
@@ -151,8 +150,7 @@ fn byte_2(added_header: bool, hop_limit: u8, payload_length: u16) -> u8
 
 fn put_destination(output: &mut [u8], place: usize, destination: Destination) -> usize
     requires { ⌜ place + 2 * destinationFlag destination ≤ length (now output) ⌝ }
-    ensures { λ r. ⌜ (r ≡ placeAfter (now (output .entry)) place (destinationBytes destination))
-        × (now (output .exit) ≡ placed (now (output .entry)) place (destinationBytes destination)) ⌝ }
+    ensures { λ r. ⌜ Puts (now (output .entry)) place (destinationBytes destination) r (now (output .exit)) ⌝ }
 {
     match destination {
         Destination::Everyone => place,
@@ -162,8 +160,7 @@ fn put_destination(output: &mut [u8], place: usize, destination: Destination) ->
 
 fn put_address(output: &mut [u8], place: usize, address: u16) -> usize
     requires { ⌜ place + 2 ≤ length (now output) ⌝ }
-    ensures { λ r. ⌜ (r ≡ placeAfter (now (output .entry)) place (wordBytes address))
-        × (now (output .exit) ≡ placed (now (output .entry)) place (wordBytes address)) ⌝ }
+    ensures { λ r. ⌜ Puts (now (output .entry)) place (wordBytes address) r (now (output .exit)) ⌝ }
 {
     let low_place = put_byte(output, place, octets::high(address));
     put_byte(output, low_place, octets::low(address))
@@ -171,8 +168,7 @@ fn put_address(output: &mut [u8], place: usize, address: u16) -> usize
 
 fn put_if(output: &mut [u8], place: usize, called: bool, byte: u8) -> usize
     requires { ⌜ place + flag called ≤ length (now output) ⌝ }
-    ensures { λ r. ⌜ (r ≡ placeAfter (now (output .entry)) place (onlyIf called (byte ∷ [])))
-        × (now (output .exit) ≡ placed (now (output .entry)) place (onlyIf called (byte ∷ []))) ⌝ }
+    ensures { λ r. ⌜ Puts (now (output .entry)) place (onlyIf called (byte ∷ [])) r (now (output .exit)) ⌝ }
 {
     if called {
         put_byte(output, place, byte)
@@ -184,8 +180,7 @@ fn put_if(output: &mut [u8], place: usize, called: bool, byte: u8) -> usize
 // Puts a byte at a place that is in the output: the room for the header was looked at once, for all its parts.
 fn put_byte(output: &mut [u8], place: usize, byte: u8) -> usize
     requires { ⌜ place < length (now output) ⌝ }
-    ensures { λ r. ⌜ (r ≡ placeAfter (now (output .entry)) place (byte ∷ []))
-        × (now (output .exit) ≡ placed (now (output .entry)) place (byte ∷ [])) ⌝ }
+    ensures { λ r. ⌜ Puts (now (output .entry)) place (byte ∷ []) r (now (output .exit)) ⌝ }
 {
     output[place] = byte;
     place + 1
@@ -193,8 +188,7 @@ fn put_byte(output: &mut [u8], place: usize, byte: u8) -> usize
 
 fn put_path(output: &mut [u8], place: usize, bytes: &[u8], header: Header) -> usize
     requires { ⌜ place + 2 * pathEntries header ≤ length (now output) ⌝ }
-    ensures { λ r. ⌜ (r ≡ placeAfter (now (output .entry)) place (pathBytes (pathIn header (now (bytes .entry)))))
-        × (now (output .exit) ≡ placed (now (output .entry)) place (pathBytes (pathIn header (now (bytes .entry))))) ⌝ }
+    ensures { λ r. ⌜ Puts (now (output .entry)) place (pathBytes (pathIn header (now (bytes .entry)))) r (now (output .exit)) ⌝ }
 {
     let start = header.path_start();
     let entries = header.path_entries();

@@ -30,10 +30,12 @@ returns-3 : tie.Need-returns-3
 returns-3 c = batch-too-long _ _ _ (c .before .wide .ensures .0 ∙ c .before .before .word .ensures) (omega arith) (omega arith)
 
 returns-4 : tie.Need-returns-4
-returns-4 c = batch-cut _ _ _ (c .before .before .wide .ensures .0 ∙ c .before .before .before .word .ensures) (omega arith) (omega arith) (omega arith)
+returns-4 c =
+    batch-cut _ _ _ (c .before .before .wide .ensures .0 ∙ c .before .before .before .word .ensures) (omega arith) (omega arith) (omega arith)
 
 returns-5 : tie.Need-returns-5
-returns-5 c = batch-taken _ _ _ (c .before .before .wide .ensures .0 ∙ c .before .before .before .word .ensures) (omega arith) (omega arith) (omega arith)
+returns-5 c =
+    batch-taken _ _ _ (c .before .before .wide .ensures .0 ∙ c .before .before .before .word .ensures) (omega arith) (omega arith) (omega arith)
 
 pub batch-at-spec : {M : Type 1} → statement M
 batch-at-spec =

@@ -24,7 +24,8 @@ ranges-number-requires : tie.Need-ranges-number-requires
 ranges-number-requires c κs = search needs
 
 returns-3 : tie.Need-returns-3
-returns-3 c = list-refused _ _ _ _ (c .before .before .before .size .ensures .0) (omega arith) (omega arith) (c .before .ranges-number .ensures) (c .if3 .taken)
+returns-3 c =
+    list-refused _ _ _ _ (c .before .before .before .size .ensures .0) (omega arith) (omega arith) (c .before .ranges-number .ensures) (c .if3 .taken)
 
 returns-4 : tie.Need-returns-4
 returns-4 c =

@@ -94,14 +94,16 @@ left-second c = let f = to-first c in afterSecond (own f) (flags f) (bytes-of f)
 
 second-step : (c : Second) → Come (job-of (to-first c)) (c .list-at2 .result) (left-second c (source-pass c))
 second-step c =
-    next-list _ (left-second c) (first-step (to-first c)) (c .before .before .before .first .given .1) (c .before .list-end .ensures) (c .list-at2 .ensures)
+    next-list _ (left-second c) (first-step (to-first c)) (c .before .before .before .first .given .1) (c .before .list-end .ensures)
+    (c .list-at2 .ensures)
 
 abbrev left-third : (c : Third) → Section → Section → Reading
 left-third c = let s = to-second c in let f = to-first s in afterThird (own f) (flags f) (bytes-of f) (source-pass s)
 
 third-step : (c : Third) → Come (job-of (to-first (to-second c))) (c .list-at3 .result) (left-third c (source-reject c))
 third-step c =
-    next-list _ (left-third c) (second-step (to-second c)) (c .before .before .before .second .given .1) (c .before .list-end2 .ensures) (c .list-at3 .ensures)
+    next-list _ (left-third c) (second-step (to-second c)) (c .before .before .before .second .given .1) (c .before .list-end2 .ensures)
+    (c .list-at3 .ensures)
 
 abbrev left-fourth : (c : Fourth) → Section → Section → Reading
 left-fourth c =
@@ -109,7 +111,8 @@ left-fourth c =
 
 fourth-step : (c : Fourth) → Come (job-of (to-first (to-second (to-third c)))) (c .list-at4 .result) (left-fourth c (destination-pass c))
 fourth-step c =
-    next-list _ (left-fourth c) (third-step (to-third c)) (c .before .before .before .third .given .1) (c .before .list-end3 .ensures) (c .list-at4 .ensures)
+    next-list _ (left-fourth c) (third-step (to-third c)) (c .before .before .before .third .given .1) (c .before .list-end3 .ensures)
+    (c .list-at4 .ensures)
 
 abbrev left-last : (c : Last) → Section → Section → Reading
 left-last c =
@@ -118,7 +121,8 @@ left-last c =
 
 last-step : (c : Last) → Come (job-of (to-first (to-second (to-third (to-fourth c))))) (c .batch-at .result) (left-last c (destination-reject c))
 last-step c =
-    next-batch _ (left-last c) (fourth-step (to-fourth c)) (c .before .before .before .fourth .given .1) (c .before .list-end4 .ensures) (c .batch-at .ensures)
+    next-batch _ (left-last c) (fourth-step (to-fourth c)) (c .before .before .before .fourth .given .1) (c .before .list-end4 .ensures)
+    (c .batch-at .ensures)
 
 list-at-requires : tie.Need-list-at-requires
 list-at-requires c κs = search needs

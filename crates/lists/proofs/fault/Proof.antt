@@ -1,7 +1,7 @@
 use Prim.Native.Nat.{_≤_, _-_, _%_}
 use mathlib.Core.Path.{_≡_, _∙_, sym}
 use lib.ListN.{length}
-use Rattle.lists.specs.Lists.{faultOf, firstFault, four}
+use Rattle.lists.specs.Lists.{faultOf, listsOf, inOrder, listFault}
 use Rattle.lists.proofs.Laws.{rangeFaultFrom, firstFaultFrom, too-long, odd-number, only-ranges, range-right, range-wrong, ranges-end, lists-start, list-right, list-wrong, lists-end}
 use native.Mathlib.Omega.{arith}
 use borrow.Author.Needs.{needs}
@@ -18,7 +18,8 @@ abbrev μ-loop : tie.MeasureT-loop
 abbrev Inv-lists : tie.InvT-lists
 Inv-lists source-pass source-reject destination-pass destination-reject number₀ k₀ number k =
     (k ≤ 4) × (number ≡ 0)
-    × (firstFault (four source-pass source-reject destination-pass destination-reject) ≡ firstFaultFrom (four source-pass source-reject destination-pass destination-reject) k)
+    × (listFault (listsOf source-pass source-reject destination-pass destination-reject)
+    ≡ firstFaultFrom (inOrder (listsOf source-pass source-reject destination-pass destination-reject)) k)
 
 abbrev μ-lists : tie.MeasureT-lists
 μ-lists source-pass source-reject destination-pass destination-reject number₀ k₀ number k = 4 - k
@@ -87,13 +88,15 @@ returns-2 c =
 returns-3 : tie.Need-returns-3 Inv-loop μ-loop Inv-lists μ-lists
 returns-3 c =
     let n = c .before .before in
-    sym (n .before .before .lists .inv .2 ∙ list-wrong _ _ _ _ (omega arith) (n .nth .ensures) (odd-number _ (omega arith) (omega arith)) (omega arith))
+    sym (n .before .before .lists .inv .2
+    ∙ list-wrong _ _ _ _ (omega arith) (n .nth .ensures) (odd-number _ (omega arith) (omega arith)) (omega arith))
 
 returns-4 : tie.Need-returns-4 Inv-loop μ-loop Inv-lists μ-lists
 returns-4 c =
     let l = c .before .before .before .before in
     let n = l .before .before .before in
-    sym (n .before .before .lists .inv .2 ∙ list-wrong _ _ _ _ (omega arith) (n .nth .ensures) (l .loop .inv .3 ∙ range-wrong _ _ (omega arith) (omega arith)) (omega arith))
+    sym (n .before .before .lists .inv .2
+    ∙ list-wrong _ _ _ _ (omega arith) (n .nth .ensures) (l .loop .inv .3 ∙ range-wrong _ _ (omega arith) (omega arith)) (omega arith))
 
 pub fault-spec : {M : Type 1} → statement M
 fault-spec =

@@ -23,7 +23,9 @@ refused-header-requires : tie.Need-refused-header-requires
 refused-header-requires c κs = search needs
 
 returns : tie.Need-returns
-returns c = c .refused-header .ensures ∙ refused-is (readOf (now (c .before .before .before .before .args .bytes))) (c .before .before .fault .ensures) (λ none. omega arith)
+returns c =
+    c .refused-header .ensures
+    ∙ refused-is (readOf (now (c .before .before .before .before .args .bytes))) (c .before .before .fault .ensures) (λ none. omega arith)
 
 header-of-requires : tie.Need-header-of-requires
 header-of-requires c κs = search needs
@@ -32,7 +34,11 @@ shown-header-requires : tie.Need-shown-header-requires
 shown-header-requires c κs = search needs
 
 returns-2 : tie.Need-returns-2
-returns-2 c = let e = c .before .before .before in let bytes = now (e .before .before .args .bytes) in let none : readingNumber (readOf bytes) ≡ 0 = omega (arith, e .fault .ensures) in c .shown-header .ensures ∙ ap shownHeader (c .before .header-of .ensures) ∙ sym (ap headerInC (read-0 bytes none))
+returns-2 c =
+    let e = c .before .before .before in
+    let bytes = now (e .before .before .args .bytes) in
+    let none : readingNumber (readOf bytes) ≡ 0 = omega (arith, e .fault .ensures) in
+    c .shown-header .ensures ∙ ap shownHeader (c .before .header-of .ensures) ∙ sym (ap headerInC (read-0 bytes none))
 
 pub mant-read-spec : {M : Type 1} → statement M
 mant-read-spec =

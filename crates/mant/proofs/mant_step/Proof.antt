@@ -3,12 +3,6 @@ use borrow.Author.Needs.{needs}
 use Rattle.mant.proofs.mant_step.Statement.{statement}
 use Rattle.mant.proofs.mant_step.Tie as tie
 
-node-from-c-requires : tie.Need-node-from-c-requires
-node-from-c-requires c κs = search needs
-
-cursor-from-c-requires : tie.Need-cursor-from-c-requires
-cursor-from-c-requires c κs = search needs
-
 step-requires : tie.Need-step-requires
 step-requires c κs = search needs
 
@@ -19,15 +13,9 @@ same-length : tie.Need-same-length
 same-length c = search needs
 
 returns : tie.Need-returns
-returns c = rw (c .step-in-c .ensures, c .before .before .before .step .ensures .0, c .before .before .before .step .ensures .1, c .before .before .before .before .before .cursor-from-c .ensures, c .before .before .before .before .before .before .node-from-c .ensures) (refl, refl)
+returns c =
+    let stepped = c .before .before .before in
+    rw (c .step-in-c .ensures, stepped .step .ensures .0, stepped .step .ensures .1) (refl, refl)
 
 pub mant-step-spec : {M : Type 1} → statement M
-mant-step-spec =
-    tie.close
-    (tie.spec
-    node-from-c-requires
-    cursor-from-c-requires
-    step-requires
-    step-in-c-requires
-    same-length
-    returns)
+mant-step-spec = tie.close (tie.spec step-requires step-in-c-requires same-length returns)

@@ -14,10 +14,17 @@ cast-t8 : tie.Need-cast-t8
 cast-t8 c = search needs
 
 returns : tie.Need-returns
-returns c = let a = c .before .before .before .before .args in whole-is (a .header) (a .delivery) (a .repeat) (a .size) _ _ _ (rw (eq-eqb _ _ (c .before .before .if1 .taken)) (c .before .header-length .ensures .0)) (rw (eq-eqb _ _ (c .before .before .if1 .taken))) (c .before .before .before .pdu-length .ensures .0)
+returns c =
+    let a = c .before .before .before .before .args in
+    whole-is (a .header) (a .delivery) (a .repeat) (a .size) _ _ _
+    (rw (eq-eqb _ _ (c .before .before .if1 .taken)) (c .before .header-length .ensures .0))
+    (rw (eq-eqb _ _ (c .before .before .if1 .taken))) (c .before .before .before .pdu-length .ensures .0)
 
 returns-2 : tie.Need-returns-2
-returns-2 c = let a = c .before .before .args in whole-is (a .header) (a .delivery) (a .repeat) (a .size) 0 0 _ (rw (ne-eqb _ _ (c .if1 .left))) (rw (ne-eqb _ _ (c .if1 .left))) (c .before .pdu-length .ensures .0)
+returns-2 c =
+    let a = c .before .before .args in
+    whole-is (a .header) (a .delivery) (a .repeat) (a .size) 0 0 _ (rw (ne-eqb _ _ (c .if1 .left))) (rw (ne-eqb _ _ (c .if1 .left)))
+    (c .before .pdu-length .ensures .0)
 
 pub answered-spec : {M : Type 1} → statement M
 answered-spec =

@@ -1,7 +1,9 @@
-use mathlib.Core.Path.{sym, ap, _∙_}
+use mathlib.Core.Path.{_≡_, sym, ap, _∙_}
 use denote.Ref.{now}
-use Rattle.pdu.specs.Reading.{readingNumber}
-use Rattle.node.specs.Decision.{listsOf}
+use Rattle.pdu.specs.declared.Reading.the-variants.{Pdu}
+use Rattle.pdu.specs.Reading.{readOf, readingNumber}
+use Rattle.lists.specs.Lists.{listsOf, listFault}
+use Rattle.node.specs.Decision.{nodeOf, dropFault}
 use Rattle.node.proofs.Answering.{fault-given, refusal-given, stopped, is-readable, refusal-number}
 use borrow.Author.Needs.{needs}
 use Rattle.node.proofs.hear.Statement.{statement}
@@ -10,11 +12,17 @@ use Rattle.node.proofs.hear.Tie as tie
 fault-requires : tie.Need-fault-requires
 fault-requires c κs = search needs
 
-given-twice-requires : tie.Need-given-twice-requires
-given-twice-requires c κs = search needs
+twice-requires : tie.Need-twice-requires
+twice-requires c κs = search needs
 
 returns : tie.Need-returns
-returns c = let a = c .before .before .before .before .before .before .before .before .before .args in let right = fault-given (a .settings) (listsOf (now (a .source-pass)) (now (a .source-reject)) (now (a .destination-pass)) (now (a .destination-reject))) (now (a .received)) (now (a .output)) (c .before .before .fault .result) (c .before .if1 .taken) (c .before .before .fault .ensures) in (c .given-twice .ensures ∙ right .0, right .1)
+returns c =
+    let lists = c .before .before in
+    let a = lists .before .before .before .before .before .before .before .args in
+    let node = nodeOf (a .settings)
+    (listsOf (now (a .source-pass)) (now (a .source-reject)) (now (a .destination-pass)) (now (a .destination-reject))) in
+    let right = fault-given node (now (a .received)) (now (a .output)) (lists .fault .result) (c .before .if1 .taken) (lists .fault .ensures) in
+    (c .twice .ensures ∙ right .0, right .1)
 
 read-requires : tie.Need-read-requires
 read-requires c κs = search needs
@@ -28,49 +36,89 @@ enum-told c = search needs
 reading-number-requires : tie.Need-reading-number-requires
 reading-number-requires c κs = search needs
 
-given-twice-requires-2 : tie.Need-given-twice-requires-2
-given-twice-requires-2 c κs = search needs
+twice-requires-2 : tie.Need-twice-requires-2
+twice-requires-2 c κs = search needs
 
 returns-2 : tie.Need-returns-2
-returns-2 c = let a = c .before .before .before .before .before .before .before .before .before .before .before .before .before .args in let number = c .before .reading-number .ensures ∙ ap readingNumber (c .before .before .before .before .read .ensures) in let right = refusal-given (a .settings) (listsOf (now (a .source-pass)) (now (a .source-reject)) (now (a .destination-pass)) (now (a .destination-reject))) (now (a .received)) (now (a .output)) (sym (c .before .before .before .before .before .before .fault .ensures) ∙ c .before .before .before .before .before .if1 .left) (c .before .reading-number .result) (refusal-number _ _ (c .before .before .enum-told .given .1) (c .before .reading-number .ensures)) number in (c .given-twice2 .ensures ∙ right .0, right .1)
+returns-2 c =
+    let number = c .before in
+    let reads = number .before .before .before in
+    let lists = reads .before .before in
+    let a = lists .before .before .before .before .before .before .before .args in
+    let node = nodeOf (a .settings)
+    (listsOf (now (a .source-pass)) (now (a .source-reject)) (now (a .destination-pass)) (now (a .destination-reject))) in
+    let clean : listFault (node .lists) ≡ 0 = sym (lists .fault .ensures) ∙ reads .before .if1 .left in
+    let refused = refusal-number _ _ (number .before .enum-told .given .1) (number .reading-number .ensures) in
+    let given = number .reading-number .ensures ∙ ap readingNumber (reads .read .ensures) in
+    let right = refusal-given node (now (a .received)) (now (a .output)) clean (number .reading-number .result) refused given in
+    (c .twice2 .ensures ∙ right .0, right .1)
 
-passing-number-requires : tie.Need-passing-number-requires
-passing-number-requires c κs = search needs
+drop-fault-requires : tie.Need-drop-fault-requires
+drop-fault-requires c κs = search needs
 
 pdu-length-requires : tie.Need-pdu-length-requires
 pdu-length-requires c κs = search needs
 
-given-twice-requires-3 : tie.Need-given-twice-requires-3
-given-twice-requires-3 c κs = search needs
+twice-requires-3 : tie.Need-twice-requires-3
+twice-requires-3 c κs = search needs
 
 returns-3 : tie.Need-returns-3
-returns-3 c = let a = c .before .before .before .before .before .before .before .before .before .before .before .before .before .before .before .before .args in let right = stopped (a .settings) (listsOf (now (a .source-pass)) (now (a .source-reject)) (now (a .destination-pass)) (now (a .destination-reject))) (now (a .received)) (now (a .output)) (sym (c .before .before .before .before .before .before .before .before .before .fault .ensures) ∙ c .before .before .before .before .before .before .before .before .if1 .left) (c .before .before .before .before .before .reading .given .0 .0) (sym (c .before .before .before .before .before .before .before .read .ensures) ∙ c .before .before .before .before .before .reading .given .1) (c .before .before .before .passing-number .result) (c .before .pdu-length .result) (c .before .before .if2 .taken) (c .before .before .before .passing-number .ensures) (c .before .pdu-length .ensures .0) in (c .given-twice3 .ensures ∙ right .0, right .1)
+returns-3 c =
+    let size = c .before in
+    let drops = size .before .before in
+    let header = drops .before .before in
+    let reads = header .before .before in
+    let lists = reads .before .before in
+    let a = lists .before .before .before .before .before .before .before .args in
+    let node = nodeOf (a .settings)
+    (listsOf (now (a .source-pass)) (now (a .source-reject)) (now (a .destination-pass)) (now (a .destination-reject))) in
+    let clean : listFault (node .lists) ≡ 0 = sym (lists .fault .ensures) ∙ reads .before .if1 .left in
+    let read = sym (reads .read .ensures) ∙ header .reading .given .1 in
+    let right =
+    stopped node (now (a .received)) (now (a .output)) clean (header .reading .given .0 .0) read (drops .drop-fault .result)
+    (size .pdu-length .result)
+    (size .before .if2 .taken) (drops .drop-fault .ensures) (size .pdu-length .ensures .0) in
+    (c .twice3 .ensures ∙ right .0, right .1)
 
 decide-requires : tie.Need-decide-requires
-decide-requires c κs = sym (c .before .before .before .before .before .before .read .ensures) ∙ c .before .before .before .before .reading .given .1
+decide-requires c κs =
+    let header = c .before .before .before .before in
+    sym (header .before .before .read .ensures) ∙ header .reading .given .1
 
 same-length : tie.Need-same-length
 same-length c = search needs
 
 returns-4 : tie.Need-returns-4
-returns-4 c = let a = c .before .before .before .before .before .before .before .before .before .before .before .before .before .before .before .before .before .before .args in c .before .before .decide .ensures (listsOf (now (a .source-pass)) (now (a .source-reject)) (now (a .destination-pass)) (now (a .destination-reject))) (is-readable (a .settings) (listsOf (now (a .source-pass)) (now (a .source-reject)) (now (a .destination-pass)) (now (a .destination-reject))) (now (a .received)) (now (a .output)) (sym (c .before .before .before .before .before .before .before .before .before .before .before .fault .ensures) ∙ c .before .before .before .before .before .before .before .before .before .before .if1 .left) (c .before .before .before .before .before .before .before .reading .given .0 .0) (sym (c .before .before .before .before .before .before .before .before .before .read .ensures) ∙ c .before .before .before .before .before .before .before .reading .given .1)) (sym (c .before .before .before .before .before .passing-number .ensures) ∙ c .before .before .before .before .if2 .left)
+returns-4 c =
+    let decides = c .before .before in
+    let drops = decides .before .before .before in
+    let header = drops .before .before in
+    let reads = header .before .before in
+    let lists = reads .before .before in
+    let a = lists .before .before .before .before .before .before .before .args in
+    let node = nodeOf (a .settings)
+    (listsOf (now (a .source-pass)) (now (a .source-reject)) (now (a .destination-pass)) (now (a .destination-reject))) in
+    let clean : listFault (node .lists) ≡ 0 = sym (lists .fault .ensures) ∙ reads .before .if1 .left in
+    let read = sym (reads .read .ensures) ∙ header .reading .given .1 in
+    decides .decide .ensures (node .lists) (is-readable node (now (a .received)) (now (a .output)) clean (header .reading .given .0 .0) read)
+    (sym (drops .drop-fault .ensures) ∙ decides .before .before .if2 .left)
 
 pub hear-spec : {M : Type 1} → statement M
 hear-spec =
     tie.close
     (tie.spec
     fault-requires
-    given-twice-requires
+    twice-requires
     returns
     read-requires
     enum-known-reading
     enum-told
     reading-number-requires
-    given-twice-requires-2
+    twice-requires-2
     returns-2
-    passing-number-requires
+    drop-fault-requires
     pdu-length-requires
-    given-twice-requires-3
+    twice-requires-3
     returns-3
     decide-requires
     same-length

@@ -33,7 +33,15 @@ no-destination-requires c κs = search needs
 
 returns-4 : tie.Need-returns-4
 unfolding readOf
-returns-4 c = let b = c .before .before in simp (le-ltb _ _ (b .before .before .before .if1 .left), eq-eqb _ _ (b .before .if2 .left), le-ltb _ _ (b .if3 .left), ← c .before .no-destination .ensures, c .if4 .taken)
+returns-4 c =
+    let b = c .before .before in
+    simp (
+      le-ltb _ _ (b .before .before .before .if1 .left),
+      eq-eqb _ _ (b .before .if2 .left),
+      le-ltb _ _ (b .if3 .left),
+      ← c .before .no-destination .ensures,
+      c .if4 .taken,
+    )
 
 path-count-in-requires : tie.Need-path-count-in-requires
 path-count-in-requires c κs = search needs
@@ -43,7 +51,19 @@ header-length-in-requires c κs = search needs
 
 returns-5 : tie.Need-returns-5
 unfolding readOf
-returns-5 c = let h = c .before .before in let b = h .before .before .before in let bytes = now (b .before .before .before .before .before .args .bytes) in let cut : length bytes < headerLength (headerOf bytes) = omega (arith, length-shown bytes) in simp (le-ltb _ _ (b .before .before .before .if1 .left), eq-eqb _ _ (b .before .if2 .left), le-ltb _ _ (b .if3 .left), ← h .before .before .no-destination .ensures, h .before .if4 .left, lt-ltb _ _ cut)
+returns-5 c =
+    let h = c .before .before in
+    let b = h .before .before .before in
+    let bytes = now (b .before .before .before .before .before .args .bytes) in
+    let cut : length bytes < headerLength (headerOf bytes) = omega (arith, length-shown bytes) in
+    simp (
+      le-ltb _ _ (b .before .before .before .if1 .left),
+      eq-eqb _ _ (b .before .if2 .left),
+      le-ltb _ _ (b .if3 .left),
+      ← h .before .before .no-destination .ensures,
+      h .before .if4 .left,
+      lt-ltb _ _ cut,
+    )
 
 shared-slice-read-payload-length : tie.Need-shared-slice-read-payload-length
 shared-slice-read-payload-length c = search needs
@@ -62,10 +82,35 @@ add-if6 c = search needs
 
 returns-6 : tie.Need-returns-6
 unfolding readOf
-returns-6 c = let h = c .before .before .before .before .before .before .before in let b = h .before .before .before in let bytes = now (b .before .before .before .before .before .args .bytes) in let head : headerLength (headerOf bytes) ≤ length bytes = omega (arith, length-shown bytes) in let cut : length bytes < pduLength (headerOf bytes) = omega (arith, length-shown bytes, pdu-length-shown bytes) in simp (le-ltb _ _ (b .before .before .before .if1 .left), eq-eqb _ _ (b .before .if2 .left), le-ltb _ _ (b .if3 .left), ← h .before .before .no-destination .ensures, h .before .if4 .left, le-ltb _ _ head, lt-ltb _ _ cut)
+returns-6 c =
+    let h = c .before .before .before .before .before .before .before in
+    let b = h .before .before .before in
+    let bytes = now (b .before .before .before .before .before .args .bytes) in
+    let head : headerLength (headerOf bytes) ≤ length bytes = omega (arith, length-shown bytes) in
+    let cut : length bytes < pduLength (headerOf bytes) = omega (arith, length-shown bytes, pdu-length-shown bytes) in
+    simp (
+      le-ltb _ _ (b .before .before .before .if1 .left),
+      eq-eqb _ _ (b .before .if2 .left),
+      le-ltb _ _ (b .if3 .left),
+      ← h .before .before .no-destination .ensures,
+      h .before .if4 .left,
+      le-ltb _ _ head,
+      lt-ltb _ _ cut,
+    )
 
 returns-7 : tie.Need-returns-7
-returns-7 c = let h = c .before .before .before .before .before .before .before in let b = h .before .before .before in let bytes = now (b .before .before .before .before .before .args .bytes) in rw (read-whole bytes (record { six = b .before .before .before .if1 .left; version-0 = b .before .if2 .left; known = b .if3 .left; addressed = sym (h .before .before .no-destination .ensures) ∙ h .before .if4 .left; all = omega (arith, length-shown bytes, pdu-length-shown bytes) }))
+returns-7 c =
+    let h = c .before .before .before .before .before .before .before in
+    let b = h .before .before .before in
+    let bytes = now (b .before .before .before .before .before .args .bytes) in
+    rw (read-whole bytes (record {
+      six = b .before .before .before .if1 .left;
+      version-0 = b .before .if2 .left;
+      known = b .if3 .left;
+      addressed =
+          sym (h .before .before .no-destination .ensures) ∙ h .before .if4 .left;
+      all = omega (arith, length-shown bytes, pdu-length-shown bytes);
+    }))
 
 pub fault-spec : {M : Type 1} → statement M
 fault-spec =

@@ -24,7 +24,12 @@ word-requires : tie.Need-word-requires
 word-requires c κs = search needs
 
 returns : tie.Need-returns
-returns c = let b = c .before .before .before in let given = b .before .before .before .before .pre in header-is _ (b .before .before .byte .ensures) (b .before .byte2 .ensures) (b .byte3 .ensures) (c .before .payload-length .ensures ∙ ap (payloadLength _) (c .before .before .byte4 .ensures)) (c .word .ensures) (given .0) (given .1) (given .2)
+returns c =
+    let b = c .before .before .before in
+    let given = b .before .before .before .before .pre in
+    header-is _ (b .before .before .byte .ensures) (b .before .byte2 .ensures) (b .byte3 .ensures)
+    (c .before .payload-length .ensures ∙ ap (payloadLength _) (c .before .before .byte4 .ensures)) (c .word .ensures) (given .0) (given .1)
+    (given .2)
 
 pub header-from-spec : {M : Type 1} → statement M
 header-from-spec =

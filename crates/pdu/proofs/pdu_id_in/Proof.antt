@@ -13,7 +13,9 @@ byte-requires-2 : tie.Need-byte-requires-2
 byte-requires-2 c κs = search needs
 
 returns : tie.Need-returns
-returns c = simp (← c .before .before .before .byte .ensures, eq-eqb _ _ (c .before .before .if1 .taken), ← c .before .pdu-id-place .ensures) (c .byte2 .ensures)
+returns c =
+    simp (← c .before .before .before .byte .ensures, eq-eqb _ _ (c .before .before .if1 .taken), ← c .before .pdu-id-place .ensures)
+    (c .byte2 .ensures)
 
 returns-2 : tie.Need-returns-2
 returns-2 c = simp (← c .before .byte .ensures, ne-eqb _ _ (c .if1 .left))

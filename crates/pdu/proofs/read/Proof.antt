@@ -30,7 +30,11 @@ header-from-requires : tie.Need-header-from-requires
 header-from-requires c κs = search needs
 
 returns-2 : tie.Need-returns-2
-returns-2 c = let e = c .before .before .before .before .before in let bytes = now (e .before .before .args .bytes) in let none : readingNumber (readOf bytes) ≡ 0 = omega (arith, e .fault .ensures) in ap Pdu (c .header-from .ensures) ∙ sym (read-0 bytes none)
+returns-2 c =
+    let e = c .before .before .before .before .before in
+    let bytes = now (e .before .before .args .bytes) in
+    let none : readingNumber (readOf bytes) ≡ 0 = omega (arith, e .fault .ensures) in
+    ap Pdu (c .header-from .ensures) ∙ sym (read-0 bytes none)
 
 pub read-spec : {M : Type 1} → statement M
 read-spec =

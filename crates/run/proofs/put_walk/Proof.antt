@@ -2,7 +2,8 @@ use lib.Seq.{length-take-le}
 use Rattle.run.proofs.Lining.{with-room, went-step, printed-step}
 use mathlib.Core.Path.{refl, sym, _∙_}
 use denote.Ref.{now}
-use Rattle.node.specs.Decision.{listsOf}
+use Rattle.lists.specs.Lists.{listsOf}
+use Rattle.node.specs.Decision.{nodeOf}
 use Rattle.run.proofs.Lining.{Going, going-start, going-next, toDo, less-to-do, finished}
 use native.Mathlib.Omega.{arith}
 use borrow.Author.Needs.{needs}
@@ -12,17 +13,19 @@ use Rattle.run.proofs.put_walk.Tie as tie
 abbrev Inv-loop : tie.InvT-loop
 Inv-loop text₀ place settings source-pass source-reject destination-pass destination-reject batch repeated₀ next-place₀ lines₀ offset₀ ended₀ text
     repeated next-place lines offset ended =
-    Going settings (listsOf source-pass source-reject destination-pass destination-reject) batch text₀ place text repeated next-place lines offset ended
+    Going (nodeOf settings (listsOf source-pass source-reject destination-pass destination-reject)) batch text₀ place text repeated
+    next-place lines offset ended
 
 abbrev μ-loop : tie.MeasureT-loop
 μ-loop text₀ place settings source-pass source-reject destination-pass destination-reject batch repeated₀ next-place₀ lines₀ offset₀ ended₀ text
     repeated next-place lines offset ended =
-    toDo settings (listsOf source-pass source-reject destination-pass destination-reject) batch offset ended
+    toDo (nodeOf settings (listsOf source-pass source-reject destination-pass destination-reject)) batch offset ended
 
 loop-holds : tie.Need-loop-holds Inv-loop μ-loop
 loop-holds c =
     let a = c .before .before .before .before .before .before .args in
-    going-start (a .settings) (listsOf (now (a .source-pass)) (now (a .source-reject)) (now (a .destination-pass)) (now (a .destination-reject)))
+    going-start (nodeOf (a .settings)
+    (listsOf (now (a .source-pass)) (now (a .source-reject)) (now (a .destination-pass)) (now (a .destination-reject))))
     (now (a .batch)) (now (a .text)) _ (a .place) refl
 
 slice-aggregate-step : tie.Need-slice-aggregate-step Inv-loop μ-loop
@@ -45,12 +48,12 @@ array-share-prefix-repeated c =
     let l = c .before .before .before .before .before .before .before .loop in
     let s = c .before .before .before .before .before in
     let f = c .before .before .stepped in
-    let w = went-step (a .settings)
-    (listsOf (now (a .source-pass)) (now (a .source-reject)) (now (a .destination-pass)) (now (a .destination-reject))) (now (a .batch))
+    let w = went-step (nodeOf (a .settings)
+    (listsOf (now (a .source-pass)) (now (a .source-reject)) (now (a .destination-pass)) (now (a .destination-reject)))) (now (a .batch))
     (c .before .before .before .before .before .before .before .before .before .before .before .before .before .before .pre) (l .repeated)
     (l .offset) (l .ended) _ (f .given .0 .0) (f .given .0 .1 .0) (l .inv .room) (s .step .ensures .0) (f .given .1) in
-    let p = printed-step (a .settings)
-    (listsOf (now (a .source-pass)) (now (a .source-reject)) (now (a .destination-pass)) (now (a .destination-reject))) (now (a .batch))
+    let p = printed-step (nodeOf (a .settings)
+    (listsOf (now (a .source-pass)) (now (a .source-reject)) (now (a .destination-pass)) (now (a .destination-reject)))) (now (a .batch))
     (c .before .before .before .before .before .before .before .before .before .before .before .before .before .before .pre) (l .repeated) _
     (l .offset) (l .ended) (f .given .0 .0) (f .given .0 .1 .0) (l .inv .room) w (s .step .ensures .1) in
     omega (arith, p .fits, s .step .kept .1 .1 .1 .1 .1 .1 .1 .0, l .inv .room)
@@ -61,12 +64,12 @@ slice-aggregate-put-pdu-line c =
     let l = c .before .before .before .before .before .before .before .before .loop in
     let s = c .before .before .before .before .before .before in
     let f = c .before .before .before .stepped in
-    let w = went-step (a .settings)
-    (listsOf (now (a .source-pass)) (now (a .source-reject)) (now (a .destination-pass)) (now (a .destination-reject))) (now (a .batch))
+    let w = went-step (nodeOf (a .settings)
+    (listsOf (now (a .source-pass)) (now (a .source-reject)) (now (a .destination-pass)) (now (a .destination-reject)))) (now (a .batch))
     (c .before .before .before .before .before .before .before .before .before .before .before .before .before .before .before .pre) (l .repeated)
     (l .offset) (l .ended) _ (f .given .0 .0) (f .given .0 .1 .0) (l .inv .room) (s .step .ensures .0) (f .given .1) in
-    let p = printed-step (a .settings)
-    (listsOf (now (a .source-pass)) (now (a .source-reject)) (now (a .destination-pass)) (now (a .destination-reject))) (now (a .batch))
+    let p = printed-step (nodeOf (a .settings)
+    (listsOf (now (a .source-pass)) (now (a .source-reject)) (now (a .destination-pass)) (now (a .destination-reject)))) (now (a .batch))
     (c .before .before .before .before .before .before .before .before .before .before .before .before .before .before .before .pre) (l .repeated)
     _ (l .offset) (l .ended) (f .given .0 .0) (f .given .0 .1 .0) (l .inv .room) w (s .step .ensures .1) in
     sym (length-take-le _ _ (omega (arith, p .fits, s .step .kept .1 .1 .1 .1 .1 .1 .1 .0, l .inv .room)))
@@ -81,16 +84,17 @@ loop-less c =
     let l = c .before .before .before .before .before .before .before .before .before .before .before .loop in
     let s = c .before .before .before .before .before .before .before .before .before in
     let f = c .before .before .before .before .before .before .stepped in
-    let w = went-step (a .settings)
-    (listsOf (now (a .source-pass)) (now (a .source-reject)) (now (a .destination-pass)) (now (a .destination-reject))) (now (a .batch))
+    let w = went-step (nodeOf (a .settings)
+    (listsOf (now (a .source-pass)) (now (a .source-reject)) (now (a .destination-pass)) (now (a .destination-reject)))) (now (a .batch))
     (c .before .before .before .before .before .before .before .before .before .before .before .before .before .before .before .before .before
     .before .pre) (l .repeated) (l .offset) (l .ended) _ (f .given .0 .0) (f .given .0 .1 .0) (l .inv .room) (s .step .ensures .0) (f .given .1)
     in
-    let p = printed-step (a .settings)
-    (listsOf (now (a .source-pass)) (now (a .source-reject)) (now (a .destination-pass)) (now (a .destination-reject))) (now (a .batch))
+    let p = printed-step (nodeOf (a .settings)
+    (listsOf (now (a .source-pass)) (now (a .source-reject)) (now (a .destination-pass)) (now (a .destination-reject)))) (now (a .batch))
     (c .before .before .before .before .before .before .before .before .before .before .before .before .before .before .before .before .before
     .before .pre) (l .repeated) _ (l .offset) (l .ended) (f .given .0 .0) (f .given .0 .1 .0) (l .inv .room) w (s .step .ensures .1) in
-    less-to-do (a .settings) (listsOf (now (a .source-pass)) (now (a .source-reject)) (now (a .destination-pass)) (now (a .destination-reject)))
+    less-to-do (nodeOf (a .settings)
+    (listsOf (now (a .source-pass)) (now (a .source-reject)) (now (a .destination-pass)) (now (a .destination-reject))))
     (now (a .batch)) (c .before .before .before .before .before .before .before .before .before .before .before .before .before .before .before
     .before .before .before .pre) (l .offset) (l .ended) (f .given .0 .0) (f .given .0 .1 .0) w
 
@@ -101,16 +105,17 @@ loop-again c =
     let l = c .before .before .before .before .before .before .before .before .before .before .before .loop in
     let s = c .before .before .before .before .before .before .before .before .before in
     let f = c .before .before .before .before .before .before .stepped in
-    let w = went-step (a .settings)
-    (listsOf (now (a .source-pass)) (now (a .source-reject)) (now (a .destination-pass)) (now (a .destination-reject))) (now (a .batch))
+    let w = went-step (nodeOf (a .settings)
+    (listsOf (now (a .source-pass)) (now (a .source-reject)) (now (a .destination-pass)) (now (a .destination-reject)))) (now (a .batch))
     (c .before .before .before .before .before .before .before .before .before .before .before .before .before .before .before .before .before
     .before .pre) (l .repeated) (l .offset) (l .ended) _ (f .given .0 .0) (f .given .0 .1 .0) (l .inv .room) (s .step .ensures .0) (f .given .1)
     in
-    let p = printed-step (a .settings)
-    (listsOf (now (a .source-pass)) (now (a .source-reject)) (now (a .destination-pass)) (now (a .destination-reject))) (now (a .batch))
+    let p = printed-step (nodeOf (a .settings)
+    (listsOf (now (a .source-pass)) (now (a .source-reject)) (now (a .destination-pass)) (now (a .destination-reject)))) (now (a .batch))
     (c .before .before .before .before .before .before .before .before .before .before .before .before .before .before .before .before .before
     .before .pre) (l .repeated) _ (l .offset) (l .ended) (f .given .0 .0) (f .given .0 .1 .0) (l .inv .room) w (s .step .ensures .1) in
-    going-next (a .settings) (listsOf (now (a .source-pass)) (now (a .source-reject)) (now (a .destination-pass)) (now (a .destination-reject)))
+    going-next (nodeOf (a .settings)
+    (listsOf (now (a .source-pass)) (now (a .source-reject)) (now (a .destination-pass)) (now (a .destination-reject))))
     (now (a .batch)) (c .before .before .before .before .before .before .before .before .before .before .before .before .before .before .before
     .before .before .before .pre) (l .offset) (l .ended) (f .given .0 .0) (f .given .0 .1 .0) w _ _ _ _ _ _ _ _ _ _ (l .inv) p
     (s .step .kept .1 .1 .1 .1 .1 .1 .1 .0 ∙ l .inv .room) refl (c .before .before .put-pdu-line .ensures)
@@ -125,10 +130,12 @@ returns : tie.Need-returns Inv-loop μ-loop
 returns c =
     let a = c .before .before .before .before .before .before .before .before .before .before .before .before .before .before .before .args in
     let l = c .before .before .before .before .before .before .before .before .loop in
-    finished (a .settings) (listsOf (now (a .source-pass)) (now (a .source-reject)) (now (a .destination-pass)) (now (a .destination-reject)))
+    finished (nodeOf (a .settings)
+    (listsOf (now (a .source-pass)) (now (a .source-reject)) (now (a .destination-pass)) (now (a .destination-reject))))
     (now (a .batch)) (c .before .before .before .before .before .before .before .before .before .before .before .before .before .before .before
     .pre) (now (a .text)) (l .text) (l .repeated) _ (a .place) (l .next-place) _ (l .lines) (l .offset) (l .ended) _ (l .inv)
-    (with-room (a .settings) (listsOf (now (a .source-pass)) (now (a .source-reject)) (now (a .destination-pass)) (now (a .destination-reject)))
+    (with-room (nodeOf (a .settings)
+    (listsOf (now (a .source-pass)) (now (a .source-reject)) (now (a .destination-pass)) (now (a .destination-reject))))
     (now (a .batch)) (c .before .before .before .before .before .before .before .before .before .before .before .before .before .before .before
     .pre) (l .repeated) (l .offset) (l .ended) _ (l .inv .room) (c .before .before .before .before .before .before .step .ensures .0))
     (c .before .before .before .before .match .keys2) (c .before .before .put-last-line .ensures)

@@ -13,7 +13,8 @@ returns : tie.Need-returns
 returns c =
     let a = c .before .before .before .before .before .args in
     not-placed _ _ _
-    (no-rest (now (a .output)) (now (a .start)) (now (a .repeated)) (a .place) (c .before .has-room .result) (c .before .has-room .ensures) (c .if1 .taken))
+    (no-rest (now (a .output)) (now (a .start)) (now (a .repeated)) (a .place) (c .before .has-room .result) (c .before .has-room .ensures)
+    (c .if1 .taken))
 
 put-requires : tie.Need-put-requires
 put-requires c κs = search needs
@@ -36,7 +37,8 @@ returns-2 c =
     .before .args in
     let t = c .before .before .before .before .before .before .before .before .before .before .before .before .before in
     done (rest _ _ _ _ _ _ _ _ _ _
-    (all-rest (now (a .output)) (now (a .start)) (now (a .repeated)) (a .place) (t .before .has-room .result) (t .before .has-room .ensures) (t .if1 .left))
+    (all-rest (now (a .output)) (now (a .start)) (now (a .repeated)) (a .place) (t .before .has-room .result) (t .before .has-room .ensures)
+    (t .if1 .left))
     (c .before .before .before .before .before .before .before .before .before .before .before .put .ensures)
     (c .before .before .before .before .before .before .before .put-shown .ensures)
     (c .before .before .put2 .ensures))

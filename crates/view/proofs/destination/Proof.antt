@@ -13,7 +13,13 @@ use Rattle.view.proofs.destination.Statement.{statement}
 use Rattle.view.proofs.destination.Code as code
 
 abbrev destination : Answer
-destination = record { slot = plain (λ _. D.the-row); ty = D′.mir; typed = λ 𝓤 H A W κs r u is. EL.lawful D.the-type D′.the-laws 𝓤 H A W tt .typed r _ is .0 }
+destination =
+    record {
+      slot = plain (λ _. D.the-row);
+      ty = D′.mir;
+      typed =
+          λ 𝓤 H A W κs r u is. EL.lawful D.the-type D′.the-laws 𝓤 H A W tt .typed r _ is .0;
+    }
 
 pub destination-spec : {M : Type 1} → statement M
 unfolding code.routine

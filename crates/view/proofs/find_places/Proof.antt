@@ -21,7 +21,13 @@ refusal-number-requires : tie.Need-refusal-number-requires
 refusal-number-requires c κs = search needs
 
 returns : tie.Need-returns
-returns c = rw (← c .before .before .before .before .before .read .ensures, c .before .before .before .reading .given .1, c .before .header-length .ensures .0, c .pdu-length .ensures .0)
+returns c =
+    rw (
+      ← c .before .before .before .before .before .read .ensures,
+      c .before .before .before .reading .given .1,
+      c .before .header-length .ensures .0,
+      c .pdu-length .ensures .0,
+    )
 
 returns-2 : tie.Need-returns-2
 returns-2 c = rw (← c .before .before .before .before .read .ensures, c .before .before .reading2 .given .1, ← c .refusal-number .ensures)

@@ -13,7 +13,9 @@ path-address-requires : tie.Need-path-address-requires
 path-address-requires c κs = search needs
 
 returns : tie.Need-returns
-returns c = let a = c .before .before .before .args in c .path-address .ensures ∙ ap (λ (header : Header). pathAddress header (now (a .bytes)) (a .i)) (c .before .header-at .ensures)
+returns c =
+    let a = c .before .before .before .args in
+    c .path-address .ensures ∙ ap (λ (header : Header). pathAddress header (now (a .bytes)) (a .i)) (c .before .header-at .ensures)
 
 pub path-address-at-spec : {M : Type 1} → statement M
 path-address-at-spec = tie.close (tie.spec header-at-requires path-address-requires returns)

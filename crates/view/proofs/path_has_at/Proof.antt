@@ -13,7 +13,9 @@ path-has-requires : tie.Need-path-has-requires
 path-has-requires c κs = search needs
 
 returns : tie.Need-returns
-returns c = let a = c .before .before .before .args in c .path-has .ensures ∙ ap (λ (header : Header). inPath (a .address) (pathIn header (now (a .bytes)))) (c .before .header-at .ensures)
+returns c =
+    let a = c .before .before .before .args in
+    c .path-has .ensures ∙ ap (λ (header : Header). inPath (a .address) (pathIn header (now (a .bytes)))) (c .before .header-at .ensures)
 
 pub path-has-at-spec : {M : Type 1} → statement M
 path-has-at-spec = tie.close (tie.spec header-at-requires path-has-requires returns)

@@ -13,7 +13,8 @@ use Rattle.view.proofs.summarize.Statement.{statement}
 use Rattle.view.proofs.summarize.Code as code
 
 abbrev summary : Answer
-summary = record { slot = plain (λ _. S.the-row); ty = S′.mir; typed = λ 𝓤 H A W κs r u is. LL.lawful S.the-type S′.the-laws 𝓤 H A W .typed r _ is .0 }
+summary =
+    record { slot = plain (λ _. S.the-row); ty = S′.mir; typed = λ 𝓤 H A W κs r u is. LL.lawful S.the-type S′.the-laws 𝓤 H A W .typed r _ is .0 }
 
 pub summarize-spec : {M : Type 1} → statement M
 unfolding code.routine

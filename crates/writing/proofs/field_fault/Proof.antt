@@ -18,7 +18,8 @@ cast-if4 c = search needs
 
 returns-4 : tie.Need-returns-4
 returns-4 c =
-    payload-refused (c .before .before .before .before .before .before .before .before .args .header) (omega arith) (omega arith) (omega arith) (omega arith)
+    payload-refused (c .before .before .before .before .before .before .before .before .args .header) (omega arith) (omega arith)
+    (omega arith) (omega arith)
 
 returns-5 : tie.Need-returns-5
 returns-5 c =

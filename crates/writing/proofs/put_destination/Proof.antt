@@ -13,7 +13,8 @@ enum-known-destination : tie.Need-enum-known-destination
 enum-known-destination c = search needs
 
 put-address-requires : tie.Need-put-address-requires
-put-address-requires c κs = omega (arith, c .before .before .before .before .before .pre, ap destinationFlag (c .before .before .destination .given .1))
+put-address-requires c κs =
+    omega (arith, c .before .before .before .before .before .pre, ap destinationFlag (c .before .before .destination .given .1))
 
 returns : tie.Need-returns
 returns c = rw (c .enum-told .given .1) (nothing-after _ _, nothing-placed _ _)

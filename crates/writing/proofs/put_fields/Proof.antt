@@ -28,7 +28,8 @@ put-if-requires-2 c κs =
     let sent = id .before .before .before .before .before in
     let fixed = sent .before .before .before .before in
     let start = fixed .before .before .before in
-    path-count-room (start .args .header) (now (start .args .output)) (start .pre .1) _ _ (fixed .put-fixed .ensures) _ _ (sent .put-destination .ensures) _ _
+    path-count-room (start .args .header) (now (start .args .output)) (start .pre .1) _ _ (fixed .put-fixed .ensures) _ _
+    (sent .put-destination .ensures) _ _
     (id .put-if .ensures)
 
 same-length : tie.Need-same-length
@@ -41,7 +42,8 @@ returns c =
     let sent = id .before .before .before .before .before in
     let fixed = sent .before .before .before .before in
     let start = fixed .before .before .before in
-    header-put (start .args .header) (now (start .args .output)) (start .pre .1) _ _ (fixed .put-fixed .ensures) _ _ (sent .put-destination .ensures) _ _
+    header-put (start .args .header) (now (start .args .output)) (start .pre .1) _ _ (fixed .put-fixed .ensures) _ _
+    (sent .put-destination .ensures) _ _
     (id .put-if .ensures) _ _ (count .put-if2 .ensures)
 
 pub put-fields-spec : {M : Type 1} → statement M

@@ -31,7 +31,16 @@ same-length : tie.Need-same-length
 same-length c = search needs
 
 returns : tie.Need-returns
-returns c = rw (← c .before .before .before .before .before .before .before .before .before .before .byte-0 .ensures, ← c .before .before .before .before .before .before .before .before .before .byte-1 .ensures, ← c .before .before .before .before .before .before .before .before .byte-2 .ensures, ← c .before .before .before .before .before .before .before .low .ensures, ← c .before .before .before .before .before .before .high .ensures, ← c .before .before .before .before .before .low2 .ensures) (c .before .before .put .ensures)
+returns c =
+    rw (
+      ← c .before .before .before .before .before .before .before .before .before .before .byte-0 .ensures,
+      ← c .before .before .before .before .before .before .before .before .before .byte-1 .ensures,
+      ← c .before .before .before .before .before .before .before .before .byte-2 .ensures,
+      ← c .before .before .before .before .before .before .before .low .ensures,
+      ← c .before .before .before .before .before .before .high .ensures,
+      ← c .before .before .before .before .before .low2 .ensures,
+    )
+    (c .before .before .put .ensures)
 
 pub put-fixed-spec : {M : Type 1} → statement M
 put-fixed-spec =

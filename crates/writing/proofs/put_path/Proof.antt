@@ -10,7 +10,8 @@ use Rattle.writing.proofs.put_path.Statement.{statement}
 use Rattle.writing.proofs.put_path.Tie as tie
 
 abbrev Inv-loop : tie.InvT-loop
-Inv-loop output₀ place bytes start entries i₀ output i = (i ≤ entries) × (length output ≡ length output₀) × (output ≡ withPath bytes output₀ place start i)
+Inv-loop output₀ place bytes start entries i₀ output i =
+    (i ≤ entries) × (length output ≡ length output₀) × (output ≡ withPath bytes output₀ place start i)
 
 abbrev μ-loop : tie.MeasureT-loop
 μ-loop output₀ place bytes start entries i₀ output i = entries - i
@@ -49,7 +50,12 @@ loop-less : tie.Need-loop-less Inv-loop μ-loop
 loop-less c = search needs
 
 loop-again : tie.Need-loop-again Inv-loop μ-loop
-loop-again c = let l = c .before .before .before .before .before .before in (omega arith, omega (arith, c .before .before .put-word .kept .0), path-more _ _ _ _ _ _ _ _ (omega arith) (c .before .before .before .word .ensures) (l .loop .inv .2) (c .before .before .put-word .ensures .1))
+loop-again c =
+    let l = c .before .before .before .before .before .before in (
+      omega arith,
+      omega (arith, c .before .before .put-word .kept .0),
+      path-more _ _ _ _ _ _ _ _ (omega arith) (c .before .before .before .word .ensures) (l .loop .inv .2) (c .before .before .put-word .ensures .1),
+    )
 
 mul-result : tie.Need-mul-result Inv-loop μ-loop
 mul-result c = search needs
@@ -61,7 +67,13 @@ same-length : tie.Need-same-length Inv-loop μ-loop
 same-length c = search needs
 
 returns : tie.Need-returns Inv-loop μ-loop
-returns c = let a = c .before .before .before .before .before .before .args in let all = path-all (now (a .bytes)) (now (a .output)) (a .place) (c .before .before .before .path-start .result) (c .before .loop .i) (pathStart (a .header)) (pathEntries (a .header)) (c .before .loop .output) (c .before .before .before .path-start .ensures .0) (omega (arith, c .before .before .path-entries .ensures .0)) (c .before .before .before .before .before .before .pre) (c .before .loop .inv .2) in (omega (arith, all .0, c .before .before .path-entries .ensures .0), all .1)
+returns c =
+    let a = c .before .before .before .before .before .before .args in
+    let all = path-all (now (a .bytes)) (now (a .output)) (a .place) (c .before .before .before .path-start .result) (c .before .loop .i)
+    (pathStart (a .header)) (pathEntries (a .header)) (c .before .loop .output) (c .before .before .before .path-start .ensures .0)
+    (omega (arith, c .before .before .path-entries .ensures .0)) (c .before .before .before .before .before .before .pre)
+    (c .before .loop .inv .2) in
+    (omega (arith, all .0, c .before .before .path-entries .ensures .0), all .1)
 
 pub put-path-spec : {M : Type 1} → statement M
 put-path-spec =

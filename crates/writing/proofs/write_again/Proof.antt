@@ -29,7 +29,11 @@ same-length c = search needs
 
 returns-2 : tie.Need-returns-2
 unfolding writeAgain writtenAgain
-returns-2 c = rw (← c .before .before .before .before .before .before .before .read .ensures, c .before .before .before .before .before .reading2 .given .1) (c .before .before .write-shown .ensures)
+returns-2 c =
+    rw (
+      ← c .before .before .before .before .before .before .before .read .ensures,
+      c .before .before .before .before .before .reading2 .given .1,
+    ) (c .before .before .write-shown .ensures)
 
 pub write-again-spec : {M : Type 1} → statement M
 write-again-spec =

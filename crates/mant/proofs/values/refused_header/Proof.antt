@@ -1,8 +1,10 @@
 use mathlib.Core.Path.{refl}
+use Rattle.pdu.specs.Header.{headerOf}
 use Rattle.mant.proofs.values.refused_header.Statement.{statement}
 use Rattle.mant.proofs.values.refused_header.Tie as tie
 
 returns : tie.Need-returns
+unfolding headerOf
 returns c = refl
 
 pub refused-header-spec : {M : Type 1} → statement M

@@ -16,7 +16,13 @@ pdu-length-requires : tie.Need-pdu-length-requires
 pdu-length-requires c κs = search needs
 
 returns : tie.Need-returns
-returns c = rw (c .before .before .before .has-destination .ensures, c .before .before .destination-address .ensures, c .before .header-length .ensures .0, c .pdu-length .ensures .0) refl
+returns c =
+    rw (
+      c .before .before .before .has-destination .ensures,
+      c .before .before .destination-address .ensures,
+      c .before .header-length .ensures .0,
+      c .pdu-length .ensures .0,
+    ) refl
 
 pub shown-header-spec : {M : Type 1} → statement M
 shown-header-spec =

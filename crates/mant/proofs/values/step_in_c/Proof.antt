@@ -6,12 +6,6 @@ use Rattle.mant.proofs.values.step_in_c.Tie as tie
 enum-known-stepped : tie.Need-enum-known-stepped
 enum-known-stepped c = search needs
 
-answer-in-c-requires : tie.Need-answer-in-c-requires
-answer-in-c-requires c κs = search needs
-
-cursor-in-c-requires : tie.Need-cursor-in-c-requires
-cursor-in-c-requires c κs = search needs
-
 enum-told : tie.Need-enum-told
 enum-told c = search needs
 
@@ -25,7 +19,7 @@ number-alone-requires-2 : tie.Need-number-alone-requires-2
 number-alone-requires-2 c κs = search needs
 
 returns : tie.Need-returns
-returns c = rw (c .before .answer-in-c .ensures, c .cursor-in-c .ensures, c .before .before .before .stepped .given .1) refl
+returns c = rw (c .before .stepped .given .1) refl
 
 returns-2 : tie.Need-returns-2
 returns-2 c = rw (c .number-alone .ensures, c .before .enum-told .given .1) refl
@@ -38,8 +32,6 @@ step-in-c-spec =
     tie.close
     (tie.spec
     enum-known-stepped
-    answer-in-c-requires
-    cursor-in-c-requires
     enum-told
     number-alone-requires
     enum-told-2

@@ -26,10 +26,17 @@ word-requires : tie.Need-word-requires
 word-requires c κs = search needs
 
 returns : tie.Need-returns
-returns c = let a = c .before .before .before .before .before .args in c .word .ensures ∙ ap (wordAt (now (a .bytes))) (omega (arith, c .before .path-start .ensures .0)) ∙ sym (address-at (now (a .bytes)) (pathStart (a .header)) (pathEntries (a .header)) (a .i) (omega (arith, c .before .before .before .path-entries .ensures .0)))
+returns c =
+    let a = c .before .before .before .before .before .args in
+    c .word .ensures ∙ ap (wordAt (now (a .bytes))) (omega (arith, c .before .path-start .ensures .0))
+    ∙ sym (address-at (now (a .bytes)) (pathStart (a .header)) (pathEntries (a .header)) (a .i)
+    (omega (arith, c .before .before .before .path-entries .ensures .0)))
 
 returns-2 : tie.Need-returns-2
-returns-2 c = let a = c .before .before .before .args in sym (List·getD-eq-default (addressesAt (now (a .bytes)) (pathStart (a .header)) (pathEntries (a .header))) 0 (omega (arith, length-addresses (now (a .bytes)) (pathStart (a .header)) (pathEntries (a .header)), c .before .path-entries .ensures .0)))
+returns-2 c =
+    let a = c .before .before .before .args in
+    sym (List·getD-eq-default (addressesAt (now (a .bytes)) (pathStart (a .header)) (pathEntries (a .header))) 0
+    (omega (arith, length-addresses (now (a .bytes)) (pathStart (a .header)) (pathEntries (a .header)), c .before .path-entries .ensures .0)))
 
 pub path-address-spec : {M : Type 1} → statement M
 path-address-spec =

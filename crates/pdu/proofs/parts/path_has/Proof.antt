@@ -37,13 +37,23 @@ loop-less : tie.Need-loop-less Inv-loop μ-loop
 loop-less c = search needs
 
 loop-again : tie.Need-loop-again Inv-loop μ-loop
-loop-again c = let l = c .before .before .before in (omega arith, l .loop .inv .1 ∙ sought-next _ _ _ _ _ _ (omega arith) (omega arith) (λ e. c .if2 .left (c .before .word .ensures ∙ e)))
+loop-again c =
+    let l = c .before .before .before in
+    (omega arith, l .loop .inv .1 ∙ sought-next _ _ _ _ _ _ (omega arith) (omega arith) (λ e. c .if2 .left (c .before .word .ensures ∙ e)))
 
 returns : tie.Need-returns Inv-loop μ-loop
-returns c = let l = c .before in sym (sought-all _ _ _ _ ∙ rw (← l .before .before .path-start .ensures .0, ← l .before .path-entries .ensures .0) (l .loop .inv .1 ∙ sought-none _ _ _ _ (omega arith)))
+returns c =
+    let l = c .before in
+    sym (sought-all _ _ _ _
+    ∙ rw (← l .before .before .path-start .ensures .0, ← l .before .path-entries .ensures .0) (l .loop .inv .1 ∙ sought-none _ _ _ _ (omega arith)))
 
 returns-2 : tie.Need-returns-2 Inv-loop μ-loop
-returns-2 c = let l = c .before .before .before in sym (sought-all _ _ _ _ ∙ rw (← l .before .before .path-start .ensures .0, ← l .before .path-entries .ensures .0) (l .loop .inv .1 ∙ sought-here _ _ _ _ (l .before .path-entries .result - l .loop .i - 1) (omega arith) (sym (c .before .word .ensures) ∙ c .if2 .taken)))
+returns-2 c =
+    let l = c .before .before .before in
+    sym (sought-all _ _ _ _
+    ∙ rw (← l .before .before .path-start .ensures .0, ← l .before .path-entries .ensures .0)
+    (l .loop .inv .1 ∙ sought-here _ _ _ _ (l .before .path-entries .result - l .loop .i - 1) (omega arith)
+    (sym (c .before .word .ensures) ∙ c .if2 .taken)))
 
 pub path-has-spec : {M : Type 1} → statement M
 path-has-spec =

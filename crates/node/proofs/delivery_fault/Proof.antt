@@ -3,8 +3,8 @@ use Rattle.node.specs.Decision.{deliveryFault}
 use Rattle.octets.proofs.Numbering.{gives-here, gives-later, gives-last, gives-none}
 use native.Mathlib.Omega.{arith}
 use borrow.Author.Needs.{needs}
-use Rattle.node.proofs.delivery_number.Statement.{statement}
-use Rattle.node.proofs.delivery_number.Tie as tie
+use Rattle.node.proofs.delivery_fault.Statement.{statement}
+use Rattle.node.proofs.delivery_fault.Tie as tie
 
 is-for-another-requires : tie.Need-is-for-another-requires
 is-for-another-requires c κs = search needs
@@ -21,5 +21,5 @@ returns-3 : tie.Need-returns-3
 unfolding deliveryFault
 returns-3 c = sym (gives-later _ 39 _ (sym (c .before .before .is-for-another .ensures) ∙ c .before .if1 .left) ∙ gives-none _ 35 (c .if2 .left))
 
-pub delivery-number-spec : {M : Type 1} → statement M
-delivery-number-spec = tie.close (tie.spec is-for-another-requires returns returns-2 returns-3)
+pub delivery-fault-spec : {M : Type 1} → statement M
+delivery-fault-spec = tie.close (tie.spec is-for-another-requires returns returns-2 returns-3)

@@ -1,9 +1,0 @@
-use mathlib.Core.Path.{refl}
-use Rattle.mant.proofs.values.answer_in_c.Statement.{statement}
-use Rattle.mant.proofs.values.answer_in_c.Tie as tie
-
-returns : tie.Need-returns
-returns c = refl
-
-pub answer-in-c-spec : {M : Type 1} → statement M
-answer-in-c-spec = tie.close (tie.spec returns)
