@@ -2,7 +2,8 @@
 use Prim.Native.Nat.{ℕ, _≤_}
 use native.Mathlib.Omega.{arith}
 use mathlib.Core.Bool.{Bool, true, false, cond, _||_}
-use mathlib.Core.List.{List, [], _∷_, _++_}
+use mathlib.Core.List.{List, [], _∷_, _++_, map}
+use mathlib.Core.Logic.{_⊎_}
 use mathlib.Core.Path.{_≡_, refl, ap, sym, _∙_}
 use lib.Dec.{ltb}
 use lib.ListN.{length, take, drop}
@@ -17,14 +18,14 @@ use Rattle.pdu.specs.Reading.{readOf}
 use Rattle.pdu.specs.Parts.{pathIn, payloadIn}
 use Rattle.writing.specs.Writing.{encode, writtenOf, outputOf, writeAgain, writtenAgain}
 use Rattle.origin.specs.Origination.{originationNumber, originated, originatedOutput}
-use Rattle.node.specs.Decision.{Node, repeatFault, repeatNumber}
+use Rattle.node.specs.Decision.{Node, listOrReadingFault, repeatFault, repeatNumber}
 use Rattle.node.specs.Repeat.{repeatedHeader, repeated}
 use Rattle.node.specs.declared.Answer.{Answer}
 use Rattle.node.specs.Answers.{answerOf, outputAfter}
 use Rattle.batch.specs.declared.Cursor.{Cursor}
 use Rattle.batch.specs.declared.Stepped.the-variants.{TooLong, Ended, Answered}
 use Rattle.batch.specs.declared.Stepped.{Stepped}
-use Rattle.batch.specs.Walk.{isTooLong, isDone, nextCursor, stepOf, stepOutput}
+use Rattle.batch.specs.Walk.{batchLimit, isTooLong, isDone, nextCursor, stepOf, stepOutput, endingAt, walkFrom, walk}
 use Rattle.origin.proofs.ReadBack.{fresh-back}
 use Rattle.origin.proofs.Deciding.{hop-refused, refused-early}
 use Rattle.writing.proofs.Same.{written-same, shown-well-formed}
@@ -117,6 +118,22 @@ repeat-back node room received header small e z =
       repeat-short received header small e ok (node .settings .own),
     )
 
+walk-answers : (node : Node) (room : ℕ) (batch : List ℕ)
+    → walk node room batch .answers ≡ map (λ (offset : ℕ). answerOf node room (drop offset batch)) (walk node room batch .offsets)
+unfolding walk
+walk-answers node room batch = go (isTooLong batch)
+  where
+    go : (long : Bool)
+        → cond long (endingAt 54 0) (walkFrom (length batch) node room batch 0) .answers
+        ≡ map (λ (offset : ℕ). answerOf node room (drop offset batch)) (cond long (endingAt 54 0) (walkFrom (length batch) node room batch 0) .offsets)
+    go true = refl
+    go false = walking.answers-at node room batch (length batch) 0
+
+walk-ends : (node : Node) (room : ℕ) (batch : List ℕ) → length batch ≤ batchLimit
+    → (length batch ≤ walk node room batch .end) ⊎ (listOrReadingFault node (drop (walk node room batch .end) batch) ≡ 0 → ⊥)
+unfolding walk
+walk-ends node room batch short = rw (le-ltb batchLimit (length batch) short) (walking.walk-complete node room batch (length batch) 0 (omega arith))
+
 pub exactly : Demand2
 exactly =
     record {
@@ -129,6 +146,8 @@ exactly =
       repeat-reads-back = λ node room received header small e z. repeat-back node room received header small e z;
       delivered-part = λ node room received. delivered-part node room received;
       stepping-walks = λ node room batch. walking.stepping-walks node room batch;
+      walk-answers = λ node room batch. walk-answers node room batch;
+      walk-ends = λ node room batch short. walk-ends node room batch short;
     }
 
 pub bounded : Demand3

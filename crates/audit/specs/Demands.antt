@@ -17,12 +17,12 @@ use Rattle.writing.specs.Writing.{encode, writeAgain, writtenAgain, WellFormed}
 use Rattle.origin.specs.declared.Settings as asked
 use Rattle.origin.specs.Origination.{freshHeader, fresh, originationNumber, originated, originatedOutput}
 use Rattle.node.specs.declared.Answer.{Answer}
-use Rattle.node.specs.Decision.{Node, repeatNumber, delivered}
+use Rattle.node.specs.Decision.{Node, listOrReadingFault, repeatNumber, delivered}
 use Rattle.node.specs.Repeat.{repeatedHeader, repeated}
 use Rattle.node.specs.Answers.{answerOf, outputAfter}
 use Rattle.batch.specs.declared.Cursor.{Cursor}
 use Rattle.batch.specs.declared.Stepped.the-variants.{Answered}
-use Rattle.batch.specs.Walk.{stepOf, stepOutput, walk, steps}
+use Rattle.batch.specs.Walk.{batchLimit, stepOf, stepOutput, walk, steps}
 use Rattle.bound.specs.Bound.{terms, bound, bytesBound}
 use Rattle.flood.specs.Flood.{Reception, Bounded}
 use Rattle.flood.specs.Complete.{Complete}
@@ -77,6 +77,11 @@ pub record Demand2 : Type 0 where
   -- stepping over a batch gives exactly its walk
   pub stepping-walks : (node : Node) (room : ℕ) (batch : List ℕ)
       → steps node room batch (length batch) (record { place = 0; ended = false }) ≡ walk node room batch
+  -- each answer of a walk is the node's for the bytes at its offset, and it ends where no bytes are left or at a PDU that can't be read
+  pub walk-answers : (node : Node) (room : ℕ) (batch : List ℕ)
+      → walk node room batch .answers ≡ map (λ (offset : ℕ). answerOf node room (drop offset batch)) (walk node room batch .offsets)
+  pub walk-ends : (node : Node) (room : ℕ) (batch : List ℕ) → length batch ≤ batchLimit
+      → (length batch ≤ walk node room batch .end) ⊎ (listOrReadingFault node (drop (walk node room batch .end) batch) ≡ 0 → ⊥)
 
 -- Demand 3, bounded, over demand 2's rules: any nodes of different addresses with echo on, whatever their lists, settings and room; any message that
 -- origination wrote with a path; any receptions of transmissions already made, none twice.
