@@ -33,7 +33,14 @@ impl Tally {
     }
 
     // Prints a case that answered three numbers.
-    pub(crate) fn three(self, name: &[u8], first: u64, second: u64, third: u64, right: bool) -> Tally {
+    pub(crate) fn three(
+        self,
+        name: &[u8],
+        first: u64,
+        second: u64,
+        third: u64,
+        right: bool,
+    ) -> Tally {
         io::write_all(1, name);
         print_number(first);
         print_number(second);
