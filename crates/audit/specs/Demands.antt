@@ -28,8 +28,8 @@ use Rattle.flood.specs.Flood.{Reception, Bounded}
 use Rattle.flood.specs.Complete.{Complete}
 use Rattle.flood.specs.Air.{Repeater, Nodes, Open, Originated, address, sends, pathOf, onTheAir, bytesOnTheAir, Begins, hopOf}
 
--- Demand 1, total. That every public function answers any input, and how, are its contract and this crate's theorems by
--- the forms of Promise.antt, one for each function, in the files named by the crates. Here: a hop setting above 7 is refused, whatever else is set, with nothing written.
+-- Demand 1, total. That every public function answers any input, and how, are its contract and this crate's theorems by the forms of Promise.antt, one
+-- for each function, in the files named by the crates. Here: a hop setting above 7 is refused, whatever else is set, with nothing written.
 pub record Demand1 : Type 0 where
   pub hop-refused : (settings : asked.Settings) (payload output : List ℕ) → 7 < settings .«hop_limit»
       → (originated settings payload (length output) ≡ record { number = 10; length = 0 }) × (originatedOutput settings payload output ≡ output)
@@ -108,7 +108,8 @@ pub record Demand3 : Type 0 where
       → Originated settings payload room
       → (receptions : List Reception) × List·Nodup receptions × Complete sends nodes (fresh settings payload ∷ []) receptions
   -- and of whatever else begins a flood, as an originated message does
-  pub begun-bounded : (nodes : List Repeater) → Nodes nodes → (first : List ℕ) → Begins first → (receptions : List Reception) → List·Nodup receptions
+  pub begun-bounded : (nodes : List Repeater) → Nodes nodes → (first : List ℕ) → Begins first
+      → (receptions : List Reception) → List·Nodup receptions
       → Bounded address pathOf nodes (hopOf first) (onTheAir nodes first receptions)
       × (bytesOnTheAir nodes first receptions ≤ bytesBound (length nodes) (hopOf first) (length first))
   pub originated-begins : (settings : asked.Settings) (payload : List ℕ) (room : ℕ) → Originated settings payload room
