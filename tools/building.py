@@ -1,9 +1,13 @@
-"""Builds from the present sources, for ./relay, tools/build and the tests: one build at a time in a clone, and none left running."""
+"""Builds from the present sources, for ./relay, tools/build and the tests: one build at a time in a clone, and none left running. What is built is for
+x86-64; on another processor it runs under the emulator of the Rattle kit."""
 import contextlib
 import fcntl
 import hashlib
 import os
 import pathlib
+import platform
+import shlex
+import shutil
 import signal
 import subprocess
 import sys
@@ -13,6 +17,7 @@ TOP = pathlib.Path(__file__).resolve().parent.parent
 TARGET = TOP / 'target'
 QUIET = 1.5  # seconds before a build says that it goes on
 SIGNALS = (signal.SIGINT, signal.SIGTERM, signal.SIGHUP)
+X86_64 = b'\x3e\x00'  # the processor, in bytes 18 and 19 of a program's file
 
 
 class Failed(Exception):
@@ -106,6 +111,37 @@ def programs(name, *crates):
     for crate in crates:
         if not os.access(TARGET / 'bin' / crate, os.X_OK):
             raise Failed(f'`rt check {crate}` left no program target/bin/{crate}')
+
+
+def toolchain():
+    """The folder of the Rattle kit's toolchain for this machine."""
+    home = os.environ.get('RATTLE_HOME') or pathlib.Path(shutil.which('rt') or '/nowhere/bin/rt').resolve().parent.parent
+    return pathlib.Path(home) / 'on' / platform.machine() / 'toolchain'
+
+
+def emulated(program):
+    """The words that run a program for x86-64 on another processor."""
+    tools = toolchain()
+    emulator = tools / 'bin/qemu-x86_64'
+    if not os.access(emulator, os.X_OK):
+        raise Failed(f'{program} is for x86-64, this machine is {platform.machine()}, and there is no emulator {emulator}')
+    return [emulator, tools / 'lib/ld-linux-x86-64.so.2', '--library-path', tools / 'lib', program]
+
+
+def runnable(program):
+    """A program as a file that this machine runs: itself, or for another processor's a script that runs it."""
+    program = pathlib.Path(program).resolve()
+    with open(program, 'rb') as file:
+        head = file.read(20)
+    if platform.machine() == 'x86_64' or head[:4] != b'\x7fELF' or head[18:20] != X86_64:
+        return program
+    words = ' '.join(shlex.quote(str(word)) for word in emulated(program))
+    script = program.with_name(f'{program.name}.emulated')
+    made = script.with_name(f'{script.name}.{os.getpid()}')
+    made.write_text(f'#!/bin/sh\nexec {words} "$@"\n')
+    made.chmod(0o755)
+    made.replace(script)
+    return script
 
 
 def sources_of(crate):
