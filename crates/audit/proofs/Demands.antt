@@ -18,10 +18,10 @@ use Rattle.pdu.specs.Reading.{readOf}
 use Rattle.pdu.specs.Parts.{pathIn, payloadIn}
 use Rattle.writing.specs.Writing.{encode, writtenOf, outputOf, writeAgain, writtenAgain}
 use Rattle.origin.specs.Origination.{originationNumber, originated, originatedOutput}
-use Rattle.node.specs.Decision.{Node, listOrReadingFault, repeatFault, repeatNumber}
+use Rattle.decision.specs.Decision.{Node, repeatFault}
 use Rattle.node.specs.Repeat.{repeatedHeader, repeated}
 use Rattle.node.specs.declared.Answer.{Answer}
-use Rattle.node.specs.Answers.{answerOf, outputAfter}
+use Rattle.node.specs.Answers.{listOrReadingFault, repeatNumber, answerOf, outputAfter}
 use Rattle.batch.specs.declared.Cursor.{Cursor}
 use Rattle.batch.specs.declared.Stepped.the-variants.{TooLong, Ended, Answered}
 use Rattle.batch.specs.declared.Stepped.{Stepped}

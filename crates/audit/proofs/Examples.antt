@@ -8,9 +8,9 @@ use Rattle.origin.specs.Origination.{freshHeader, fresh, settingsFault, origina
 use Rattle.octets.specs.Octets.{over}
 use Rattle.pdu.specs.Parts.{addressesAt, inPath}
 use Rattle.lists.specs.Lists.{lowAboveHigh, faultOf, firstFault, holds}
-use Rattle.node.specs.Decision.{echoFault, passFault, dropFault, deliveryFault, repeatFault, listOrReadingFault, stopFault, deliveryNumber, repeatNumber, delivered, taken}
+use Rattle.decision.specs.Decision.{echoFault, passFault, dropFault, deliveryFault, repeatFault}
 use Rattle.node.specs.Repeat.{repeated}
-use Rattle.node.specs.Answers.{answerOf, outputAfter}
+use Rattle.node.specs.Answers.{listOrReadingFault, stopFault, deliveryNumber, repeatNumber, delivered, taken, answerOf, outputAfter}
 use Rattle.audit.specs.Examples.{CheckedByHand}
 
 pub checked : CheckedByHand

@@ -4,6 +4,7 @@ pub mod View
 pub mod Writing
 pub mod Origin
 pub mod Lists
+pub mod Decision
 pub mod Node
 pub mod Batch
 pub mod Text

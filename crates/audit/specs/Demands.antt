@@ -17,9 +17,9 @@ use Rattle.writing.specs.Writing.{encode, writeAgain, writtenAgain, WellFormed}
 use Rattle.origin.specs.declared.Settings as asked
 use Rattle.origin.specs.Origination.{freshHeader, fresh, originationNumber, originated, originatedOutput}
 use Rattle.node.specs.declared.Answer.{Answer}
-use Rattle.node.specs.Decision.{Node, listOrReadingFault, repeatNumber, delivered}
+use Rattle.decision.specs.Decision.{Node}
 use Rattle.node.specs.Repeat.{repeatedHeader, repeated}
-use Rattle.node.specs.Answers.{answerOf, outputAfter}
+use Rattle.node.specs.Answers.{listOrReadingFault, repeatNumber, delivered, answerOf, outputAfter}
 use Rattle.batch.specs.declared.Cursor.{Cursor}
 use Rattle.batch.specs.declared.Stepped.the-variants.{Answered}
 use Rattle.batch.specs.Walk.{batchLimit, stepOf, stepOutput, walk, steps}

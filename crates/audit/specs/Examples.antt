@@ -12,8 +12,8 @@ use Rattle.pdu.specs.Parts.{payloadIn}
 use Rattle.pdu.specs.Header.{headerOf}
 use Rattle.lists.specs.Lists.{listsOf}
 use Rattle.node.specs.declared.Answer.{Answer}
-use Rattle.node.specs.Decision.{Node, delivered}
-use Rattle.node.specs.Answers.{answerOf, twice, outputAfter}
+use Rattle.decision.specs.Decision.{Node}
+use Rattle.node.specs.Answers.{delivered, answerOf, twice, outputAfter}
 use Rattle.origin.specs.declared.Settings as asked
 use Rattle.origin.specs.Origination.{fresh, originated}
 

@@ -16,8 +16,8 @@ use Rattle.pdu.specs.Sizes.{pduLength}
 use Rattle.pdu.specs.Reading.{readOf, readingNumber}
 use Rattle.pdu.proofs.Inversion.{shown}
 use Rattle.node.specs.declared.Answer.{Answer}
-use Rattle.node.specs.Decision.{Node, listOrReadingFault, taken}
-use Rattle.node.specs.Answers.{answerOf, Hears}
+use Rattle.decision.specs.Decision.{Node}
+use Rattle.node.specs.Answers.{listOrReadingFault, taken, answerOf, Hears}
 use Rattle.node.proofs.Answering.{refusal-number}
 use Rattle.batch.specs.declared.Cursor.{Cursor}
 use Rattle.batch.specs.declared.Stepped.{Stepped}

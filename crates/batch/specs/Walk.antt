@@ -6,8 +6,8 @@ use mathlib.Core.Path.{_≡_}
 use lib.Dec.{eqb, ltb, leb}
 use lib.ListN.{length, drop}
 use Rattle.node.specs.declared.Answer.{Answer}
-use Rattle.node.specs.Decision.{Node, listOrReadingFault, taken}
-use Rattle.node.specs.Answers.{answerOf, outputAfter}
+use Rattle.decision.specs.Decision.{Node}
+use Rattle.node.specs.Answers.{listOrReadingFault, taken, answerOf, outputAfter}
 use Rattle.batch.specs.declared.Cursor.{Cursor}
 use Rattle.batch.specs.declared.Numbers.{Numbers}
 use Rattle.batch.specs.declared.Numbers.the-variants.{Two, Alone, NoAnswer}

@@ -2,10 +2,10 @@
 ghost use mathlib.Core.Path.{_≡_};
 ghost use mathlib.Core.Bool.{false};
 ghost use Rattle.lists.specs.Lists.{listsOf};
-ghost use Rattle.node.specs.Decision.{nodeOf};
+ghost use Rattle.decision.specs.Decision.{nodeOf};
 ghost use Rattle.batch.specs.Walk.{Steps, numbersOf};
+use decision::Settings;
 use node::Answer;
-use node::Settings;
 
 // Where a walk has come to. It begins at `Cursor::start()`.
 #[repr(C)]

@@ -1,6 +1,6 @@
 // One PDU from node 1000 at node 2000, numbers 30 to 41.
 use crate::tally::Tally;
-use node::Settings;
+use decision::Settings;
 
 pub(crate) fn cases(mut tally: Tally) -> Tally {
     tally = faults(tally);

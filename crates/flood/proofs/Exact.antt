@@ -24,8 +24,9 @@ use Rattle.origin.specs.declared.Settings.{Settings}
 use Rattle.origin.specs.Origination.{freshHeader, fresh, originationNumber}
 use Rattle.origin.proofs.Deciding.{accepted}
 use Rattle.origin.proofs.ReadBack.{length-fresh}
-use Rattle.node.specs.Decision.{isForOwn, echoFault, passFault, dropFault, repeatFault, repeatNumber}
+use Rattle.decision.specs.Decision.{isForOwn, echoFault, passFault, dropFault, repeatFault}
 use Rattle.node.specs.Repeat.{repeated, repeatedLength}
+use Rattle.node.specs.Answers.{repeatNumber}
 use Rattle.node.proofs.Heard.{not-member, will-repeat}
 use Rattle.flood.specs.Air.{Repeater, address, sends, pathOf, hopOf, onTheAir, bytesOnTheAir, Nodes, Open, Begins, Originated}
 use Rattle.flood.specs.Complete.{Complete}

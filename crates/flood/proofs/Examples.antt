@@ -17,8 +17,9 @@ use Rattle.lists.specs.Lists.{listsOf, lowAboveHigh, faultOf, firstFault}
 use Rattle.bound.specs.Bound.{product, series, terms, bound, bytesBound}
 use Rattle.origin.specs.declared.Settings.{Settings}
 use Rattle.origin.specs.Origination.{freshHeader, fresh, settingsFault, originationNumber}
-use Rattle.node.specs.Decision.{nodeOf, echoFault, passFault, dropFault, repeatFault, listOrReadingFault, stopFault, repeatNumber}
+use Rattle.decision.specs.Decision.{nodeOf, echoFault, passFault, dropFault, repeatFault}
 use Rattle.node.specs.Repeat.{repeated}
+use Rattle.node.specs.Answers.{listOrReadingFault, stopFault, repeatNumber}
 use Rattle.flood.specs.Air.{Repeater, address, sends, pathOf, onTheAir, Nodes, Open, Originated}
 use Rattle.flood.specs.Flood.{flood, answer, total}
 use Rattle.flood.proofs.Rounds.{round, rounds}

@@ -19,9 +19,8 @@ use Rattle.pdu.specs.Reading.{readOf}
 use Rattle.pdu.specs.Parts.{pathIn}
 use Rattle.writing.proofs.Back.{length-encode}
 use Rattle.pdu.proofs.Inversion.{shown}
-use Rattle.node.specs.Decision.{repeatNumber}
 use Rattle.node.specs.Repeat.{lowered, repeated, repeatedLength, repeatedHeader}
-use Rattle.node.specs.Answers.{answerOf, outputAfter}
+use Rattle.node.specs.Answers.{repeatNumber, answerOf, outputAfter}
 use Rattle.node.proofs.Encoded.{changed-hop, same-path-bit, same-destination, same-bytes, repeat-well-formed, alone-reads, alone-path, repeat-long, repeat-bytes}
 use Rattle.node.proofs.Heard.{repeats, not-in-path}
 use Rattle.node.proofs.Repeating.{Ready, length-repeated}

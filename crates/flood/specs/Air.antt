@@ -14,8 +14,9 @@ use Rattle.pdu.specs.Parts.{pathIn}
 use Rattle.lists.specs.Lists.{listFault}
 use Rattle.origin.specs.declared.Settings as asked
 use Rattle.origin.specs.Origination.{originationNumber}
-use Rattle.node.specs.Decision.{Node, repeatNumber}
+use Rattle.decision.specs.Decision.{Node}
 use Rattle.node.specs.Repeat.{repeated}
+use Rattle.node.specs.Answers.{repeatNumber}
 use Rattle.flood.specs.Flood.{Reception, flood, total}
 
 -- a node of a network: the node, and the bytes of its output (One PDU at one node; number 40)

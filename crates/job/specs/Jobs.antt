@@ -10,8 +10,8 @@ use Rattle.octets.specs.Octets.{at, wordAt}
 use Rattle.batch.specs.Walk.{batchLimit}
 use Rattle.pdu.specs.Parts.{addressesAt}
 use Rattle.lists.specs.Lists.{rangeLimit, Lists, valueLimit}
-use Rattle.node.specs.declared.Settings.{Settings}
-use Rattle.node.specs.Decision.{Node, nodeOf}
+use Rattle.decision.specs.declared.Settings.{Settings}
+use Rattle.decision.specs.Decision.{Node, nodeOf}
 use Rattle.job.specs.declared.Head.{Head}
 use Rattle.job.specs.declared.Head.the-variants as head
 use Rattle.job.specs.declared.Section.{Section}

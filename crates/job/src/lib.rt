@@ -242,10 +242,10 @@ fn is_odd(x: u8) -> bool
 impl Job {
     // What the job's own address and flags set a node to. Flags above 63, which no job that was read has, count by their lower six bits.
     // Document 01, "The program `relay`", the flags.
-    pub fn settings(self) -> node::Settings
+    pub fn settings(self) -> decision::Settings
         ensures { λ r. ⌜ r ≡ settingsOf self ⌝ }
     {
-        node::Settings {
+        decision::Settings {
             own: self.own,
             echo: is_odd(self.flags),
             repeating: is_odd(self.flags / 2),

@@ -17,7 +17,7 @@ use Rattle.pdu.specs.Reading.{refusalNumber}
 use Rattle.pdu.specs.Parts.{pathIn, pathAddress, inPath}
 use Rattle.lists.specs.Lists.{valueLimit}
 use Rattle.origin.specs.declared.Settings as origin
-use Rattle.node.specs.Decision.{Node}
+use Rattle.decision.specs.Decision.{Node}
 use Rattle.node.specs.Answers.{twice}
 use Rattle.batch.specs.declared.Cursor.{Cursor}
 use Rattle.batch.specs.declared.Stepped.{Stepped}

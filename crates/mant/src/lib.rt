@@ -7,14 +7,14 @@ ghost use Rattle.pdu.specs.Reading.{readOf};
 ghost use Rattle.writing.specs.Writing.{writeAgain, writtenAgain};
 ghost use Rattle.origin.specs.Origination.{originated, originatedOutput};
 ghost use Rattle.lists.specs.Lists.{listsOf, listFault, holds};
-ghost use Rattle.node.specs.Decision.{nodeOf};
+ghost use Rattle.decision.specs.Decision.{nodeOf};
 ghost use Rattle.node.specs.Answers.{Hears};
 ghost use Rattle.bound.specs.Bound.{bound, bytesBound};
 ghost use Rattle.bound.specs.Answer.{answer};
 ghost use Rattle.mant.specs.Boundary.{headerInC, pathAddressIn, pathHas, freshFromC, StepsInC, boundInC, limitsInC};
 use batch::Cursor;
+use decision::Settings;
 use node::Answer;
-use node::Settings;
 use pdu::Reading;
 use pdu::Written;
 

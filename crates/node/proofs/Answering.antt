@@ -21,9 +21,9 @@ use Rattle.pdu.specs.Reading.{readOf, readingNumber, refusalNumber}
 use Rattle.pdu.proofs.Inversion.{shown}
 use Rattle.lists.specs.Lists.{listFault}
 use Rattle.node.specs.declared.Answer.{Answer}
-use Rattle.node.specs.Decision.{Node, dropFault, deliveryFault, repeatFault, roomFault, listOrReadingFault, stopFault, deliveryNumber, repeatNumber, taken}
+use Rattle.decision.specs.Decision.{Node, dropFault, deliveryFault, repeatFault}
 use Rattle.node.specs.Repeat.{repeated, repeatedLength}
-use Rattle.node.specs.Answers.{answerOf, twice, outputAfter, Hears}
+use Rattle.node.specs.Answers.{roomFault, listOrReadingFault, stopFault, deliveryNumber, repeatNumber, taken, answerOf, twice, outputAfter, Hears}
 
 -- the answer for a PDU with this header
 abbrev pub whole : Header → ℕ → ℕ → ℕ → Answer

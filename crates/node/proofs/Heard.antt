@@ -19,9 +19,9 @@ use Rattle.pdu.specs.Reading.{readOf, readingNumber}
 use Rattle.pdu.specs.Parts.{pathIn, inPath, payloadIn}
 use Rattle.pdu.proofs.Inversion.{shown}
 use Rattle.lists.specs.Lists.{listFault}
-use Rattle.node.specs.Decision.{Node, isEcho, echoFault, dropFault, repeatFault, listOrReadingFault, stopFault, deliveryNumber, repeatNumber, delivered}
+use Rattle.decision.specs.Decision.{Node, isEcho, echoFault, dropFault, repeatFault}
 use Rattle.node.specs.Repeat.{repeated, repeatedLength, repeatedHeader}
-use Rattle.node.specs.Answers.{answerOf}
+use Rattle.node.specs.Answers.{listOrReadingFault, stopFault, deliveryNumber, repeatNumber, delivered, answerOf}
 use Rattle.node.proofs.Repeating.{Ready, ready}
 use Rattle.node.proofs.Answering.{is-readable, refusal-number}
 use Rattle.node.proofs.Encoded.{alone-reads, alone-path}

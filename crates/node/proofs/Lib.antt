@@ -1,4 +1,3 @@
-pub mod Tests
 pub mod Repeating
 pub mod Answering
 pub mod Encoded

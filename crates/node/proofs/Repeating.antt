@@ -22,8 +22,8 @@ use Rattle.pdu.proofs.Inversion.{Shown, shown}
 use Rattle.pdu.proofs.Showing.{start-shown}
 use Rattle.writing.proofs.Encoding.{start-small}
 use Rattle.writing.proofs.Within.{Within, within, shown-within}
-use Rattle.node.specs.declared.Settings.{Settings}
-use Rattle.node.specs.Decision.{repeatFault}
+use Rattle.decision.specs.declared.Settings.{Settings}
+use Rattle.decision.specs.Decision.{repeatFault}
 use Rattle.node.specs.Repeat.{loweredByte, loweredHeader, repeated, repeatedLength}
 
 -- what repeating knows of a PDU

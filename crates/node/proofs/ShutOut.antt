@@ -16,9 +16,9 @@ use Rattle.pdu.specs.Reading.{readOf}
 use Rattle.pdu.specs.Parts.{addressesAt, inPath}
 use Rattle.lists.specs.Lists.{listsOf, lowAboveHigh, faultOf, firstFault}
 use Rattle.node.specs.declared.Answer.{Answer}
-use Rattle.node.specs.Decision.{Node, echoFault, passFault, dropFault, deliveryFault, repeatFault, listOrReadingFault, stopFault, deliveryNumber, repeatNumber, taken}
+use Rattle.decision.specs.Decision.{Node, echoFault, passFault, dropFault, deliveryFault, repeatFault}
 use Rattle.node.specs.Repeat.{repeated}
-use Rattle.node.specs.Answers.{answerOf, twice, outputAfter, Hears}
+use Rattle.node.specs.Answers.{listOrReadingFault, stopFault, deliveryNumber, repeatNumber, taken, answerOf, twice, outputAfter, Hears}
 
 -- a node of an address, repeating, echo on, with no list on
 abbrev nodeAt : ℕ → Node

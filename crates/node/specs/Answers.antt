@@ -1,20 +1,55 @@
 -- Document 01, "One PDU at one node" and "Numbers answered": what a node answers, as one value, and what it leaves in its output.
 use Prim.Native.Nat.{ℕ}
-use mathlib.Core.Bool.{cond}
-use mathlib.Core.List.{List}
+use mathlib.Core.Bool.{cond, _&&_}
+use mathlib.Core.List.{List, []}
 use mathlib.Core.Path.{_≡_}
-use lib.Dec.{eqb}
+use lib.Dec.{eqb, ltb}
 use lib.ListN.{length}
+use Rattle.octets.specs.Numbers.{_gives_, _orElse_}
 use Rattle.octets.specs.Octets.{over}
+use Rattle.pdu.specs.declared.Header.{Header}
 use Rattle.pdu.specs.Header.{headerOf}
-use Rattle.pdu.specs.Sizes.{headerLength}
+use Rattle.pdu.specs.Sizes.{headerLength, pduLength}
+use Rattle.pdu.specs.Reading.{readOf, readingNumber}
+use Rattle.pdu.specs.Parts.{payloadIn}
+use Rattle.lists.specs.Lists.{listFault}
+use Rattle.decision.specs.declared.Settings.{Settings}
+use Rattle.decision.specs.Decision.{Node, dropFault, deliveryFault, repeatFault}
 use Rattle.node.specs.declared.Answer.{Answer}
-use Rattle.node.specs.Decision.{Node, deliveryNumber, repeatNumber, taken}
 use Rattle.node.specs.Repeat.{repeated, repeatedLength}
 
+-- steps 1 and 2: the fault of the lists, then number 1 to 6, or 0
+unfoldable pub listOrReadingFault : Node → List ℕ → ℕ
+listOrReadingFault node received = listFault (node .lists) orElse readingNumber (readOf received)
+
+-- step 6, its last sentence: 40, where the PDU would be repeated and the output is too short for that
+abbrev pub roomFault : Settings → Header → ℕ → ℕ
+roomFault settings header room = (eqb (repeatFault settings header) 0 && ltb room (repeatedLength header)) gives 40
+
+-- what stops the PDU, in the order of the steps: the numbers that are given twice
+unfoldable pub stopFault : Node → ℕ → List ℕ → ℕ
+stopFault node room received =
+    listOrReadingFault node received
+    orElse dropFault node (headerOf received) received
+    orElse roomFault (node .settings) (headerOf received) room
+
+-- the two numbers of the answer
+unfoldable pub deliveryNumber : Node → ℕ → List ℕ → ℕ
+deliveryNumber node room received = stopFault node room received orElse deliveryFault (node .settings) (headerOf received)
+
+unfoldable pub repeatNumber : Node → ℕ → List ℕ → ℕ
+repeatNumber node room received = stopFault node room received orElse repeatFault (node .settings) (headerOf received)
+
+-- the delivered payload; empty where nothing is delivered
+unfoldable pub delivered : Node → ℕ → List ℕ → List ℕ
+delivered node room received = cond (eqb (deliveryNumber node room received) 0) (payloadIn (headerOf received) received) []
+
+-- where the next PDU begins in the received bytes ("A batch": after this one's payload); 0 where a list is at fault or this one can't be read
+unfoldable pub taken : Node → List ℕ → ℕ
+taken node received = cond (eqb (listOrReadingFault node received) 0) (pduLength (headerOf received)) 0
+
 -- the two numbers; where the delivered payload lies in the received bytes, 0 and 0 where nothing is delivered; the length of the repeated PDU, 0
--- where
--- nothing is repeated; where the next PDU begins, also where a number from 30 on was given: a walk goes on there
+-- where nothing is repeated; where the next PDU begins, also where a number from 30 on was given: a walk goes on there
 unfoldable pub answerOf : Node → ℕ → List ℕ → Answer
 answerOf node room received =
     record {

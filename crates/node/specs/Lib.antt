@@ -1,3 +1,2 @@
-pub mod Decision
 pub mod Repeat
 pub mod Answers

@@ -1,34 +1,19 @@
 // One PDU at one node: what is delivered, what is repeated, and the repeated PDU.
 ghost use mathlib.Core.Path.{_≡_};
-ghost use mathlib.Core.Bool.{true, not, cond, _&&_};
-ghost use Prim.Native.Nat.{_<_, _≤_};
-ghost use lib.Dec.{eqb, ltb};
-ghost use Rattle.pdu.specs.Sizes.{pathLimit, headerLength, pduLength};
-ghost use lib.ListN.{length};
-ghost use Rattle.octets.specs.Octets.{over, IsPart};
+ghost use mathlib.Core.Bool.{cond};
+ghost use lib.Dec.{eqb};
+ghost use Rattle.octets.specs.Octets.{IsPart};
 ghost use Rattle.pdu.specs.declared.Reading.the-variants.{Pdu};
+ghost use Rattle.pdu.specs.Sizes.{headerLength, pduLength};
 ghost use Rattle.pdu.specs.Reading.{readOf};
-ghost use Rattle.lists.specs.Lists.{Lists, listsOf, holds};
-ghost use Rattle.node.specs.Decision.{nodeOf, listOrReadingFault, destinationIsIn, destinationIsOutside, isForOwn, isForAnother};
-ghost use Rattle.node.specs.Decision.{isEcho, passFault, dropFault, deliveryFault, repeatFault};
-ghost use Rattle.node.specs.Answers.{twice, Hears};
-use pdu::Destination;
+ghost use Rattle.lists.specs.Lists.{Lists, listsOf};
+ghost use Rattle.decision.specs.Decision.{nodeOf, dropFault};
+ghost use Rattle.node.specs.Answers.{listOrReadingFault, twice, Hears};
+use decision::Settings;
 use pdu::Header;
 use pdu::Reading;
 
 mod repeat;
-
-// What a node is set to. Each of the four lists is on or off; an empty pass list that is on passes nothing.
-#[repr(C)]
-pub struct Settings {
-    pub own: u16,
-    pub echo: bool,
-    pub repeating: bool,
-    pub source_pass: bool,
-    pub source_reject: bool,
-    pub destination_pass: bool,
-    pub destination_reject: bool,
-}
 
 // What a node answers for one PDU. The delivered payload lies at `delivered_place` in the received bytes; place and length are 0 where nothing is
 // delivered. `repeated_length` is 0 where nothing is repeated. `taken` is where the next PDU begins in the received bytes, and 0 where a list is at
@@ -41,165 +26,6 @@ pub struct Answer {
     pub delivered_length: usize,
     pub repeated_length: usize,
     pub taken: usize,
-}
-
-fn is_echo(settings: Settings, header: Header, received: &[u8]) -> bool
-    ensures { λ r. ⌜ r ≡ isEcho settings header (now (received .entry)) ⌝ }
-{
-    if settings.echo {
-        if header.path_bit {
-            return pdu::parts::path_has(received, header, settings.own);
-        }
-    }
-    false
-}
-
-fn is_outside(on: bool, list: &[u16], address: u16) -> bool
-    ensures { λ r. ⌜ r ≡ (on && not (holds (now (list .entry)) address)) ⌝ }
-{
-    if on {
-        !lists::holds(list, address)
-    } else {
-        false
-    }
-}
-
-fn is_in(on: bool, list: &[u16], address: u16) -> bool
-    ensures { λ r. ⌜ r ≡ (on && holds (now (list .entry)) address) ⌝ }
-{
-    if on {
-        lists::holds(list, address)
-    } else {
-        false
-    }
-}
-
-fn destination_is_outside(on: bool, list: &[u16], destination: Destination) -> bool
-    ensures { λ r. ⌜ r ≡ (on && destinationIsOutside (now (list .entry)) destination) ⌝ }
-{
-    match destination {
-        Destination::Everyone => false,
-        Destination::Address(address) => is_outside(on, list, address),
-    }
-}
-
-fn destination_is_in(on: bool, list: &[u16], destination: Destination) -> bool
-    ensures { λ r. ⌜ r ≡ (on && destinationIsIn (now (list .entry)) destination) ⌝ }
-{
-    match destination {
-        Destination::Everyone => false,
-        Destination::Address(address) => is_in(on, list, address),
-    }
-}
-
-fn is_for_own(own: u16, destination: Destination) -> bool
-    ensures { λ r. ⌜ r ≡ isForOwn own destination ⌝ }
-{
-    match destination {
-        Destination::Everyone => false,
-        Destination::Address(address) => address == own,
-    }
-}
-
-fn is_for_another(own: u16, destination: Destination) -> bool
-    ensures { λ r. ⌜ r ≡ isForAnother own destination ⌝ }
-{
-    match destination {
-        Destination::Everyone => false,
-        Destination::Address(address) => address != own,
-    }
-}
-
-// The numbers 31 to 34, or 0. The source that is looked up is the PDU's.
-fn pass_fault<'a>(
-    settings: Settings,
-    source_pass: &'a [u16],
-    source_reject: &'a [u16],
-    destination_pass: &'a [u16],
-    destination_reject: &'a [u16],
-    header: Header,
-) -> u8
-    ensures { λ r. ⌜ r ≡ passFault (nodeOf settings (listsOf (now («source_pass» .entry)) (now («source_reject» .entry))
-        (now («destination_pass» .entry)) (now («destination_reject» .entry)))) header ⌝ }
-{
-    let destination = header.destination;
-    if is_outside(settings.source_pass, source_pass, header.source) {
-        return 31;
-    }
-    if is_in(settings.source_reject, source_reject, header.source) {
-        return 32;
-    }
-    if destination_is_outside(settings.destination_pass, destination_pass, destination) {
-        return 33;
-    }
-    if destination_is_in(settings.destination_reject, destination_reject, destination) {
-        return 34;
-    }
-    0
-}
-
-// The number 30, those of the lists, or 0.
-fn drop_fault<'a>(
-    settings: Settings,
-    source_pass: &'a [u16],
-    source_reject: &'a [u16],
-    destination_pass: &'a [u16],
-    destination_reject: &'a [u16],
-    header: Header,
-    received: &[u8],
-) -> u8
-    ensures { λ r. ⌜ r ≡ dropFault (nodeOf settings (listsOf (now («source_pass» .entry)) (now («source_reject» .entry))
-        (now («destination_pass» .entry)) (now («destination_reject» .entry)))) header (now (received .entry)) ⌝ }
-{
-    if is_echo(settings, header, received) {
-        return 30;
-    }
-    pass_fault(
-        settings,
-        source_pass,
-        source_reject,
-        destination_pass,
-        destination_reject,
-        header,
-    )
-}
-
-// 39 or 35, or 0 where the payload is delivered.
-fn delivery_fault(settings: Settings, header: Header) -> u8
-    ensures { λ r. ⌜ r ≡ deliveryFault settings header ⌝ }
-{
-    let destination = header.destination;
-    if is_for_another(settings.own, destination) {
-        return 39;
-    }
-    if header.added_header { 35 } else { 0 }
-}
-
-// 41, 36, 37 or 38, or 0 where the PDU is repeated.
-fn repeat_fault(settings: Settings, header: Header) -> u8
-    ensures { λ r. ⌜ r ≡ repeatFault settings header ⌝ }
-{
-    let destination = header.destination;
-    if is_for_own(settings.own, destination) {
-        return 41;
-    }
-    if !settings.repeating {
-        return 36;
-    }
-    if header.hop_limit == 0 {
-        return 37;
-    }
-    if path_is_full(header) { 38 } else { 0 }
-}
-
-fn path_is_full(header: Header) -> bool
-    ensures { λ r. ⌜ r ≡ (header .«path_bit» && eqb (header .«path_count») pathLimit) ⌝ }
-{
-    if header.path_bit {
-        header.path_count as usize == Header::PATH_LIMIT
-    } else {
-        false
-    }
 }
 
 // What the node answers for the PDU at the start of `received`: document 01's order, lists first, then reading, echo, the lists' tests, delivery and
@@ -232,7 +58,7 @@ pub fn hear<'a>(
     let Reading::Pdu(header) = reading else {
         return twice(pdu::reading_number(reading), 0);
     };
-    let number = drop_fault(
+    let number = decision::drop_fault(
         settings,
         source_pass,
         source_reject,
@@ -254,8 +80,8 @@ fn decide(settings: Settings, received: &[u8], header: Header, output: &mut [u8]
         → dropFault (nodeOf settings lists) header (now (received .entry)) ≡ 0
         → Hears (nodeOf settings lists) (now (received .entry)) (now (output .entry)) r (now (output .exit))) ⌝ }
 {
-    let delivery = delivery_fault(settings, header);
-    let repeat = repeat_fault(settings, header);
+    let delivery = decision::delivery_fault(settings, header);
+    let repeat = decision::repeat_fault(settings, header);
     if repeat != 0 {
         return answered(header, delivery, repeat, 0);
     }

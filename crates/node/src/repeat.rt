@@ -1,4 +1,5 @@
 // The repeated PDU, put together in a scratch array and copied to the output.
+use decision::Settings;
 use pdu::Header;
 ghost use mathlib.Core.Path.{_≡_};
 ghost use mathlib.Core.Bool.{Bool, true, cond};
@@ -12,15 +13,10 @@ ghost use Rattle.pdu.specs.Header.{hopLimit};
 ghost use Rattle.pdu.specs.Sizes.{pathLimit, pathStart, headerLength};
 ghost use Rattle.pdu.specs.Reading.{readOf};
 ghost use Rattle.node.specs.Repeat.{loweredByte, loweredHeader, repeated, repeatedLength};
-ghost use Rattle.node.specs.Decision.{repeatFault};
+ghost use Rattle.decision.specs.Decision.{repeatFault};
 
 // Writes the repeat of the received PDU at the start of an output that has room for it.
-pub(crate) fn put_repeat(
-    settings: super::Settings,
-    received: &[u8],
-    header: Header,
-    output: &mut [u8],
-)
+pub(crate) fn put_repeat(settings: Settings, received: &[u8], header: Header, output: &mut [u8])
     requires { ⌜ (readOf (now received) ≡ Pdu header) × (repeatFault settings header ≡ 0) × (repeatedLength header ≤ length (now output)) ⌝ }
     ensures { λ _. ⌜ now (output .exit) ≡ over (repeated (settings .own) (now (received .entry))) (now (output .entry)) ⌝ }
 {
@@ -37,7 +33,7 @@ pub(crate) fn repeated_length(header: Header) -> usize
     if header.path_bit { size + 2 } else { size }
 }
 
-fn fill(output: &mut [u8], settings: super::Settings, received: &[u8], header: Header)
+fn fill(output: &mut [u8], settings: Settings, received: &[u8], header: Header)
     requires { ⌜ (readOf (now received) ≡ Pdu header) × (repeatFault settings header ≡ 0) × (repeatedLength header ≤ length (now output)) ⌝ }
     ensures { λ _. ⌜ now (output .exit) ≡ over (repeated (settings .own) (now (received .entry))) (now (output .entry)) ⌝ }
 {

@@ -7,9 +7,9 @@ use lib.ListN.{length, take, drop, length-take}
 use lib.Seq.{length-take-le}
 use Rattle.octets.specs.Octets.{placed, placeAfter}
 use Rattle.octets.proofs.Placing.{length-placed, after-within}
-use Rattle.node.specs.declared.Settings.{Settings}
+use Rattle.decision.specs.declared.Settings.{Settings}
 use Rattle.lists.specs.Lists.{Lists, listsOf}
-use Rattle.node.specs.Decision.{Node, nodeOf}
+use Rattle.decision.specs.Decision.{Node, nodeOf}
 use Rattle.batch.specs.Walk.{batchLimit, walk}
 use Rattle.text.specs.Text.{firstLine, refusedLine}
 use Rattle.job.specs.declared.Section.{Section}

@@ -15,9 +15,9 @@ use Rattle.octets.specs.Octets.{placed, placeAfter, over}
 use Rattle.octets.proofs.Placing.{take-over, length-placed}
 use Rattle.pdu.specs.Header.{headerOf}
 use Rattle.node.specs.declared.Answer.{Answer}
-use Rattle.node.specs.Decision.{Node, listOrReadingFault, deliveryNumber, repeatNumber, taken}
+use Rattle.decision.specs.Decision.{Node}
 use Rattle.node.specs.Repeat.{repeated, repeatedLength}
-use Rattle.node.specs.Answers.{answerOf, outputAfter}
+use Rattle.node.specs.Answers.{listOrReadingFault, deliveryNumber, repeatNumber, taken, answerOf, outputAfter}
 use Rattle.node.proofs.Heard.{repeats}
 use Rattle.node.proofs.Repeating.{length-repeated}
 use Rattle.batch.specs.declared.Cursor.{Cursor}

@@ -16,8 +16,9 @@ use Rattle.pdu.specs.Reading.{readOf, readingNumber}
 use Rattle.pdu.proofs.Number.{reading-within}
 use Rattle.lists.specs.Lists.{faultOf, firstFault}
 use Rattle.node.specs.declared.Answer.{Answer}
-use Rattle.node.specs.Decision.{Node, listOrReadingFault, echoFault, passFault, dropFault, deliveryFault, repeatFault, stopFault, deliveryNumber, repeatNumber, taken}
+use Rattle.decision.specs.Decision.{Node, echoFault, passFault, dropFault, deliveryFault, repeatFault}
 use Rattle.node.specs.Repeat.{repeated, repeatedLength}
+use Rattle.node.specs.Answers.{listOrReadingFault, stopFault, deliveryNumber, repeatNumber, taken}
 use Rattle.node.proofs.Heard.{repeats}
 use Rattle.node.proofs.Repeating.{length-repeated}
 use Rattle.batch.specs.Walk.{batchLimit, Walk, endingAt, before, walkFrom, walk}

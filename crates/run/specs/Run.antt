@@ -7,8 +7,9 @@ use lib.Dec.{eqb}
 use lib.ListN.{length, take, drop}
 use Rattle.octets.specs.Octets.{placed, placeAfter}
 use Rattle.pdu.specs.Sizes.{pduLimit}
-use Rattle.node.specs.Decision.{Node, deliveryNumber, repeatNumber}
+use Rattle.decision.specs.Decision.{Node}
 use Rattle.node.specs.Repeat.{repeated}
+use Rattle.node.specs.Answers.{deliveryNumber, repeatNumber}
 use Rattle.batch.specs.Walk.{batchLimit, Walk, walk}
 use Rattle.job.specs.declared.Reading.{Reading}
 use Rattle.job.specs.declared.Reading.the-variants.{Job, Refused}

@@ -3,16 +3,16 @@ ghost use mathlib.Core.Path.{_≡_};
 ghost use Prim.Native.Nat.{_≤_};
 ghost use lib.ListN.{length};
 ghost use Rattle.lists.specs.Lists.{listsOf};
-ghost use Rattle.node.specs.Decision.{nodeOf};
+ghost use Rattle.decision.specs.Decision.{nodeOf};
 ghost use Rattle.batch.specs.Walk.{batchLimit};
 ghost use Rattle.job.specs.declared.Reading.the-variants as reading;
 ghost use Rattle.job.specs.Jobs.{jobOf, nodeIn, batchIn};
 ghost use Rattle.run.specs.Run.{linesOf, batchLines, LinesPut, Ran};
 use batch::Cursor;
 use batch::Stepped;
+use decision::Settings;
 use job::Job;
 use job::Reading;
-use node::Settings;
 use pdu::Header;
 
 // Writes what `relay` prints for a job's bytes into the text, line after line from its start, and answers where the lines end. Any bytes get an

@@ -1,6 +1,6 @@
 use denote.Ref.{now}
 use Rattle.lists.specs.Lists.{listsOf}
-use Rattle.node.specs.Decision.{nodeOf}
+use Rattle.decision.specs.Decision.{nodeOf}
 use Rattle.batch.proofs.Stepping.{too-long, ended-before, no-bytes-left, within-batch, answered, rest}
 use native.Mathlib.Omega.{arith}
 use borrow.Author.Needs.{needs}

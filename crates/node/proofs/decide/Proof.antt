@@ -2,7 +2,7 @@ use mathlib.Core.Path.{_≡_, refl, sym, _∙_}
 use Prim.Native.Nat.{_<_, _≤_}
 use denote.Ref.{now}
 use lib.ListN.{length}
-use Rattle.node.specs.Decision.{nodeOf, repeatFault}
+use Rattle.decision.specs.Decision.{nodeOf, repeatFault}
 use Rattle.node.specs.Repeat.{repeatedLength}
 use Rattle.node.proofs.Answering.{not-repeated, is-repeated, no-room}
 use native.Mathlib.Omega.{arith}

@@ -3,7 +3,7 @@ use denote.Ref.{now}
 use Rattle.pdu.specs.declared.Reading.the-variants.{Pdu}
 use Rattle.pdu.specs.Reading.{readOf, readingNumber}
 use Rattle.lists.specs.Lists.{listsOf, listFault}
-use Rattle.node.specs.Decision.{nodeOf, dropFault}
+use Rattle.decision.specs.Decision.{nodeOf, dropFault}
 use Rattle.node.proofs.Answering.{fault-given, refusal-given, stopped, is-readable, refusal-number}
 use borrow.Author.Needs.{needs}
 use Rattle.node.proofs.hear.Statement.{statement}

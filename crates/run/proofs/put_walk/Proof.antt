@@ -3,7 +3,7 @@ use Rattle.run.proofs.Lining.{with-room, went-step, printed-step}
 use mathlib.Core.Path.{refl, sym, _∙_}
 use denote.Ref.{now}
 use Rattle.lists.specs.Lists.{listsOf}
-use Rattle.node.specs.Decision.{nodeOf}
+use Rattle.decision.specs.Decision.{nodeOf}
 use Rattle.run.proofs.Lining.{Going, going-start, going-next, toDo, less-to-do, finished}
 use native.Mathlib.Omega.{arith}
 use borrow.Author.Needs.{needs}

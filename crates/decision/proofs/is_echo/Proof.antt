@@ -1,8 +1,8 @@
 use mathlib.Core.Path.{_∙_}
-use Rattle.node.proofs.Tests.{both-true}
+use Rattle.decision.proofs.Tests.{both-true}
 use borrow.Author.Needs.{needs}
-use Rattle.node.proofs.is_echo.Statement.{statement}
-use Rattle.node.proofs.is_echo.Tie as tie
+use Rattle.decision.proofs.is_echo.Statement.{statement}
+use Rattle.decision.proofs.is_echo.Tie as tie
 
 path-has-requires : tie.Need-path-has-requires
 path-has-requires c κs = search needs

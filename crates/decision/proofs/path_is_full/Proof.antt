@@ -1,6 +1,6 @@
 use borrow.Author.Needs.{needs}
-use Rattle.node.proofs.path_is_full.Statement.{statement}
-use Rattle.node.proofs.path_is_full.Tie as tie
+use Rattle.decision.proofs.path_is_full.Statement.{statement}
+use Rattle.decision.proofs.path_is_full.Tie as tie
 
 cast-result : tie.Need-cast-result
 cast-result c = search needs

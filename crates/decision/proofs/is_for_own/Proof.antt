@@ -1,6 +1,6 @@
 use borrow.Author.Needs.{needs}
-use Rattle.node.proofs.is_for_own.Statement.{statement}
-use Rattle.node.proofs.is_for_own.Tie as tie
+use Rattle.decision.proofs.is_for_own.Statement.{statement}
+use Rattle.decision.proofs.is_for_own.Tie as tie
 
 enum-told : tie.Need-enum-told
 enum-told c = search needs

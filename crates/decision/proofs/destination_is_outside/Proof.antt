@@ -1,8 +1,8 @@
 use mathlib.Core.Path.{sym}
-use Rattle.node.proofs.Tests.{and-false}
+use Rattle.decision.proofs.Tests.{and-false}
 use borrow.Author.Needs.{needs}
-use Rattle.node.proofs.destination_is_outside.Statement.{statement}
-use Rattle.node.proofs.destination_is_outside.Tie as tie
+use Rattle.decision.proofs.destination_is_outside.Statement.{statement}
+use Rattle.decision.proofs.destination_is_outside.Tie as tie
 
 enum-told : tie.Need-enum-told
 enum-told c = search needs

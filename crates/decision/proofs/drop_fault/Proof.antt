@@ -1,10 +1,10 @@
 use mathlib.Core.Path.{sym, _∙_}
-use Rattle.node.specs.Decision.{echoFault, dropFault}
+use Rattle.decision.specs.Decision.{echoFault, dropFault}
 use Rattle.octets.proofs.Numbering.{gives-here, gives-later}
 use native.Mathlib.Omega.{arith}
 use borrow.Author.Needs.{needs}
-use Rattle.node.proofs.drop_fault.Statement.{statement}
-use Rattle.node.proofs.drop_fault.Tie as tie
+use Rattle.decision.proofs.drop_fault.Statement.{statement}
+use Rattle.decision.proofs.drop_fault.Tie as tie
 
 is-echo-requires : tie.Need-is-echo-requires
 is-echo-requires c κs = search needs

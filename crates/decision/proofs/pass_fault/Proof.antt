@@ -1,10 +1,10 @@
 use mathlib.Core.Path.{sym, _∙_}
-use Rattle.node.specs.Decision.{passFault}
+use Rattle.decision.specs.Decision.{passFault}
 use Rattle.octets.proofs.Numbering.{gives-here, gives-later, gives-last, gives-none}
 use native.Mathlib.Omega.{arith}
 use borrow.Author.Needs.{needs}
-use Rattle.node.proofs.pass_fault.Statement.{statement}
-use Rattle.node.proofs.pass_fault.Tie as tie
+use Rattle.decision.proofs.pass_fault.Statement.{statement}
+use Rattle.decision.proofs.pass_fault.Tie as tie
 
 is-outside-requires : tie.Need-is-outside-requires
 is-outside-requires c κs = search needs

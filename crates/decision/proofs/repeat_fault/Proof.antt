@@ -1,11 +1,11 @@
 use mathlib.Core.Path.{sym, _∙_}
-use Rattle.node.specs.Decision.{repeatFault}
+use Rattle.decision.specs.Decision.{repeatFault}
 use Rattle.octets.proofs.Numbering.{gives-here, gives-later, gives-last, gives-none}
 use borrow.Author.Tests.{eq-eqb, ne-eqb}
 use native.Mathlib.Omega.{arith}
 use borrow.Author.Needs.{needs}
-use Rattle.node.proofs.repeat_fault.Statement.{statement}
-use Rattle.node.proofs.repeat_fault.Tie as tie
+use Rattle.decision.proofs.repeat_fault.Statement.{statement}
+use Rattle.decision.proofs.repeat_fault.Tie as tie
 
 is-for-own-requires : tie.Need-is-for-own-requires
 is-for-own-requires c κs = search needs

@@ -1,10 +1,10 @@
 use mathlib.Core.Path.{sym, _∙_}
-use Rattle.node.specs.Decision.{deliveryFault}
+use Rattle.decision.specs.Decision.{deliveryFault}
 use Rattle.octets.proofs.Numbering.{gives-here, gives-later, gives-last, gives-none}
 use native.Mathlib.Omega.{arith}
 use borrow.Author.Needs.{needs}
-use Rattle.node.proofs.delivery_fault.Statement.{statement}
-use Rattle.node.proofs.delivery_fault.Tie as tie
+use Rattle.decision.proofs.delivery_fault.Statement.{statement}
+use Rattle.decision.proofs.delivery_fault.Tie as tie
 
 is-for-another-requires : tie.Need-is-for-another-requires
 is-for-another-requires c κs = search needs

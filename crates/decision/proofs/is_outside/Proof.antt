@@ -1,8 +1,8 @@
 use mathlib.Core.Bool.{not}
 use mathlib.Core.Path.{ap}
 use borrow.Author.Needs.{needs}
-use Rattle.node.proofs.is_outside.Statement.{statement}
-use Rattle.node.proofs.is_outside.Tie as tie
+use Rattle.decision.proofs.is_outside.Statement.{statement}
+use Rattle.decision.proofs.is_outside.Tie as tie
 
 holds-requires : tie.Need-holds-requires
 holds-requires c κs = search needs

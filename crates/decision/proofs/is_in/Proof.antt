@@ -1,6 +1,6 @@
 use borrow.Author.Needs.{needs}
-use Rattle.node.proofs.is_in.Statement.{statement}
-use Rattle.node.proofs.is_in.Tie as tie
+use Rattle.decision.proofs.is_in.Statement.{statement}
+use Rattle.decision.proofs.is_in.Tie as tie
 
 holds-requires : tie.Need-holds-requires
 holds-requires c κs = search needs
