@@ -8,6 +8,7 @@ pub mod Decision
 pub mod Node
 pub mod Batch
 pub mod Text
+pub mod Lines
 pub mod Job
 pub mod Run
 pub mod Bound

@@ -11,7 +11,7 @@ use Rattle.decision.specs.declared.Settings.{Settings}
 use Rattle.lists.specs.Lists.{Lists, listsOf}
 use Rattle.decision.specs.Decision.{Node, nodeOf}
 use Rattle.batch.specs.Walk.{batchLimit, walk}
-use Rattle.text.specs.Text.{firstLine, refusedLine}
+use Rattle.lines.specs.Lines.{firstLine, refusedLine}
 use Rattle.job.specs.declared.Section.{Section}
 use Rattle.job.specs.declared.Job.{Job}
 use Rattle.job.specs.declared.Reading.the-variants as reading

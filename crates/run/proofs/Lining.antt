@@ -26,7 +26,7 @@ use Rattle.batch.specs.declared.Stepped.the-variants.{TooLong, Ended, Answered}
 use Rattle.batch.specs.Walk.{batchLimit, isDone, nextCursor, stepOf, stepOutput, Walk, endingAt, before, walkFrom, walk}
 use Rattle.batch.proofs.Stepping.{taken-within}
 use Rattle.batch.proofs.Walking.{walk-end, walk-more, not-taken}
-use Rattle.text.specs.Text.{pduLine, lastLine}
+use Rattle.lines.specs.Lines.{pduLine, lastLine}
 use Rattle.run.specs.Run.{roomForOne, repeatedOrNone, lineAt, pduLines, walkLines, textWith, placeWith}
 
 answered-same : (a b : Answer) (c d : Cursor) → Answered a c ≡ Answered b d → (b ≡ a) × (d ≡ c)

@@ -24,10 +24,11 @@ use Rattle.node.proofs.Repeating.{length-repeated}
 use Rattle.batch.specs.Walk.{batchLimit, Walk, endingAt, before, walkFrom, walk}
 use Rattle.batch.proofs.Stepping.{taken-within}
 use Rattle.batch.proofs.Walking.{answer, walk-none, walk-end, walk-more}
-use Rattle.text.specs.Text.{decimal, shown, firstLine, lastLine, refusedLine}
+use Rattle.text.specs.Text.{decimal}
+use Rattle.lines.specs.Lines.{shown, firstLine, lastLine, refusedLine}
 use Rattle.text.proofs.Decimal.{length-decimal}
-use Rattle.text.proofs.Shown.{length-shown, shown-within}
-use Rattle.text.proofs.Lines.{first-line-at-most, refused-line-at-most, pdu-line-at-most, last-line-at-most}
+use Rattle.lines.proofs.Shown.{length-shown, shown-within}
+use Rattle.lines.proofs.Lines.{first-line-at-most, refused-line-at-most, pdu-line-at-most, last-line-at-most}
 use Rattle.job.specs.declared.Job.{Job}
 use Rattle.job.specs.declared.Reading.{Reading}
 use Rattle.job.specs.declared.Reading.the-variants as reading

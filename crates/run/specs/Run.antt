@@ -14,7 +14,7 @@ use Rattle.batch.specs.Walk.{batchLimit, Walk, walk}
 use Rattle.job.specs.declared.Reading.{Reading}
 use Rattle.job.specs.declared.Reading.the-variants.{Job, Refused}
 use Rattle.job.specs.Jobs.{jobOf, jobLimit, batchIn, nodeIn}
-use Rattle.text.specs.Text.{firstLine, pduLine, lastLine, refusedLine}
+use Rattle.lines.specs.Lines.{firstLine, pduLine, lastLine, refusedLine}
 
 -- the program's output for one PDU has room for the longest, so that none is too long for it
 abbrev pub roomForOne : ℕ

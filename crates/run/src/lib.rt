@@ -23,7 +23,7 @@ pub fn relay(bytes: &[u8], text: &mut [u8]) -> usize
 {
     let reading = job::read(bytes);
     match reading {
-        Reading::Refused(number) => text::put_refused_line(text, 0, number),
+        Reading::Refused(number) => lines::put_refused_line(text, 0, number),
         Reading::Job(job) => put_job(text, bytes, job),
     }
 }
@@ -41,7 +41,7 @@ fn put_job(text: &mut [u8], bytes: &[u8], job: Job) -> usize
     let source_rejects = 2 * job.source_reject.count;
     let destination_passes = 2 * job.destination_pass.count;
     let destination_rejects = 2 * job.destination_reject.count;
-    let place = text::put_first_line(text, 0, job.own);
+    let place = lines::put_first_line(text, 0, job.own);
     put_walk(
         text,
         place,
@@ -95,7 +95,7 @@ fn put_walk<'a>(
         };
         lines += 1;
         let length = answer.repeated_length;
-        next_place = text::put_pdu_line(
+        next_place = lines::put_pdu_line(
             text,
             next_place,
             lines,
@@ -107,5 +107,5 @@ fn put_walk<'a>(
         offset = next.place;
         ended = next.ended;
     }
-    text::put_last_line(text, next_place, lines, offset as u64)
+    lines::put_last_line(text, next_place, lines, offset as u64)
 }

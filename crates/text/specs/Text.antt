@@ -1,11 +1,11 @@
--- What the program `relay` prints (document 01, "The program `relay`"): lines of characters, each character by its number.
+-- The characters in which the program `relay` prints numbers and bytes (document 01, "The program `relay`"), each by its number.
 use Prim.Native.Nat.{ℕ, zero, suc, _/_, _%_}
 use Prim.Native.Char.{code}
 use Prim.Native.String.{String, [] as empty, _∷_ as _then_}
-use mathlib.Core.Bool.{true, false, cond}
+use mathlib.Core.Bool.{true, false}
 use mathlib.Core.List.{List, [], _∷_, _++_}
-use lib.Dec.{ltb, eqb}
-use lib.ListN.{length, getD}
+use lib.Dec.{ltb}
+use lib.ListN.{getD}
 
 -- the characters of a text as 01 prints it, each by its number
 abbrev pub text : String → List ℕ
@@ -30,25 +30,3 @@ decimal number = decimalWithin (suc number) number
 unfoldable pub hex : List ℕ → List ℕ
 hex [] = []
 hex (byte ∷ bytes) = digit (byte / 16) ∷ digit (byte % 16) ∷ hex bytes
-
--- "First line: own address"
-unfoldable pub firstLine : ℕ → List ℕ
-firstLine own = text "relay " ++ decimal own ++ text "\n"
-
--- "the repeated PDU in hex or `-`": `-` where nothing was repeated
-unfoldable pub shown : List ℕ → List ℕ
-shown repeated = cond (eqb (length repeated) 0) (text "-") (hex repeated)
-
--- "A PDU line: its number from 1, its offset, delivery number, repeat number, the repeated PDU"
-unfoldable pub pduLine : ℕ → ℕ → ℕ → ℕ → List ℕ → List ℕ
-pduLine number offset delivery repeat repeated =
-    decimal number ++ text " " ++ decimal offset ++ text " " ++ decimal delivery ++ text " " ++ decimal repeat ++ text " " ++ shown
-    repeated ++ text "\n"
-
--- "Last line: PDU lines printed and the offset of the first byte not taken"
-unfoldable pub lastLine : ℕ → ℕ → List ℕ
-lastLine lines taken = text "end " ++ decimal lines ++ text " " ++ decimal taken ++ text "\n"
-
--- "A bad job prints only `refused` and the number"
-unfoldable pub refusedLine : ℕ → List ℕ
-refusedLine number = text "refused " ++ decimal number ++ text "\n"

@@ -1,12 +1,12 @@
 use mathlib.Core.Path.{refl}
 use lib.ListN.{length-take}
-use Rattle.text.specs.Text.{lastLine}
-use Rattle.text.proofs.Lines.{last-started}
+use Rattle.lines.specs.Lines.{lastLine}
+use Rattle.lines.proofs.Lines.{last-started}
 use Rattle.text.proofs.Parts.{stays, front}
 use native.Mathlib.Omega.{arith}
 use borrow.Author.Needs.{needs}
-use Rattle.text.proofs.put_last_line.Statement.{statement}
-use Rattle.text.proofs.put_last_line.Tie as tie
+use Rattle.lines.proofs.put_last_line.Statement.{statement}
+use Rattle.lines.proofs.put_last_line.Tie as tie
 
 slice-aggregate-put-ended : tie.Need-slice-aggregate-put-ended
 slice-aggregate-put-ended c = search needs

@@ -1,11 +1,11 @@
 use mathlib.Core.Path.{refl}
-use Rattle.text.specs.Text.{pduLine}
-use Rattle.text.proofs.Lines.{pdu-started}
+use Rattle.lines.specs.Lines.{pduLine}
+use Rattle.lines.proofs.Lines.{pdu-started}
 use Rattle.text.proofs.Parts.{stays, front}
 use native.Mathlib.Omega.{arith}
 use borrow.Author.Needs.{needs}
-use Rattle.text.proofs.put_pdu_line.Statement.{statement}
-use Rattle.text.proofs.put_pdu_line.Tie as tie
+use Rattle.lines.proofs.put_pdu_line.Statement.{statement}
+use Rattle.lines.proofs.put_pdu_line.Tie as tie
 
 slice-aggregate-put-decimal : tie.Need-slice-aggregate-put-decimal
 slice-aggregate-put-decimal c = search needs

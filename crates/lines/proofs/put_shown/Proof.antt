@@ -1,8 +1,8 @@
-use Rattle.text.proofs.Shown.{shown-none, shown-some}
+use Rattle.lines.proofs.Shown.{shown-none, shown-some}
 use denote.Ref.{now}
 use borrow.Author.Needs.{needs}
-use Rattle.text.proofs.put_shown.Statement.{statement}
-use Rattle.text.proofs.put_shown.Tie as tie
+use Rattle.lines.proofs.put_shown.Statement.{statement}
+use Rattle.lines.proofs.put_shown.Tie as tie
 
 slice-aggregate-put : tie.Need-slice-aggregate-put
 slice-aggregate-put c = search needs

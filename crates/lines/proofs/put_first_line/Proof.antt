@@ -1,7 +1,7 @@
-use Rattle.text.specs.Text.{refusedLine}
+use Rattle.lines.specs.Lines.{firstLine}
 use borrow.Author.Needs.{needs}
-use Rattle.text.proofs.put_refused_line.Statement.{statement}
-use Rattle.text.proofs.put_refused_line.Tie as tie
+use Rattle.lines.proofs.put_first_line.Statement.{statement}
+use Rattle.lines.proofs.put_first_line.Tie as tie
 
 slice-aggregate-put-ended : tie.Need-slice-aggregate-put-ended
 slice-aggregate-put-ended c = search needs
@@ -13,9 +13,9 @@ same-length : tie.Need-same-length
 same-length c = search needs
 
 returns : tie.Need-returns
-unfolding refusedLine
+unfolding firstLine
 returns c = c .before .before .put-ended .ensures
 
-pub put-refused-line-spec : {M : Type 1} → statement M
-put-refused-line-spec =
+pub put-first-line-spec : {M : Type 1} → statement M
+put-first-line-spec =
     tie.close (tie.spec slice-aggregate-put-ended put-ended-requires same-length returns)

@@ -7,10 +7,11 @@ use mathlib.Core.Path.{_≡_, ap, sym, _∙_}
 use lib.Dec.{leb, eqb}
 use lib.ListN.{length, length-append}
 use borrow.Author.Tests.{leb-true, leb-false, not-true, not-false}
 use Rattle.text.proofs.Decimal.{length-decimal, decimal-of-64-bits, decimal-of-16-bits, decimal-of-8-bits}
 use Rattle.text.proofs.Parts.{Promised, Put, begin, then}
-use Rattle.text.proofs.Shown.{length-shown}
-use Rattle.text.specs.Text.{text, decimal, shown, firstLine, pduLine, lastLine, refusedLine}
+use Rattle.lines.proofs.Shown.{length-shown}
+use Rattle.text.specs.Text.{text, decimal}
+use Rattle.lines.specs.Lines.{shown, firstLine, pduLine, lastLine, refusedLine}
 
 length-ended : (start : List ℕ) (n end : ℕ) → length (start ++ decimal n ++ end ∷ []) ≡ length start + length (decimal n) + 1
 length-ended start n end = length-append (start ++ decimal n) (end ∷ []) ∙ ap (λ (l : ℕ). l + 1) (length-append start (decimal n))

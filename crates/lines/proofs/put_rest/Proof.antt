@@ -1,10 +1,10 @@
 use Rattle.octets.proofs.Placing.{not-placed}
 use denote.Ref.{now}
-use Rattle.text.proofs.Lines.{no-rest, all-rest, rest}
+use Rattle.lines.proofs.Lines.{no-rest, all-rest, rest}
 use Rattle.text.proofs.Parts.{done}
 use borrow.Author.Needs.{needs}
-use Rattle.text.proofs.put_rest.Statement.{statement}
-use Rattle.text.proofs.put_rest.Tie as tie
+use Rattle.lines.proofs.put_rest.Statement.{statement}
+use Rattle.lines.proofs.put_rest.Tie as tie
 
 has-room-requires : tie.Need-has-room-requires
 has-room-requires c κs = search needs

@@ -1,8 +1,8 @@
-use Rattle.text.proofs.Shown.{too-small, same-room}
+use Rattle.lines.proofs.Shown.{too-small, same-room}
 use native.Mathlib.Omega.{arith}
 use borrow.Author.Needs.{needs}
-use Rattle.text.proofs.has_room.Statement.{statement}
-use Rattle.text.proofs.has_room.Tie as tie
+use Rattle.lines.proofs.has_room.Statement.{statement}
+use Rattle.lines.proofs.has_room.Tie as tie
 
 returns : tie.Need-returns
 returns c = let a = c .before .args in too-small (a .output) (a .place) (a .start) (a .repeated) (omega arith)

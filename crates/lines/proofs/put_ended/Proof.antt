@@ -1,10 +1,10 @@
 use mathlib.Core.Path.{refl}
-use Rattle.text.proofs.Lines.{ended}
+use Rattle.lines.proofs.Lines.{ended}
 use Rattle.text.proofs.Parts.{stays, front}
 use native.Mathlib.Omega.{arith}
 use borrow.Author.Needs.{needs}
-use Rattle.text.proofs.put_ended.Statement.{statement}
-use Rattle.text.proofs.put_ended.Tie as tie
+use Rattle.lines.proofs.put_ended.Statement.{statement}
+use Rattle.lines.proofs.put_ended.Tie as tie
 
 slice-aggregate-put : tie.Need-slice-aggregate-put
 slice-aggregate-put c = search needs

@@ -7,8 +7,9 @@ use mathlib.Core.Path.{_≡_, refl, sym, _∙_}
 use lib.Dec.{leb, eqb, leb·zero, eqb·suc-zero}
 use lib.ListN.{length}
 use borrow.Author.Tests.{le-leb, lt-leb, leb-true, leb-false, eq-eqb, ne-eqb}
 use Rattle.text.proofs.Hex.{length-hex}
-use Rattle.text.specs.Text.{text, hex, shown}
+use Rattle.text.specs.Text.{text, hex}
+use Rattle.lines.specs.Lines.{shown}
 
 pub length-shown : (repeated : List ℕ) → length (shown repeated) ≡ cond (eqb (length repeated) 0) 1 (2 * length repeated)
 unfolding shown

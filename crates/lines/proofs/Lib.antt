@@ -1,0 +1,3 @@
+pub mod Example
+pub mod Shown
+pub mod Lines
