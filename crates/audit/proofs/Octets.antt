@@ -7,6 +7,10 @@ use Rattle.octets.proofs.byte.Reads as byte-reads
 use Rattle.octets.proofs.byte.Kinds as byte-kinds
 use Rattle.octets.proofs.word.Reads as word-reads
 use Rattle.octets.proofs.word.Kinds as word-kinds
+use Rattle.octets.proofs.byte_value.Reads as byte-value-reads
+use Rattle.octets.proofs.byte_value.Kinds as byte-value-kinds
+use Rattle.octets.proofs.word_value.Reads as word-value-reads
+use Rattle.octets.proofs.word_value.Kinds as word-value-kinds
 use Rattle.octets.proofs.high.Reads as high-reads
 use Rattle.octets.proofs.high.Kinds as high-kinds
 use Rattle.octets.proofs.low.Reads as low-reads
@@ -25,6 +29,12 @@ byte = (λ κs a. tt, λ κs a x y s t p q. p ∙ sym q)
 
 pub word : Promised 1 word-kinds.ps word-kinds.r word-reads.Asked word-reads.Post (λ κs x. x)
 word = (λ κs a. tt, λ κs a x y s t p q. p ∙ sym q)
+
+pub byte-value : Promised 0 byte-value-kinds.ps byte-value-kinds.r byte-value-reads.Asked byte-value-reads.Post (λ κs x. x)
+byte-value = (λ κs a. tt, λ κs a x y s t p q. p .0 ∙ sym (q .0))
+
+pub word-value : Promised 0 word-value-kinds.ps word-value-kinds.r word-value-reads.Asked word-value-reads.Post (λ κs x. x)
+word-value = (λ κs a. tt, λ κs a x y s t p q. p .0 ∙ sym (q .0))
 
 pub high : Promised 0 high-kinds.ps high-kinds.r high-reads.Asked high-reads.Post (λ κs x. x)
 high = (λ κs a. tt, λ κs a x y s t p q. p ∙ sym q)

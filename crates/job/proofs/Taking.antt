@@ -4,9 +4,10 @@ use native.Mathlib.Omega.{arith}
 use mathlib.Core.Bool.{Bool, true, false, cond}
 use mathlib.Core.List.{List}
 use mathlib.Core.Path.{_≡_, refl, ap, sym, _∙_}
-use lib.Dec.{eqb}
+use lib.Dec.{eqb, ltb}
 use lib.ListN.{length}
-use borrow.Author.Tests.{lt-ltb, le-ltb, ltb-false, le-leb, lt-leb, leb-false, eqb-true, eq-eqb, ne-eqb}
+use borrow.Author.Tests.{lt-ltb, le-ltb, ltb-true, ltb-false, le-leb, lt-leb, leb-false, eqb-true, eq-eqb, ne-eqb}
+use Rattle.octets.specs.Numbers.{_gives_, _orElse_}
 use Rattle.octets.specs.Octets.{at, wordAt}
 use Rattle.octets.proofs.Numbering.{orElse-zero, gives-zero, gives-here, gives-later, gives-last, gives-none}
 use Rattle.pdu.proofs.Paths.{length-addresses}
@@ -102,27 +103,45 @@ module _ (bytes : List ℕ) (place : ℕ) where
   batch-no-length h = refused-with _ 50 _ _ (gives-here _ 50 _ (omega arith) (lt-ltb (length bytes) (place + 2) h)) (omega arith)
 
   module _ (count : ℕ) (is : count ≡ wordAt bytes place) (there : place + 2 ≤ length bytes) where
-    pub batch-too-long : batchLimit < count → Refused 54 ≡ batchAt bytes place
+    batch-too-long : batchLimit < count → Refused 54 ≡ batchAt bytes place
     unfolding batchAt batchNumber
     batch-too-long h =
         refused-with _ 54 _ _
         (gives-later _ 50 _ (le-ltb (length bytes) (place + 2) there) ∙ gives-here _ 54 _ (omega arith)
         (lt-ltb batchLimit (wordAt bytes place) (omega arith))) (omega arith)
 
-    pub batch-cut : count ≤ batchLimit → length bytes < place + 2 + count → Refused 50 ≡ batchAt bytes place
+    batch-cut : count ≤ batchLimit → length bytes < place + 2 + count → Refused 50 ≡ batchAt bytes place
     unfolding batchAt batchNumber
     batch-cut h cut =
         refused-with _ 50 _ _
         (gives-later _ 50 _ (le-ltb (length bytes) (place + 2) there) ∙ gives-later _ 54 _ (le-ltb batchLimit (wordAt bytes place) (omega arith))
         ∙ gives-last _ 50 (lt-ltb (length bytes) (place + 2 + wordAt bytes place) (omega arith))) (omega arith)
 
-    pub batch-taken : count ≤ batchLimit → place + 2 + count ≤ length bytes → At (record { place = place + 2; count = count }) ≡ batchAt bytes place
+    batch-whole : count ≤ batchLimit → place + 2 + count ≤ length bytes → At (record { place = place + 2; count = count }) ≡ batchAt bytes place
     unfolding batchAt batchNumber
-    batch-taken h all =
+    batch-whole h all =
         rw is
         (section-with _ (place + 2) (wordAt bytes place)
         (gives-later _ 50 _ (le-ltb (length bytes) (place + 2) there) ∙ gives-later _ 54 _ (le-ltb batchLimit (wordAt bytes place) (omega arith))
         ∙ gives-none _ 50 (le-ltb (length bytes) (place + 2 + wordAt bytes place) (omega arith))))
+
+    -- by the fault that its length and the bytes left give
+    module _ (rest fault : ℕ) (left : length bytes ≡ place + 2 + rest) (gave : fault ≡ (ltb batchLimit count gives 54 orElse ltb rest count gives 50)) where
+      pub batch-refused : (fault ≡ 0 → ⊥) → Refused fault ≡ batchAt bytes place
+      batch-refused other = go (ltb batchLimit count) refl (ltb rest count) refl gave
+        where
+          go : (long : Bool) → ltb batchLimit count ≡ long → (cut : Bool) → ltb rest count ≡ cut → fault ≡ (long gives 54 orElse cut gives 50)
+              → Refused fault ≡ batchAt bytes place
+          go true l cut c e = rw (e ∙ gives-here true 54 _ (omega arith) refl) (batch-too-long (ltb-true _ _ l))
+          go false l true c e =
+              rw (e ∙ gives-later false 54 _ refl ∙ gives-last true 50 refl) (batch-cut (ltb-false _ _ l) (omega (arith, ltb-true rest count c)))
+          go false l false c e = absurd (other (e ∙ gives-later false 54 _ refl ∙ gives-none false 50 refl))
+
+      pub batch-taken : fault ≡ 0 → At (record { place = place + 2; count = count }) ≡ batchAt bytes place
+      batch-taken zero =
+          let none = orElse-zero _ _ (sym gave ∙ zero) in
+          let whole = ltb-false rest count (gives-zero _ 50 (omega arith) (none .1)) in
+          batch-whole (ltb-false _ _ (gives-zero _ 54 (omega arith) (none .0))) (omega arith)
 
 -- what follows of a batch section that was taken
 pub batch-in : (bytes : List ℕ) (place : ℕ) (section : Section) → batchAt bytes place ≡ At section

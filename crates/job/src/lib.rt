@@ -1,10 +1,13 @@
 // One job of the program relay: its own address, its flags, its four lists and its batch, found in the bytes that it was read as.
 ghost use mathlib.Core.Path.{_≡_};
 ghost use Prim.Native.Nat.{_+_, _*_, _%_, _<_, _≤_, _^_};
-ghost use lib.Dec.{eqb};
+ghost use lib.Dec.{eqb, ltb};
 ghost use lib.ListN.{length, getD};
 ghost use Rattle.job.specs.Jobs.{headNumber, takenNumber, readingNumber, headOf, rangesNumber, listAt, batchAt, listEnd, sectionsOf, jobOf};
+ghost use Rattle.octets.specs.Numbers.{_gives_, _orElse_};
 ghost use Rattle.octets.specs.Octets.{IsPart};
+ghost use Rattle.lists.specs.Lists.{valueLimit};
+ghost use Rattle.batch.specs.Walk.{batchLimit};
 ghost use Rattle.job.specs.Jobs.{settingsOf, valuesIn, padded};
 
 // Own address and flags, or the number they were refused with.
@@ -40,18 +43,6 @@ pub struct Job {
 pub enum Reading {
     Job(Job),
     Refused(u8),
-}
-
-fn size(x: u8) -> usize
-    ensures { λ r. ⌜ (r ≡ x) × (r < 256) ⌝ }
-{
-    x as usize
-}
-
-fn wide(x: u16) -> usize
-    ensures { λ r. ⌜ (r ≡ x) × (r < 65536) ⌝ }
-{
-    x as usize
 }
 
 // Own address and flags: 50 where they are cut short, 51 for flags with bit 6 or 7 set.
@@ -132,7 +123,7 @@ pub fn list_at(bytes: &[u8], place: usize) -> Taken
     if bytes.len() <= place {
         return Taken::Refused(50);
     }
-    let count = size(bytes[place]);
+    let count = octets::byte_value(bytes[place]);
     if count > 64 {
         return Taken::Refused(52);
     }
@@ -160,19 +151,27 @@ pub fn batch_at(bytes: &[u8], place: usize) -> Taken
     if bytes.len() - 2 < place {
         return Taken::Refused(50);
     }
-    let count = wide(octets::word(bytes, place));
+    let count = octets::word_value(octets::word(bytes, place));
     let start = place + 2;
     let rest = bytes.len() - start;
-    if count > batch::Cursor::BATCH_LIMIT {
-        return Taken::Refused(54);
-    }
-    if rest < count {
-        return Taken::Refused(50);
+    let fault = batch_fault(count, rest);
+    if fault != 0 {
+        return Taken::Refused(fault);
     }
     Taken::At(Section {
         place: start,
         count: count,
     })
+}
+
+// What is wrong with a batch of so many bytes where so many are left: 54 above 16,384, then 50 where it is cut short, else 0.
+fn batch_fault(count: usize, rest: usize) -> u8
+    ensures { λ r. ⌜ r ≡ (ltb batchLimit count gives 54 orElse ltb rest count gives 50) ⌝ }
+{
+    if count > batch::Cursor::BATCH_LIMIT {
+        return 54;
+    }
+    if rest < count { 50 } else { 0 }
 }
 
 fn list_end(section: Section) -> usize
@@ -259,7 +258,7 @@ impl Job {
 
 // The section's value at a place: low and high of the first range at 0 and 1, and so on.
 fn value_at(bytes: &[u8], section: Section, i: usize) -> u16
-    requires { ⌜ i < 128 ⌝ }
+    requires { ⌜ i < valueLimit ⌝ }
     ensures { λ r. ⌜ r ≡ getD (valuesIn (now (bytes .entry)) section) i 0 ⌝ }
 {
     if section.count <= i / 2 {
@@ -274,12 +273,12 @@ fn value_at(bytes: &[u8], section: Section, i: usize) -> u16
 // The values of a list section, low, high, low, high and so on, at the start of the array; 0 behind them.
 // Bytes past the end count as 0. Of a section of more than 64 ranges, which no job that was read has, the first 64 are shown.
 // Document 01, "The program `relay`", a list section.
-pub fn values(bytes: &[u8], section: Section) -> [u16; 128]
+pub fn values(bytes: &[u8], section: Section) -> [u16; lists::VALUE_LIMIT]
     ensures { λ r. ⌜ r ≡ padded (valuesIn (now (bytes .entry)) section) ⌝ }
 {
-    let mut values = [0u16; 128];
+    let mut values = [0u16; lists::VALUE_LIMIT];
     let mut i: usize = 0;
-    while i < 128 {
+    while i < lists::VALUE_LIMIT {
         values[i] = value_at(bytes, section, i);
         i += 1;
     }

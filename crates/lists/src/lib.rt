@@ -5,6 +5,9 @@ ghost use Prim.Native.Nat.{_<_};
 ghost use lib.ListN.{getD};
 ghost use Rattle.lists.specs.Lists.{listsOf, inOrder, listFault, holds};
 
+// How many values a list may have: low and high of 64 ranges. Document 01, "Numbers answered", 22.
+pub const VALUE_LIMIT: usize = 128;
+
 // The list at place `k` of the four.
 fn nth<'a>(
     source_pass: &'a [u16],
@@ -46,7 +49,7 @@ pub fn fault<'a>(
             destination_reject,
             k,
         );
-        if list.len() > 128 {
+        if list.len() > VALUE_LIMIT {
             number = 22;
             break 'lists;
         }

@@ -268,7 +268,7 @@ pub extern "C" fn mant_limits() -> MantLimits
         path: limits.path,
         header: limits.header,
         pdu: limits.pdu,
-        list: 128,
+        list: lists::VALUE_LIMIT,
         batch: batch::Cursor::BATCH_LIMIT,
     }
 }

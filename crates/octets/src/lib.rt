@@ -29,6 +29,20 @@ fn wide(x: u8) -> u16
     x as u16
 }
 
+// The number in a byte, as wide as a length is. Document 01, "Header, byte by byte", the fields that count bytes or addresses.
+pub fn byte_value(x: u8) -> usize
+    ensures { λ r. ⌜ (r ≡ x) × (r < 256) ⌝ }
+{
+    x as usize
+}
+
+// A number of two bytes, as wide as a length is. Document 01, "Header, byte by byte", the fields that count bytes or addresses.
+pub fn word_value(number: u16) -> usize
+    ensures { λ r. ⌜ (r ≡ number) × (r < 65536) ⌝ }
+{
+    number as usize
+}
+
 // 1 for a bit that is set and 0 for one that is not. Document 01, "Header, byte by byte", the fields of one bit.
 pub fn flag(bit: bool) -> u8
     ensures { λ r. ⌜ (r ≡ flag bit) × (r ≤ 1) ⌝ }

@@ -1,5 +1,6 @@
 pub mod Showing
 pub mod Paths
 pub mod Inversion
+pub mod Faults
 pub mod Number
 pub mod Exact

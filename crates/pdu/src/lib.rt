@@ -4,10 +4,13 @@ pub mod parts;
 ghost use mathlib.Core.Path.{_≡_};
 ghost use Prim.Native.Nat.{_+_, _*_, _<_, _≤_};
 ghost use mathlib.Core.Bool.{not, _&&_};
-ghost use lib.Dec.{eqb};
-ghost use Rattle.pdu.specs.Header.{isSet, protocol, pathBit, destinationBit, payloadLength, pduIdPlace, pathCountPlace, destinationIn, pduIdIn, pathCountIn, headerOf};
+ghost use lib.Dec.{eqb, ltb};
+ghost use Rattle.octets.specs.Numbers.{_gives_, _orElse_};
+ghost use Rattle.pdu.specs.Header.{isSet, version, protocol, pathBit, destinationBit, payloadLength, pduIdPlace, pathCountPlace, destinationIn, pduIdIn, pathCountIn, headerOf};
 ghost use Rattle.pdu.specs.Sizes.{limits, pathLimit, headerLimit, destinationFlag, pathEntries, pathStart, headerLength, pduLength};
 ghost use Rattle.pdu.specs.Reading.{readOf, refusalNumber, readingNumber};
+use octets::byte_value;
+use octets::word_value;
 
 // Who a PDU is for.
 pub enum Destination {
@@ -94,7 +97,7 @@ impl Header {
         ensures { λ r. ⌜ (r ≡ pathEntries self) × (r ≤ pathLimit) ⌝ }
     {
         if self.path_bit {
-            size(self.path_count)
+            byte_value(self.path_count)
         } else {
             0
         }
@@ -107,9 +110,9 @@ impl Header {
     {
         let destination = self.destination;
         Header::FIXED_LENGTH
-            + 2 * size(destination_flag(destination))
-            + size(octets::flag(self.protocol == 1))
-            + size(octets::flag(self.path_bit))
+            + 2 * byte_value(destination_flag(destination))
+            + byte_value(octets::flag(self.protocol == 1))
+            + byte_value(octets::flag(self.path_bit))
     }
 
     // The header's length in bytes, its path included. Document 01, "Sizes": 6 + 2 + 1 + 1 + 510 at most.
@@ -123,20 +126,8 @@ impl Header {
     pub fn pdu_length(self) -> usize
         ensures { λ r. ⌜ (r ≡ pduLength self) × (r ≤ headerLimit + 65535) ⌝ }
     {
-        self.header_length() + wide(self.payload_length)
+        self.header_length() + word_value(self.payload_length)
     }
-}
-
-fn size(x: u8) -> usize
-    ensures { λ r. ⌜ (r ≡ x) × (r < 256) ⌝ }
-{
-    x as usize
-}
-
-fn wide(x: u16) -> usize
-    ensures { λ r. ⌜ (r ≡ x) × (r < 65536) ⌝ }
-{
-    x as usize
 }
 
 // 1 where a destination is present and 0 for a PDU that is for everyone. Document 01, "Header, byte by byte": byte 0, bit 0.
@@ -176,23 +167,33 @@ pub fn fault(bytes: &[u8]) -> u8
         return 1;
     }
     let byte0 = bytes[0];
+    let first = first_byte_fault(byte0);
+    if first != 0 {
+        return first;
+    }
+    let header_length = header_length_in(byte0, path_count_in(bytes));
+    if bytes.len() < header_length {
+        return 5;
+    }
+    if bytes.len() < header_length + word_value(payload_length(bytes[2], bytes[3])) {
+        return 6;
+    }
+    0
+}
+
+// What byte 0 alone is refused for: 2, 3 or 4, or 0.
+fn first_byte_fault(byte0: u8) -> u8
+    ensures { λ r. ⌜ r ≡ (not (eqb (version byte0) 0) gives 2
+        orElse ltb 1 (protocol byte0) gives 3
+        orElse (eqb (protocol byte0) 1 && not (isSet (destinationBit byte0))) gives 4) ⌝ }
+{
     if byte0 / 64 != 0 {
         return 2;
     }
     if 1 < byte0 / 8 % 8 {
         return 3;
     }
-    if no_destination(byte0) {
-        return 4;
-    }
-    let header_length = header_length_in(byte0, path_count_in(bytes));
-    if bytes.len() < header_length {
-        return 5;
-    }
-    if bytes.len() < header_length + wide(payload_length(bytes[2], bytes[3])) {
-        return 6;
-    }
-    0
+    if no_destination(byte0) { 4 } else { 0 }
 }
 
 // The refusal that has a number, 1 to 6.
@@ -293,20 +294,20 @@ fn payload_length(byte2: u8, byte3: u8) -> u16
 fn pdu_id_place(byte0: u8) -> usize
     ensures { λ r. ⌜ r ≡ pduIdPlace byte0 ⌝ }
 {
-    Header::FIXED_LENGTH + 2 * size(byte0 % 2)
+    Header::FIXED_LENGTH + 2 * byte_value(byte0 % 2)
 }
 
 fn path_count_place(byte0: u8) -> usize
     ensures { λ r. ⌜ (r ≡ pathCountPlace byte0) × (r ≤ 9) ⌝ }
 {
-    pdu_id_place(byte0) + size(octets::flag(byte0 / 8 % 8 == 1))
+    pdu_id_place(byte0) + byte_value(octets::flag(byte0 / 8 % 8 == 1))
 }
 
 // The header's length by its bytes: up to the path count, the count's own byte if the path bit is set, and 2 bytes for each address.
 fn header_length_in(byte0: u8, path_count: u8) -> usize
     ensures { λ r. ⌜ (r ≡ pathCountPlace byte0 + pathBit byte0 + 2 * «path_count») × (r ≤ headerLimit) ⌝ }
 {
-    path_count_place(byte0) + size(byte0 / 2 % 2) + 2 * size(path_count)
+    path_count_place(byte0) + byte_value(byte0 / 2 % 2) + 2 * byte_value(path_count)
 }
 
 fn destination_in(bytes: &[u8]) -> Destination
