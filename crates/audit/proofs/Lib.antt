@@ -12,6 +12,7 @@ pub mod Lines
 pub mod Job
 pub mod Run
 pub mod Bound
+pub mod Boundary
 pub mod Mant
 pub mod Demands
 pub mod Examples

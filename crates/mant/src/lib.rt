@@ -1,6 +1,4 @@
 // The functions exported to C, each a thin call of a proved function. Numbers, slices and structs by value; include/mant.h declares them.
-mod values;
-
 ghost use mathlib.Core.Path.{_≡_};
 ghost use lib.ListN.{length};
 ghost use Rattle.pdu.specs.Reading.{readOf};
@@ -11,81 +9,17 @@ ghost use Rattle.decision.specs.Decision.{nodeOf};
 ghost use Rattle.node.specs.Answers.{Hears};
 ghost use Rattle.bound.specs.Bound.{bound, bytesBound};
 ghost use Rattle.bound.specs.Answer.{answer};
-ghost use Rattle.mant.specs.Boundary.{headerInC, pathAddressIn, pathHas, freshFromC, StepsInC, boundInC, limitsInC};
+ghost use Rattle.boundary.specs.Boundary.{headerInC, pathAddressIn, pathHas, freshFromC, StepsInC, boundInC, limitsInC};
 use batch::Cursor;
+use boundary::MantBound;
+use boundary::MantFresh;
+use boundary::MantHeader;
+use boundary::MantLimits;
+use boundary::MantStep;
 use decision::Settings;
 use node::Answer;
 use pdu::Reading;
 use pdu::Written;
-
-// What `mant_read` answers: 0 or 1 to 6, and of a PDU every field of its header in document 01's order, the header's length and the PDU's.
-// With a refusal all fields after the number are 0 and false.
-#[repr(C)]
-pub struct MantHeader {
-    pub number: u8,
-    pub protocol: u8,
-    pub time_stamp_request: bool,
-    pub path_bit: bool,
-    pub has_destination: bool,
-    pub port: u8,
-    pub encrypted: bool,
-    pub reserved: u8,
-    pub ack: bool,
-    pub added_header: bool,
-    pub hop_limit: u8,
-    pub payload_length: u16,
-    pub source: u16,
-    pub destination: u16,
-    pub pdu_id: u8,
-    pub path_count: u8,
-    pub header_length: usize,
-    pub pdu_length: usize,
-}
-
-// What a caller asks of a fresh PDU. `destination` counts where `has_destination` is set. Hop limit and port are wider than their bits, so that
-// a number too large arrives whole and is refused.
-#[repr(C)]
-pub struct MantFresh {
-    pub source: u16,
-    pub has_destination: bool,
-    pub destination: u16,
-    pub hop_limit: u64,
-    pub port: u64,
-    pub time_stamp_request: bool,
-    pub with_path: bool,
-    pub reliable: bool,
-    pub pdu_id: u8,
-}
-
-// What one step of a walk finds. Kind 0: a PDU's answer and the cursor of the next. Kind 1: no more PDU, so no answer; its fields for numbers hold
-// 255, which is no number. Kind 2: the batch is too long, both numbers are 54. With kinds 1 and 2 the rest of the answer is 0 and the next cursor
-// is the one given, ended.
-#[repr(C)]
-pub struct MantStep {
-    pub kind: u8,
-    pub answer: Answer,
-    pub next: Cursor,
-}
-
-// A bound: number 0 and the value; or 10 for a hop limit above 7; or that the value is too large for 64 bits. The value is 0 in the last two.
-#[repr(C)]
-pub struct MantBound {
-    pub number: u8,
-    pub too_large: bool,
-    pub value: u64,
-}
-
-// Document 01's sizes, in bytes; the path's in addresses, a list's in values.
-#[repr(C)]
-pub struct MantLimits {
-    pub fixed: usize,
-    pub payload: usize,
-    pub path: usize,
-    pub header: usize,
-    pub pdu: usize,
-    pub list: usize,
-    pub batch: usize,
-}
 
 // The header of the PDU at the start of `bytes`, or the number, 1 to 6, of why there is none. Bytes after the PDU are not looked at.
 // Document 01, "Header, byte by byte", and "Numbers answered", 1 to 6.
@@ -95,9 +29,9 @@ pub extern "C" fn mant_read(bytes: &[u8]) -> MantHeader
 {
     let number = pdu::fault(bytes);
     if number != 0 {
-        return values::refused_header(number);
+        return boundary::refused_header(number);
     }
-    values::shown_header(pdu::header_of(bytes))
+    boundary::shown_header(pdu::header_of(bytes))
 }
 
 // The address at place `i` of the path of the PDU at the start of `bytes`, the first at 0. 0 past the last one, and where there is no PDU.
@@ -144,7 +78,7 @@ pub extern "C" fn mant_originate(settings: MantFresh, payload: &[u8], output: &m
     ensures { λ r. ⌜ (r ≡ originated (freshFromC settings) (now (payload .entry)) (length (now (output .entry))))
         × (now (output .exit) ≡ originatedOutput (freshFromC settings) (now (payload .entry)) (now (output .entry))) ⌝ }
 {
-    origin::originate(values::fresh_from_c(settings), payload, output)
+    origin::originate(boundary::fresh_from_c(settings), payload, output)
 }
 
 // The number of the first of the four lists that has a fault, 22, 21 or 20, and 0 where none has. An empty list has none.
@@ -233,7 +167,7 @@ pub extern "C" fn mant_step<'a>(
         cursor,
         output,
     );
-    values::step_in_c(cursor, stepped)
+    boundary::step_in_c(cursor, stepped)
 }
 
 // The most transmissions that one fresh message with that hop limit can cause among so many repeating nodes, its own counted. That holds where
@@ -243,7 +177,7 @@ pub extern "C" fn mant_step<'a>(
 pub extern "C" fn mant_most_transmissions(nodes: u64, hop_limit: u64) -> MantBound
     ensures { λ r. ⌜ r ≡ boundInC (answer «hop_limit» (bound nodes «hop_limit»)) ⌝ }
 {
-    values::bound_in_c(bound::most_transmissions(nodes, hop_limit))
+    boundary::bound_in_c(bound::most_transmissions(nodes, hop_limit))
 }
 
 // The most bytes that those transmissions have together, if the fresh message has `size` bytes. That holds where `mant_most_transmissions` does.
@@ -253,7 +187,7 @@ pub extern "C" fn mant_most_transmissions(nodes: u64, hop_limit: u64) -> MantBou
 pub extern "C" fn mant_most_bytes(nodes: u64, hop_limit: u64, size: u64) -> MantBound
     ensures { λ r. ⌜ r ≡ boundInC (answer «hop_limit» (bytesBound nodes «hop_limit» size)) ⌝ }
 {
-    values::bound_in_c(bound::most_bytes(nodes, hop_limit, size))
+    boundary::bound_in_c(bound::most_bytes(nodes, hop_limit, size))
 }
 
 // The sizes that the layer keeps to. Document 01, "Sizes", and for the list's values "Numbers answered", 22.
@@ -261,14 +195,5 @@ pub extern "C" fn mant_most_bytes(nodes: u64, hop_limit: u64, size: u64) -> Mant
 pub extern "C" fn mant_limits() -> MantLimits
     ensures { λ r. ⌜ r ≡ limitsInC ⌝ }
 {
-    let limits = pdu::Header::limits();
-    MantLimits {
-        fixed: limits.fixed,
-        payload: limits.payload,
-        path: limits.path,
-        header: limits.header,
-        pdu: limits.pdu,
-        list: lists::VALUE_LIMIT,
-        batch: batch::Cursor::BATCH_LIMIT,
-    }
+    boundary::limits_in_c()
 }

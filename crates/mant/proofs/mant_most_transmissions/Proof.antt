@@ -1,5 +1,5 @@
 use mathlib.Core.Path.{ap, _∙_}
-use Rattle.mant.specs.Boundary.{boundInC}
+use Rattle.boundary.specs.Boundary.{boundInC}
 use borrow.Author.Needs.{needs}
 use Rattle.mant.proofs.mant_most_transmissions.Statement.{statement}
 use Rattle.mant.proofs.mant_most_transmissions.Tie as tie

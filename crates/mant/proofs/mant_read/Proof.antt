@@ -6,7 +6,7 @@ use Rattle.pdu.specs.declared.Reading.{Reading}
 use Rattle.pdu.specs.declared.Reading.the-variants.{Pdu, Refused}
 use Rattle.pdu.specs.Reading.{readOf, readingNumber}
 use Rattle.pdu.proofs.Number.{read-0}
-use Rattle.mant.specs.Boundary.{headerInC, refusedHeader, shownHeader}
+use Rattle.boundary.specs.Boundary.{headerInC, refusedHeader, shownHeader}
 use borrow.Author.Needs.{needs}
 use Rattle.mant.proofs.mant_read.Statement.{statement}
 use Rattle.mant.proofs.mant_read.Tie as tie

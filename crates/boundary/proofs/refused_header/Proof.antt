@@ -1,7 +1,7 @@
 use mathlib.Core.Path.{refl}
 use Rattle.pdu.specs.Header.{headerOf}
-use Rattle.mant.proofs.values.refused_header.Statement.{statement}
-use Rattle.mant.proofs.values.refused_header.Tie as tie
+use Rattle.boundary.proofs.refused_header.Statement.{statement}
+use Rattle.boundary.proofs.refused_header.Tie as tie
 
 returns : tie.Need-returns
 unfolding headerOf

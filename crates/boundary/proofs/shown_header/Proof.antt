@@ -1,7 +1,7 @@
 use mathlib.Core.Path.{refl}
 use borrow.Author.Needs.{needs}
-use Rattle.mant.proofs.values.shown_header.Statement.{statement}
-use Rattle.mant.proofs.values.shown_header.Tie as tie
+use Rattle.boundary.proofs.shown_header.Statement.{statement}
+use Rattle.boundary.proofs.shown_header.Tie as tie
 
 has-destination-requires : tie.Need-has-destination-requires
 has-destination-requires c κs = search needs

@@ -25,11 +25,11 @@ use Rattle.batch.specs.declared.Stepped.the-variants.{TooLong, Ended, Answered}
 use Rattle.batch.specs.Walk.{batchLimit, stepOf, stepOutput}
 use Rattle.bound.specs.declared.Bound.{Bound}
 use Rattle.bound.specs.declared.Bound.the-variants.{Exactly, TooLarge, HopRefused}
-use Rattle.mant.specs.declared.MantHeader.{MantHeader}
-use Rattle.mant.specs.declared.MantFresh.{MantFresh}
-use Rattle.mant.specs.declared.MantStep.{MantStep}
-use Rattle.mant.specs.declared.MantBound.{MantBound}
-use Rattle.mant.specs.declared.MantLimits.{MantLimits}
+use Rattle.boundary.specs.declared.MantHeader.{MantHeader}
+use Rattle.boundary.specs.declared.MantFresh.{MantFresh}
+use Rattle.boundary.specs.declared.MantStep.{MantStep}
+use Rattle.boundary.specs.declared.MantBound.{MantBound}
+use Rattle.boundary.specs.declared.MantLimits.{MantLimits}
 
 -- a destination as a flag and an address, the address 0 where there is none ("Header, byte by byte")
 abbrev pub hasDestination : Destination → Bool

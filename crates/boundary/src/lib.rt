@@ -1,8 +1,4 @@
-// The inner answers as the values that C sees, and what C gives as the inner settings.
-use super::MantBound;
-use super::MantFresh;
-use super::MantHeader;
-use super::MantStep;
+// The layer's values as the plain values that C sees, and what C gives as the layer's settings.
 use batch::Cursor;
 use batch::Stepped;
 use bound::Bound;
@@ -11,12 +7,84 @@ use pdu::Destination;
 use pdu::Header;
 ghost use mathlib.Core.Path.{_≡_};
 ghost use Rattle.node.specs.Answers.{twice};
-ghost use Rattle.mant.specs.Boundary.{hasDestination, destinationAddress, refusedHeader, shownHeader, destinationFromC, freshFromC, stepInC, boundInC};
+ghost use Rattle.boundary.specs.Boundary.{hasDestination, destinationAddress, refusedHeader, shownHeader, destinationFromC, freshFromC};
+ghost use Rattle.boundary.specs.Boundary.{stepInC, boundInC, limitsInC};
 
 // What the fields for numbers hold where there is no answer.
 const NO_NUMBER: u8 = 255;
 
-pub(crate) fn shown_header(header: Header) -> MantHeader
+// What `mant_read` answers: 0 or 1 to 6, and of a PDU every field of its header in document 01's order, the header's length and the PDU's.
+// With a refusal all fields after the number are 0 and false.
+#[repr(C)]
+pub struct MantHeader {
+    pub number: u8,
+    pub protocol: u8,
+    pub time_stamp_request: bool,
+    pub path_bit: bool,
+    pub has_destination: bool,
+    pub port: u8,
+    pub encrypted: bool,
+    pub reserved: u8,
+    pub ack: bool,
+    pub added_header: bool,
+    pub hop_limit: u8,
+    pub payload_length: u16,
+    pub source: u16,
+    pub destination: u16,
+    pub pdu_id: u8,
+    pub path_count: u8,
+    pub header_length: usize,
+    pub pdu_length: usize,
+}
+
+// What a caller asks of a fresh PDU. `destination` counts where `has_destination` is set. Hop limit and port are wider than their bits, so that
+// a number too large arrives whole and is refused.
+#[repr(C)]
+pub struct MantFresh {
+    pub source: u16,
+    pub has_destination: bool,
+    pub destination: u16,
+    pub hop_limit: u64,
+    pub port: u64,
+    pub time_stamp_request: bool,
+    pub with_path: bool,
+    pub reliable: bool,
+    pub pdu_id: u8,
+}
+
+// What one step of a walk finds. Kind 0: a PDU's answer and the cursor of the next. Kind 1: no more PDU, so no answer; its fields for numbers hold
+// 255, which is no number. Kind 2: the batch is too long, both numbers are 54. With kinds 1 and 2 the rest of the answer is 0 and the next cursor
+// is the one given, ended.
+#[repr(C)]
+pub struct MantStep {
+    pub kind: u8,
+    pub answer: Answer,
+    pub next: Cursor,
+}
+
+// A bound: number 0 and the value; or 10 for a hop limit above 7; or that the value is too large for 64 bits. The value is 0 in the last two.
+#[repr(C)]
+pub struct MantBound {
+    pub number: u8,
+    pub too_large: bool,
+    pub value: u64,
+}
+
+// Document 01's sizes, in bytes; the path's in addresses, a list's in values.
+#[repr(C)]
+pub struct MantLimits {
+    pub fixed: usize,
+    pub payload: usize,
+    pub path: usize,
+    pub header: usize,
+    pub pdu: usize,
+    pub list: usize,
+    pub batch: usize,
+}
+
+// The header of a PDU that was read, as C sees it: number 0, every field, and the lengths of the header and the PDU.
+// Document 01, "Header, byte by byte", and "Sizes".
+pub fn shown_header(header: Header) -> MantHeader
     ensures { λ r. ⌜ r ≡ shownHeader header ⌝ }
 {
     let destination = header.destination;
@@ -42,7 +110,8 @@ pub(crate) fn shown_header(header: Header) -> MantHeader
     }
 }
 
-pub(crate) fn refused_header(number: u8) -> MantHeader
+// A refusal of reading, as C sees it: its number, and 0 and false in every field. Document 01, "Numbers answered", 1 to 6.
+pub fn refused_header(number: u8) -> MantHeader
     ensures { λ r. ⌜ r ≡ refusedHeader number ⌝ }
 {
     MantHeader {
@@ -95,7 +164,8 @@ fn destination_from_c(present: bool, address: u16) -> Destination
     }
 }
 
-pub(crate) fn fresh_from_c(settings: MantFresh) -> origin::Settings
+// What C asks of a fresh PDU, as origination takes it. An address without its flag does not count. Document 01, "Origination".
+pub fn fresh_from_c(settings: MantFresh) -> origin::Settings
     ensures { λ r. ⌜ r ≡ freshFromC settings ⌝ }
 {
     origin::Settings {
@@ -123,7 +193,9 @@ fn number_alone(number: u8) -> Answer
     }
 }
 
-pub(crate) fn step_in_c(cursor: Cursor, stepped: Stepped) -> MantStep
+// What one step of a walk from a cursor found, as C sees it. After the last PDU, and where the batch is too long, the cursor stays and has ended.
+// Document 01, "A batch".
+pub fn step_in_c(cursor: Cursor, stepped: Stepped) -> MantStep
     ensures { λ r. ⌜ r ≡ stepInC cursor stepped ⌝ }
 {
     let ended = Cursor {
@@ -149,7 +221,8 @@ pub(crate) fn step_in_c(cursor: Cursor, stepped: Stepped) -> MantStep
     }
 }
 
-pub(crate) fn bound_in_c(bound: Bound) -> MantBound
+// A bound, as C sees it; number 10 for a hop limit above 7. Document 01, "Checked by hand", the bound of demand 3.
+pub fn bound_in_c(bound: Bound) -> MantBound
     ensures { λ r. ⌜ r ≡ boundInC bound ⌝ }
 {
     match bound {
@@ -168,5 +241,21 @@ pub(crate) fn bound_in_c(bound: Bound) -> MantBound
             too_large: false,
             value: 0,
         },
+    }
+}
+
+// The sizes that the layer keeps to. Document 01, "Sizes", and for the list's values "Numbers answered", 22.
+pub fn limits_in_c() -> MantLimits
+    ensures { λ r. ⌜ r ≡ limitsInC ⌝ }
+{
+    let limits = pdu::Header::limits();
+    MantLimits {
+        fixed: limits.fixed,
+        payload: limits.payload,
+        path: limits.path,
+        header: limits.header,
+        pdu: limits.pdu,
+        list: lists::VALUE_LIMIT,
+        batch: batch::Cursor::BATCH_LIMIT,
     }
 }
