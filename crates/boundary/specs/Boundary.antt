@@ -1,6 +1,5 @@
 -- The answers of the layer as the values that C sees where the layer has an enum, and what C gives for one. `Written`, a node's `Settings` and
--- `Answer`
--- and a walk's `Cursor` go through as they are. What the values mean is defined below this crate.
+-- `Answer` and a walk's `Cursor` go through as they are. What the values mean is defined below this crate.
 use Prim.Native.Nat.{ℕ}
 use mathlib.Core.Bool.{Bool, true, false, cond}
 use mathlib.Core.List.{List, []}
@@ -135,6 +134,5 @@ limitsInC =
       header = headerLimit;
       pdu = pduLimit;
       list = valueLimit;
-      batch =
-          batchLimit;
+      batch = batchLimit;
     }
