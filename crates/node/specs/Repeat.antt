@@ -1,7 +1,7 @@
 -- Document 01, "One PDU at one node", its last paragraph: the repeated PDU is the received one with these bytes changed. Nothing else differs.
 use Prim.Native.Nat.{ℕ, _+_, _*_, _-_}
 use mathlib.Core.Bool.{cond}
-use mathlib.Core.List.{List, [], _∷_, _++_}
+use mathlib.Core.List.{List, _++_}
 use lib.Dec.{eqb}
 use lib.ListN.{take, set}
 use Rattle.octets.specs.Numbers.{flag}

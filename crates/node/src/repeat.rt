@@ -2,10 +2,9 @@
 use decision::Settings;
 use pdu::Header;
 ghost use mathlib.Core.Path.{_≡_};
-ghost use mathlib.Core.Bool.{Bool, true, cond};
+ghost use mathlib.Core.Bool.{true, cond};
 ghost use mathlib.Core.List.{List};
-ghost use Prim.Native.Nat.{_+_, _-_, _*_, _<_, _≤_};
-ghost use lib.Dec.{ltb};
+ghost use Prim.Native.Nat.{_+_, _-_, _<_, _≤_};
 ghost use lib.ListN.{length, set};
 ghost use Rattle.octets.specs.Octets.{wordBytes, over, placed, placeAfter};
 ghost use Rattle.pdu.specs.declared.Reading.the-variants.{Pdu};
@@ -74,9 +73,10 @@ fn set_byte(output: &mut [u8], place: usize, byte: u8)
 // With the path bit: the count one higher, and the own address after the last path entry.
 fn put_own(output: &mut [u8], place: usize, own: u16, header: Header) -> usize
     requires { ⌜ (header .«path_bit» ≡ true → (header .«path_count» < pathLimit) × (pathStart header ≤ length (now output))) ⌝ }
-    ensures { λ r. ⌜ (r ≡ cond (header .«path_bit») (placeAfter (set (now (output .entry)) (pathStart header - 1) (header .«path_count» + 1)) place (wordBytes own)) place)
-        × (now (output .exit)
-        ≡ cond (header .«path_bit») (placed (set (now (output .entry)) (pathStart header - 1) (header .«path_count» + 1)) place (wordBytes own)) (now (output .entry))) ⌝ }
+    ensures { λ r. ⌜ (r ≡ cond (header .«path_bit»)
+        (placeAfter (set (now (output .entry)) (pathStart header - 1) (header .«path_count» + 1)) place (wordBytes own)) place)
+        × (now (output .exit) ≡ cond (header .«path_bit»)
+        (placed (set (now (output .entry)) (pathStart header - 1) (header .«path_count» + 1)) place (wordBytes own)) (now (output .entry))) ⌝ }
 {
     if header.path_bit {
         let count_place = header.path_start() - 1;

@@ -1,6 +1,6 @@
 -- Document 01, "Sizes", and the lengths that follow from a header's fields.
 use Prim.Native.Nat.{ℕ, _+_, _*_}
-use mathlib.Core.Bool.{Bool, cond}
+use mathlib.Core.Bool.{cond}
 use lib.Dec.{eqb}
 use Rattle.octets.specs.Numbers.{flag}
 use Rattle.pdu.specs.declared.Destination.{Destination}

@@ -1,9 +1,8 @@
 use mathlib.Core.Path.{_≡_, sym, ap, _∙_}
 use denote.Ref.{now}
-use Rattle.pdu.specs.declared.Reading.the-variants.{Pdu}
-use Rattle.pdu.specs.Reading.{readOf, readingNumber}
+use Rattle.pdu.specs.Reading.{readingNumber}
 use Rattle.lists.specs.Lists.{listsOf, listFault}
-use Rattle.decision.specs.Decision.{nodeOf, dropFault}
+use Rattle.decision.specs.Decision.{nodeOf}
 use Rattle.node.proofs.Answering.{fault-given, refusal-given, stopped, is-readable, refusal-number}
 use borrow.Author.Needs.{needs}
 use Rattle.node.proofs.hear.Statement.{statement}

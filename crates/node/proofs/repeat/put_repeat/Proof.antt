@@ -1,10 +1,7 @@
-use Prim.Native.Nat.{_≤_}
 use mathlib.Core.Path.{refl, sym}
 use denote.Ref.{now}
 use lib.Seq.{length-take-le}
-use Rattle.pdu.specs.Sizes.{pduLimit}
 use Rattle.pdu.proofs.Inversion.{shown}
-use Rattle.node.specs.Repeat.{repeatedLength}
 use Rattle.node.proofs.Repeating.{ready, ready-small, copied-out}
 use native.Mathlib.Omega.{arith}
 use borrow.Author.Needs.{needs}
