@@ -1,0 +1,57 @@
+// The verbs without an output. Each function prints the numbers answered, and answers whether they are those expected.
+use crate::line::Line;
+use crate::telling::list;
+use crate::telling::tell;
+use crate::telling::wide;
+use crate::verb;
+use bound::Bound;
+
+pub(crate) fn ask(line: Line, input: &[u8], values: &[u16]) -> bool {
+    let verb = line.verb;
+    if verb == verb::VIEW {
+        return views(line, input);
+    }
+    if verb == verb::BOUND {
+        return bounds(line);
+    }
+    if verb == verb::LISTS {
+        return finds_fault(line, values);
+    }
+    reads(line, input)
+}
+
+fn reads(line: Line, input: &[u8]) -> bool {
+    if line.verb == verb::READ {
+        return tell(line, 0o2, 0, pdu::reading_number(pdu::read(input)) as u64);
+    }
+    tell(line, 0o2, 0, job::reading_number(job::read(input)) as u64)
+}
+
+fn views(line: Line, input: &[u8]) -> bool {
+    let said = view::summary_of(input);
+    let header = said.header;
+    let source = header.source as u64;
+    let pdu_id = header.pdu_id as u64;
+    tell(line, 0o22222, 0, said.number as u64)
+        & tell(line, 0o22222, 1, said.size as u64)
+        & tell(line, 0o22222, 2, source)
+        & tell(line, 0o22222, 3, pdu_id)
+        & tell(line, 0o22222, 4, wide(header.path_count))
+}
+
+// The bound is never 0, so that 0 stands for an answer without one.
+fn bounds(line: Line) -> bool {
+    let bound = bound::most_transmissions(line.asked(0) as u64, line.asked(1) as u64);
+    match bound {
+        Bound::Exactly(number) => tell(line, 0o2, 0, number),
+        _ => tell(line, 0o2, 0, 0),
+    }
+}
+
+// The first list and the last; those between are empty.
+fn finds_fault(line: Line, values: &[u16]) -> bool {
+    let first = list(values, 0, line.list);
+    let last = list(values, line.list, line.end);
+    let none = list(values, 0, 0);
+    tell(line, 0o2, 0, lists::fault(first, none, none, last) as u64)
+}

@@ -1,0 +1,20 @@
+// The verbs, each by its first letter.
+pub(crate) const BOUND: usize = b'b' as usize;
+
+pub(crate) const DELIVER: usize = b'd' as usize;
+
+pub(crate) const HEAR: usize = b'h' as usize;
+
+pub(crate) const JOB: usize = b'j' as usize;
+
+pub(crate) const LISTS: usize = b'l' as usize;
+
+pub(crate) const ORIGINATE: usize = b'o' as usize;
+
+pub(crate) const READ: usize = b'r' as usize;
+
+pub(crate) const STEP: usize = b's' as usize;
+
+pub(crate) const VIEW: usize = b'v' as usize;
+
+pub(crate) const WRITE: usize = b'w' as usize;
