@@ -5,16 +5,24 @@
  * definitions in the crates' specs/ folders; this header only declares it. No call keeps anything between calls, allocates, or does input or output.
  * The library needs memcpy and memset, and about 5 KB of stack.
  *
- * Slices. A slice is passed as a pointer and then a length, which counts elements: bytes, or uint16_t values of a list. Only so many elements
- * are ever read or written.
+ * Slices. A slice is passed as a pointer and then a length, which counts elements: bytes, or uint16_t values of a list or words of a table. Only so
+ * many elements are ever read or written.
  *
  * What a caller owes, since no code can look whether it holds. A pointer with a length other than 0 points to that many elements, aligned for them
- * (a list at an even address), which nothing else changes during the call; with length 0 it may be anything, NULL too, and is not followed. An
- * output shares no memory with another slice of the call. Structs are those declared here, passed by value and so aligned by the compiler, and a bool
- * in them holds 0 or 1, as C's does unless it was written by other means, such as memcpy.
+ * (a list or a table at an even address), which nothing else changes during the call; with length 0 it may be anything, NULL too, and is not followed.
+ * An output shares no memory with another slice of the call, nor does a table. Structs are those declared here, passed by value and so aligned by the
+ * compiler, and a bool in them holds 0 or 1, as C's does unless it was written by other means, such as memcpy.
  *
  * Output. It changes only where a PDU is written (number 0), or, at a node, where the repeat number is 0. It then begins with that PDU, and keeps
  * its bytes past the PDU's end. With every other number the output is left as it was. MANT_PDU_LIMIT bytes are room for every PDU.
+ *
+ * Table. The stations heard (document 02, W-201) are held in uint16_t words that the caller lends, and keeps from call to call: how many are held, then
+ * four words for each station, by rising address: its address, the PDUs read from it, those of them that echo dropped, and one more than its shortest
+ * path count, 0 while that is absent. Words of which the first is 0 are an empty table, whatever stands behind it. MANT_STATION_WORDS words have room
+ * for MANT_STATION_LIMIT stations, and more words for no more; fewer have room for (words - 1) / 4, and fewer than 5 for none. A first word above the
+ * room is a full table's. Where a call changes the table it writes the first word and the words of the stations then held, and keeps those behind
+ * them; where it does not, no word changes. Words put together by hand get an answer too: they are held and listed as they stand there, but by address
+ * stations are looked for as if the addresses rose, so that where they do not, one that stands there may not be found.
  *
  * Numbers. Every refusal has one: enum MantNumber below, and mant_meaning gives its words.
  */
@@ -67,7 +75,9 @@ enum MantNumber {
     MANT_JOB_FLAGS = 51,                    /* bit 6 or 7 of the job's flags is set */
     MANT_JOB_LIST_COUNT = 52,               /* a list of the job has more than 64 ranges */
     MANT_JOB_LEFT_OVER = 53,                /* the job goes on after its batch */
-    MANT_BATCH_TOO_LONG = 54                /* the batch has more than 16,384 bytes */
+    MANT_BATCH_TOO_LONG = 54,               /* the batch has more than 16,384 bytes */
+    MANT_TABLE_FULL = 55,                   /* a new station, and the table holds as many as it has room for */
+    MANT_NOT_HELD = 56                      /* no such station is held */
 };
 
 /* No number: what delivery and repeat hold in a step that has no answer, MANT_ENDED. */
@@ -110,6 +120,8 @@ static inline const char *mant_meaning(uint8_t number)
     case MANT_JOB_LIST_COUNT: return "a list of the job has more than 64 ranges";
     case MANT_JOB_LEFT_OVER: return "the job goes on after its batch";
     case MANT_BATCH_TOO_LONG: return "the batch has more than 16,384 bytes";
+    case MANT_TABLE_FULL: return "a new station, and the table holds as many as it has room for";
+    case MANT_NOT_HELD: return "no such station is held";
     default: return "no such number";
     }
 }
@@ -122,6 +134,10 @@ static inline const char *mant_meaning(uint8_t number)
 #define MANT_PDU_LIMIT 4615
 #define MANT_LIST_LIMIT 128
 #define MANT_BATCH_LIMIT 16384
+
+/* How many stations a table holds at most, and how many words are room for so many. */
+#define MANT_STATION_LIMIT 128
+#define MANT_STATION_WORDS 513
 
 /* The header of a PDU, in the order of its bits. A destination, PDU ID or path count that the PDU does not have is 0. With a number other than 0
    every field after it is 0 or false. */
@@ -205,6 +221,35 @@ typedef struct MantStep {
     MantCursor next;
 } MantStep;
 
+/* A station that was heard. The counts stop at 65,535, each by itself. */
+typedef struct MantStation {
+    uint16_t address;
+    uint16_t reads;           /* the PDUs read from it */
+    uint16_t echoes;          /* those of them that echo dropped */
+    bool has_path;            /* false: none of them had the path bit, and so there is no shortest path count */
+    uint16_t shortest_path;   /* the least path count of those that had it; 0 where there is none */
+} MantStation;
+
+/* What asking for a station answers: number 0 and the station, or 56 and a station that is all 0. */
+typedef struct MantFound {
+    uint8_t number;
+    MantStation station;
+} MantFound;
+
+/* What a table counts of a PDU that was read. */
+typedef struct MantHeard {
+    uint16_t source;
+    bool echo;                /* the node dropped it by echo: it answered 30 */
+    bool path_bit;            /* false: it has no path, and `path_count` does not count */
+    uint8_t path_count;
+} MantHeard;
+
+/* What hearing and counting answers: the node's answer, which does not depend on the table, and the table's number, 0 or 55. */
+typedef struct MantListened {
+    MantAnswer answer;
+    uint8_t table_number;
+} MantListened;
+
 /* A bound. Number 10: the hop limit is above 7. Too large: 64 bits do not hold the value. In both the value is 0. */
 typedef struct MantBound {
     uint8_t number;
@@ -235,6 +280,10 @@ MANT_SIZE(MantNode, 8);
 MANT_SIZE(MantAnswer, 40);
 MANT_SIZE(MantCursor, 16);
 MANT_SIZE(MantStep, 64);
+MANT_SIZE(MantStation, 10);
+MANT_SIZE(MantFound, 12);
+MANT_SIZE(MantHeard, 6);
+MANT_SIZE(MantListened, 48);
 MANT_SIZE(MantBound, 16);
 MANT_SIZE(MantLimits, 56);
 #undef MANT_SIZE
@@ -287,6 +336,40 @@ MantStep mant_step(MantNode settings, const uint16_t *source_pass, size_t source
                    size_t source_reject_length, const uint16_t *destination_pass, size_t destination_pass_length,
                    const uint16_t *destination_reject, size_t destination_reject_length, const uint8_t *batch, size_t batch_length,
                    MantCursor cursor, uint8_t *output, size_t output_length);
+
+/* How many stations the table has room for, 0 to 128, and how many it holds. Document 02, W-201, as all that take a table. */
+size_t mant_stations_capacity(const uint16_t *table, size_t table_words);
+size_t mant_stations_held(const uint16_t *table, size_t table_words);
+
+/* The station at a place of the listing by rising address, the lowest at 0; 56 at every place from mant_stations_held on. */
+MantFound mant_station_at(const uint16_t *table, size_t table_words, size_t place);
+
+/* The station of an address, or 56 where it is not held. */
+MantFound mant_station_of(const uint16_t *table, size_t table_words, uint16_t address);
+
+/* Removes the station of an address. Answers 0, or 56 where it is not held, and leaves the table alone then. Heard again later, a station that was
+   removed starts anew. */
+uint8_t mant_remove_station(uint16_t *table, size_t table_words, uint16_t address);
+
+/* Counts a PDU that was read: one more read of its source, one more echo where it was one, and the smaller of the shortest path count and its own
+   where it has the path bit. A source that is not held is taken in. Answers 0, or 55 where it is to be taken in while as many stations are held as the
+   table has room for, and leaves the table alone then; a station that is held is never refused. The shortest path count is still followed where a
+   count has come to 65,535. */
+uint8_t mant_count_heard(uint16_t *table, size_t table_words, MantHeard heard);
+
+/* Counts the PDU at the start of the received bytes by what a node answered for it, as mant_count_heard does: delivery number 30 is an echo. Where
+   the answer says that no PDU was read, `taken` is 0: it answers 0 and leaves the table alone. It is for a walk, after each step: in the loop above,
+   with received = batch + (s.next.place - s.answer.taken) and the bytes from there to the batch's end; a step without an answer counts nothing. Of an
+   answer that is not the node's for these bytes, what they hold is counted. */
+uint8_t mant_count_answer(uint16_t *table, size_t table_words, const uint8_t *received, size_t received_length, MantAnswer answer);
+
+/* What mant_hear answers and writes to the output, and the PDU counted in the table as by mant_count_answer, so that no PDU is forgotten. Every PDU
+   that could be read is counted, also one that a list then stops and one for whose repeat the output is too short. With table number 55 the PDU is
+   delivered and repeated all the same. */
+MantListened mant_hear_and_count(MantNode settings, const uint16_t *source_pass, size_t source_pass_length, const uint16_t *source_reject,
+                                 size_t source_reject_length, const uint16_t *destination_pass, size_t destination_pass_length,
+                                 const uint16_t *destination_reject, size_t destination_reject_length, const uint8_t *received,
+                                 size_t received_length, uint8_t *output, size_t output_length, uint16_t *table, size_t table_words);
 
 /* The most transmissions that one fresh PDU with a path and this hop limit can cause among so many repeating nodes, its own counted. Echo is on at
    each node, and no two have the same address. */

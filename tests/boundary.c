@@ -49,6 +49,19 @@ static void null_slices(void)
     CHECK(mant_step(node, NO_LISTS, NULL, 0, (MantCursor){0, false}, NULL, 0).kind == MANT_ENDED);
 }
 
+static void null_table(void)
+{
+    const MantHeard heard = {.source = 1000};
+    MantFound f = mant_station_at(NULL, 0, 0);
+    MantListened l = mant_hear_and_count(node, NO_LISTS, example, 20, NULL, 0, NULL, 0);
+    CHECK(mant_stations_capacity(NULL, 0) == 0 && mant_stations_held(NULL, 0) == 0);
+    CHECK(f.number == 56 && f.station.address == 0 && f.station.reads == 0 && !f.station.has_path && f.station.shortest_path == 0);
+    CHECK(mant_station_of(NULL, 0, 0).number == 56 && mant_remove_station(NULL, 0, 0) == 56);
+    CHECK(mant_count_heard(NULL, 0, heard) == 55);
+    CHECK(mant_count_answer(NULL, 0, NULL, 0, (MantAnswer){.delivery = MANT_TOO_SHORT}) == 0);
+    CHECK(l.answer.delivery == MANT_REPEAT_OUTPUT_TOO_SHORT && l.answer.taken == 20 && l.table_number == 55);
+}
+
 static void reading_and_writing(void)
 {
     const uint8_t every[15] = {0x0F, 0xBF, 0xF0, 0x01, 1, 2, 3, 4, 5, 2, 6, 7, 8, 9, 10};
@@ -110,6 +123,71 @@ static void lists_and_walk(void)
     CHECK(s.kind == MANT_REFUSED && s.answer.delivery == MANT_BATCH_TOO_LONG && s.answer.repeat == 54 && s.answer.taken == 0 && s.next.place == 3);
 }
 
+static bool is_station(MantFound found, uint16_t address, uint16_t reads, uint16_t echoes, bool has_path, uint16_t shortest_path)
+{
+    MantStation s = found.station;
+    return found.number == 0 && s.address == address && s.reads == reads && s.echoes == echoes && s.has_path == has_path
+           && s.shortest_path == shortest_path;
+}
+
+static void hearing_and_counting(void)
+{
+    uint16_t table[MANT_STATION_WORDS] = {0};
+    uint8_t output[MANT_PDU_LIMIT], again[MANT_PDU_LIMIT];
+    const uint8_t without_path[6] = {0, 0, 0, 0, 0x03, 0xE8};
+    MantListened l = mant_hear_and_count(node, NO_LISTS, without_path, 6, output, sizeof output, table, MANT_STATION_WORDS);
+    CHECK(l.answer.delivery == 0 && l.answer.repeat == MANT_HOP_LIMIT_0 && l.answer.delivered_place == 6 && l.answer.taken == 6 && l.table_number == 0);
+    CHECK(is_station(mant_station_of(table, MANT_STATION_WORDS, 1000), 1000, 1, 0, false, 0));
+    l = mant_hear_and_count(node, NO_LISTS, example, 20, output, sizeof output, table, MANT_STATION_WORDS);
+    CHECK(l.answer.delivery == 39 && l.answer.repeat == 0 && l.answer.repeated_length == 22 && l.answer.taken == 20 && l.table_number == 0);
+    CHECK(is_station(mant_station_at(table, MANT_STATION_WORDS, 0), 1000, 2, 0, true, 0));
+    MantAnswer a = mant_hear(node, NO_LISTS, output, 22, again, sizeof again);
+    CHECK(a.delivery == MANT_ECHO && mant_count_answer(table, MANT_STATION_WORDS, output, 22, a) == 0);
+    CHECK(is_station(mant_station_of(table, MANT_STATION_WORDS, 1000), 1000, 3, 1, true, 0));
+    l = mant_hear_and_count(node, NO_LISTS, example, 19, output, sizeof output, table, MANT_STATION_WORDS);
+    CHECK(l.answer.delivery == MANT_PAYLOAD_CUT && l.table_number == 0 && mant_station_of(table, MANT_STATION_WORDS, 1000).station.reads == 3);
+    CHECK(mant_remove_station(table, MANT_STATION_WORDS, 1001) == 56 && mant_stations_held(table, MANT_STATION_WORDS) == 1);
+    CHECK(mant_remove_station(table, MANT_STATION_WORDS, 1000) == 0 && mant_stations_held(table, MANT_STATION_WORDS) == 0);
+    CHECK(mant_station_of(table, MANT_STATION_WORDS, 1000).number == 56);
+}
+
+static void a_full_table(void)
+{
+    uint16_t table[MANT_STATION_WORDS + 8] = {0}, before[MANT_STATION_WORDS + 8];
+    const size_t words = MANT_STATION_WORDS + 4;
+    MantHeard heard = {.echo = true, .path_bit = true, .path_count = 255};
+    bool taken = true, rising = true;
+    table[words] = 77;
+    for (uint16_t i = MANT_STATION_LIMIT; i > 0; i--) {
+        heard.source = (uint16_t)(500 * i);
+        taken = taken && mant_count_heard(table, words, heard) == 0;
+    }
+    for (size_t i = 0; i < MANT_STATION_LIMIT; i++) {
+        rising = rising && is_station(mant_station_at(table, words, i), (uint16_t)(500 * (i + 1)), 1, 1, true, 255);
+    }
+    CHECK(taken && rising && mant_stations_held(table, words) == 128 && mant_stations_capacity(table, words) == 128);
+    CHECK(mant_station_at(table, words, 128).number == 56 && mant_station_at(table, words, SIZE_MAX).number == 56);
+    memcpy(before, table, sizeof table);
+    heard.source = 501;
+    CHECK(mant_count_heard(table, words, heard) == 55 && memcmp(before, table, sizeof table) == 0);
+    heard = (MantHeard){.source = 500};
+    CHECK(mant_count_heard(table, words, heard) == 0 && is_station(mant_station_of(table, words, 500), 500, 2, 1, true, 255));
+    CHECK(table[MANT_STATION_WORDS] == 0 && table[words] == 77);
+}
+
+static void short_tables(void)
+{
+    uint16_t table[10] = {9, 5, 65535, 65534, 0, 7, 1, 1, 4, 3};
+    const MantHeard heard = {.source = 5, .echo = true, .path_bit = true, .path_count = 3};
+    CHECK(mant_stations_capacity(table, 10) == 2 && mant_stations_held(table, 10) == 2 && mant_stations_held(table, 8) == 1);
+    CHECK(mant_stations_capacity(table, 4) == 0 && mant_stations_held(table, 4) == 0 && mant_count_heard(table, 4, heard) == 55);
+    CHECK(is_station(mant_station_of(table, 10, 7), 7, 1, 1, true, 3));
+    CHECK(mant_count_heard(table, 10, heard) == 0 && is_station(mant_station_of(table, 10, 5), 5, 65535, 65535, true, 3));
+    CHECK(mant_count_heard(table, 10, heard) == 0 && is_station(mant_station_of(table, 10, 5), 5, 65535, 65535, true, 3));
+    CHECK(mant_remove_station(table, 10, 5) == 0 && table[0] == 1 && is_station(mant_station_at(table, 10, 0), 7, 1, 1, true, 3));
+    CHECK(table[5] == 7 && table[8] == 4 && table[9] == 3);
+}
+
 static void bounds_and_limits(void)
 {
     MantLimits l = mant_limits();
@@ -125,9 +203,13 @@ static void bounds_and_limits(void)
 int main(void)
 {
     null_slices();
+    null_table();
     reading_and_writing();
     origination();
     lists_and_walk();
+    hearing_and_counting();
+    a_full_table();
+    short_tables();
     bounds_and_limits();
     printf("%d passed, %d failed\n", passed, failed);
     return failed != 0;

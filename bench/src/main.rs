@@ -1,6 +1,7 @@
 //! Measures the library beside the Rust reading, a plain C version and memcpy,
 //! and prints a Markdown table of ns for one run.
 
+mod counting;
 mod inputs;
 mod plain;
 #[cfg(test)]
@@ -21,6 +22,7 @@ const ROOM: usize = 16_384;
 
 fn main() {
     check_plain();
+    counting::check_plain();
     println!(
         "ns for one run, best / median of {ROUNDS} rounds at {} pairs of offsets within a page\n",
         OFFSETS.len()
@@ -46,7 +48,21 @@ fn main() {
         "walk, full batch of 4 PDUs",
         walking(&inputs::batch_of_large()),
     );
+    row(
+        "count a PDU of a held station, full table",
+        counting::counting(),
+    );
+    row(
+        "hear and count, example, full table",
+        counting::hearing_and_counting(),
+    );
     println!("\nHow the node's cost grows:\n");
+    growth(&example);
+    println!("\nThe Rust reading is rust/reference. memcpy copies the PDU that is read, written or repeated, or every PDU of the batch, one by one, or a station's words. Ratios are of the best rounds.");
+}
+
+/// The rows that show how the node's cost grows.
+fn growth(example: &[u8]) {
     heading();
     for bytes in [0, 256, 1_024, 4_095] {
         let pdu = inputs::pdu(0, &vec![7; bytes]);
@@ -59,15 +75,16 @@ fn main() {
     for ranges in [1, 16, 64] {
         row(
             &format!("hear, ranges in each of four lists: {ranges}"),
-            hearing_by_lists(&example, ranges),
+            hearing_by_lists(example, ranges),
         );
     }
-    println!("\nThe Rust reading is rust/reference. memcpy copies the PDU that is read, written or repeated, or every PDU of the batch, one by one. Ratios are of the best rounds.");
 }
 
 /// The first two lines of a table.
 fn heading() {
-    println!("| case | library | Rust reading | plain C | memcpy | library : plain C | library : Rust |");
+    println!(
+        "| case | library | Rust reading | plain C | memcpy | library : plain C | library : Rust |"
+    );
     println!("|---|---:|---:|---:|---:|---:|---:|");
 }
 

@@ -1,11 +1,36 @@
 //! plain.c, called as the library is.
 
-use mant::raw::{Answer, Fresh, Header, Lists, Node, Written};
+use mant::raw::{
+    Answer, Fresh, Header, Heard, Listened, Lists, Node, Station, Written, STATION_LIMIT,
+};
 
 #[repr(C)]
 struct List {
     values: *const u16,
     length: usize,
+}
+
+/// The stations heard, by rising address.
+#[repr(C)]
+#[derive(Clone, Debug)]
+pub struct Table {
+    held: usize,
+    stations: [Station; STATION_LIMIT],
+}
+
+impl Table {
+    /// A table that holds none.
+    pub fn empty() -> Table {
+        Table {
+            held: 0,
+            stations: [Station::default(); STATION_LIMIT],
+        }
+    }
+
+    /// The stations that are held.
+    pub fn stations(&self) -> &[Station] {
+        &self.stations[..self.held]
+    }
 }
 
 #[rustfmt::skip]
@@ -16,6 +41,10 @@ extern "C" {
     fn plain_walk(
         node: Node, lists: *const List, batch: *const u8, length: usize, output: *mut u8, output_length: usize, end: *mut usize,
     ) -> usize;
+    fn plain_count(table: *mut Table, heard: Heard) -> u8;
+    fn plain_hear_and_count(
+        node: Node, lists: *const List, received: *const u8, length: usize, output: *mut u8, output_length: usize, table: *mut Table,
+    ) -> Listened;
 }
 
 /// `plain_read`.
@@ -75,6 +104,37 @@ pub fn walk(node: Node, lists: Lists, batch: &[u8], output: &mut [u8]) -> (usize
         )
     };
     (count, end)
+}
+
+/// `plain_count`.
+#[inline]
+pub fn count(table: &mut Table, heard: Heard) -> u8 {
+    // SAFETY: the table is laid out as in C and borrowed alone.
+    unsafe { plain_count(table, heard) }
+}
+
+/// `plain_hear_and_count`.
+#[inline]
+pub fn hear_and_count(
+    node: Node,
+    lists: Lists,
+    received: &[u8],
+    output: &mut [u8],
+    table: &mut Table,
+) -> Listened {
+    let lists = of(lists);
+    // SAFETY: as in the two above.
+    unsafe {
+        plain_hear_and_count(
+            node,
+            lists.as_ptr(),
+            received.as_ptr(),
+            received.len(),
+            output.as_mut_ptr(),
+            output.len(),
+            table,
+        )
+    }
 }
 
 #[inline]

@@ -4,6 +4,7 @@
 use crate::plain;
 use generator::{four_lists, origination, output, payload_to_send, received, room, Random};
 use mant::raw;
+use reference::Stations;
 
 const INPUTS: usize = 20_000;
 
@@ -74,5 +75,34 @@ fn plain_hears_as_the_reference_does() {
         let lengths = (answer.repeated_length, answer.taken);
         assert_eq!(lengths, (wanted.repeated_length, wanted.taken));
         assert_eq!(one, other);
+    }
+}
+
+#[test]
+fn plain_counts_as_the_reference_does() {
+    let mut random = Random::from_seed(4);
+    let mut plain = plain::Table::empty();
+    let mut stations = Stations::empty();
+    let mut refused = 0;
+    for _ in 0..INPUTS {
+        let heard = raw::Heard {
+            source: 7 * random.below(140) as u16,
+            echo: random.one_in(4),
+            path_bit: random.flag(),
+            path_count: random.byte(),
+        };
+        let path_count = heard.path_bit.then_some(u16::from(heard.path_count));
+        let wanted = stations.count(heard.source, heard.echo, path_count);
+        assert_eq!(plain::count(&mut plain, heard), wanted);
+        refused += usize::from(wanted == 55);
+    }
+    assert!(refused > 100, "{refused}");
+    let listed = stations.list();
+    assert_eq!(plain.stations().len(), listed.len());
+    for (plain, wanted) in plain.stations().iter().zip(listed) {
+        let counts = (plain.address, plain.reads, plain.echoes);
+        assert_eq!(counts, (wanted.address, wanted.reads, wanted.echoes));
+        let shortest = plain.has_path.then_some(plain.shortest_path);
+        assert_eq!(shortest, wanted.shortest_path);
     }
 }

@@ -11,8 +11,12 @@ pub mod Text
 pub mod Lines
 pub mod Job
 pub mod Run
+pub mod Stations
+pub mod Counting
+pub mod Listening
 pub mod Bound
 pub mod Boundary
 pub mod Mant
 pub mod Demands
+pub mod StationsHeard
 pub mod Examples

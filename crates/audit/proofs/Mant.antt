@@ -1,7 +1,7 @@
 -- Every public function of `mant`: its promise asks nothing of the caller and determines what the caller sees.
 use mathlib.Core.Path.{sym, _∙_}
 use denote.Ref.{now}
-use Rattle.audit.specs.Promise.{Promised, PromisedWithOutput}
+use Rattle.audit.specs.Promise.{both, Promised, PromisedWithOutput}
 use Rattle.mant.proofs.mant_read.Reads as mant-read-reads
 use Rattle.mant.proofs.mant_read.Kinds as mant-read-kinds
 use Rattle.mant.proofs.mant_path_address.Reads as mant-path-address-reads
@@ -26,6 +26,22 @@ use Rattle.mant.proofs.mant_most_bytes.Reads as mant-most-bytes-reads
 use Rattle.mant.proofs.mant_most_bytes.Kinds as mant-most-bytes-kinds
 use Rattle.mant.proofs.mant_limits.Reads as mant-limits-reads
 use Rattle.mant.proofs.mant_limits.Kinds as mant-limits-kinds
+use Rattle.mant.proofs.mant_stations_capacity.Reads as mant-stations-capacity-reads
+use Rattle.mant.proofs.mant_stations_capacity.Kinds as mant-stations-capacity-kinds
+use Rattle.mant.proofs.mant_stations_held.Reads as mant-stations-held-reads
+use Rattle.mant.proofs.mant_stations_held.Kinds as mant-stations-held-kinds
+use Rattle.mant.proofs.mant_station_at.Reads as mant-station-at-reads
+use Rattle.mant.proofs.mant_station_at.Kinds as mant-station-at-kinds
+use Rattle.mant.proofs.mant_station_of.Reads as mant-station-of-reads
+use Rattle.mant.proofs.mant_station_of.Kinds as mant-station-of-kinds
+use Rattle.mant.proofs.mant_remove_station.Reads as mant-remove-station-reads
+use Rattle.mant.proofs.mant_remove_station.Kinds as mant-remove-station-kinds
+use Rattle.mant.proofs.mant_count_heard.Reads as mant-count-heard-reads
+use Rattle.mant.proofs.mant_count_heard.Kinds as mant-count-heard-kinds
+use Rattle.mant.proofs.mant_count_answer.Reads as mant-count-answer-reads
+use Rattle.mant.proofs.mant_count_answer.Kinds as mant-count-answer-kinds
+use Rattle.mant.proofs.mant_hear_and_count.Reads as mant-hear-and-count-reads
+use Rattle.mant.proofs.mant_hear_and_count.Kinds as mant-hear-and-count-kinds
 
 pub mant-read : Promised 1 mant-read-kinds.ps mant-read-kinds.r mant-read-reads.Asked mant-read-reads.Post (λ κs x. x)
 mant-read = (λ κs a. tt, λ κs a x y s t p q. p ∙ sym q)
@@ -51,11 +67,13 @@ mant-list-fault = (λ κs a. tt, λ κs a x y s t p q. p ∙ sym q)
 pub mant-list-holds : Promised 1 mant-list-holds-kinds.ps mant-list-holds-kinds.r mant-list-holds-reads.Asked mant-list-holds-reads.Post (λ κs x. x)
 mant-list-holds = (λ κs a. tt, λ κs a x y s t p q. p ∙ sym q)
 
-pub mant-hear : PromisedWithOutput 3 mant-hear-kinds.ps mant-hear-kinds.r mant-hear-reads.Asked mant-hear-reads.Post
+pub mant-hear : PromisedWithOutput 3 mant-hear-kinds.ps mant-hear-kinds.r mant-hear-reads.Asked
+    mant-hear-reads.Post
     (λ κs s. now (s .1 .1 .1 .1 .1 .1 .0))
 mant-hear = (λ κs a. tt, λ κs a x y s t p q. (p .0 ∙ sym (q .0), p .1 ∙ sym (q .1)))
 
-pub mant-step : PromisedWithOutput 3 mant-step-kinds.ps mant-step-kinds.r mant-step-reads.Asked mant-step-reads.Post
+pub mant-step : PromisedWithOutput 3 mant-step-kinds.ps mant-step-kinds.r mant-step-reads.Asked
+    mant-step-reads.Post
     (λ κs s. now (s .1 .1 .1 .1 .1 .1 .1 .0))
 mant-step = (λ κs a. tt, λ κs a x y s t p q. (p .0 ∙ sym (q .0), p .1 ∙ sym (q .1)))
 
@@ -68,3 +86,45 @@ mant-most-bytes = (λ κs a. tt, λ κs a x y s t p q. p ∙ sym q)
 
 pub mant-limits : Promised 0 mant-limits-kinds.ps mant-limits-kinds.r mant-limits-reads.Asked mant-limits-reads.Post (λ κs x. x)
 mant-limits = (λ κs a. tt, λ κs a x y s t p q. p ∙ sym q)
+
+pub mant-stations-capacity : Promised 1 mant-stations-capacity-kinds.ps mant-stations-capacity-kinds.r mant-stations-capacity-reads.Asked
+    mant-stations-capacity-reads.Post (λ κs x. x)
+mant-stations-capacity = (λ κs a. tt, λ κs a x y s t p q. p ∙ sym q)
+
+pub mant-stations-held : Promised 1 mant-stations-held-kinds.ps mant-stations-held-kinds.r mant-stations-held-reads.Asked
+    mant-stations-held-reads.Post (λ κs x. x)
+mant-stations-held = (λ κs a. tt, λ κs a x y s t p q. p ∙ sym q)
+
+pub mant-station-at : Promised 1 mant-station-at-kinds.ps mant-station-at-kinds.r mant-station-at-reads.Asked
+    mant-station-at-reads.Post (λ κs x. x)
+mant-station-at = (λ κs a. tt, λ κs a x y s t p q. p ∙ sym q)
+
+pub mant-station-of : Promised 1 mant-station-of-kinds.ps mant-station-of-kinds.r mant-station-of-reads.Asked
+    mant-station-of-reads.Post (λ κs x. x)
+mant-station-of = (λ κs a. tt, λ κs a x y s t p q. p ∙ sym q)
+
+pub mant-remove-station : PromisedWithOutput 1 mant-remove-station-kinds.ps mant-remove-station-kinds.r mant-remove-station-reads.Asked
+    mant-remove-station-reads.Post
+    (λ κs s. now (s .0))
+mant-remove-station = (λ κs a. tt, λ κs a x y s t p q. (p .0 ∙ sym (q .0), p .1 ∙ sym (q .1)))
+
+pub mant-count-heard : PromisedWithOutput 1 mant-count-heard-kinds.ps mant-count-heard-kinds.r mant-count-heard-reads.Asked
+    mant-count-heard-reads.Post
+    (λ κs s. now (s .0))
+mant-count-heard = (λ κs a. tt, λ κs a x y s t p q. (p .0 ∙ sym (q .0), p .1 ∙ sym (q .1)))
+
+pub mant-count-answer : PromisedWithOutput 2 mant-count-answer-kinds.ps mant-count-answer-kinds.r mant-count-answer-reads.Asked
+    mant-count-answer-reads.Post
+    (λ κs s. now (s .0))
+mant-count-answer = (λ κs a. tt, λ κs a x y s t p q. (p .0 ∙ sym (q .0), p .1 ∙ sym (q .1)))
+
+pub mant-hear-and-count : PromisedWithOutput 4 mant-hear-and-count-kinds.ps mant-hear-and-count-kinds.r mant-hear-and-count-reads.Asked
+    mant-hear-and-count-reads.Post
+    (λ κs s. both (now (s .1 .1 .1 .1 .1 .1 .0)) (now (s .1 .1 .1 .1 .1 .1 .1 .0)))
+mant-hear-and-count = (
+  λ κs a. tt,
+  λ κs a x y s t p q. (
+    λ i. record { answer = (p .0 .0 ∙ sym (q .0 .0)) i; «table_number» = (p .1 ∙ sym (q .1)) i },
+    λ i. ((p .0 .1 ∙ sym (q .0 .1)) i, (p .2 ∙ sym (q .2)) i),
+  ),
+)

@@ -1,3 +1,4 @@
 pub mod Promise
 pub mod Demands
+pub mod StationsHeard
 pub mod Examples

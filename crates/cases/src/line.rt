@@ -211,6 +211,10 @@ impl Line {
 
 const HEARING: usize = 0o2222222_45_13_13_7;
 
+const COUNTING: usize = 0o2222_45_7;
+
+const FORGETTING: usize = 0o2_45_7;
+
 const TWO_LISTS: usize = 0o45_45_7;
 
 const ORIGINATION: usize = 0o2222222_13_13_7;
@@ -223,6 +227,8 @@ fn shape_of(verb: usize, asked: usize) -> usize {
         verb::BOUND => 0o22_7,
         verb::JOB | verb::READ | verb::VIEW => 0o13_7,
         verb::LISTS => TWO_LISTS,
+        verb::COUNT => COUNTING,
+        verb::FORGET => FORGETTING,
         verb::DELIVER | verb::HEAR | verb::STEP => HEARING,
         verb::ORIGINATE => pick(asked == ADDRESSED, ADDRESSED, ORIGINATION),
         verb::WRITE => 0o13_13_7,

@@ -1,4 +1,4 @@
-// Runs the cases that document 01 checks by hand and does not mark P, and an input for each number of its table. A case is a line of `stdin`. For each
+// Runs the cases that document 01 checks by hand and does not mark P, and an input for each number of its table and of the requests of document 02. A case is a line of `stdin`. For each
 // a line is printed: its name, the numbers answered, and `ok`, or `WRONG` where a number or a byte of the output is not what it should be, or where the
 // line can't be read, with the character from which it can't.
 //
@@ -21,8 +21,12 @@
 // | step      | as for hear, with a batch for the PDU                                                    | those of the first step: two, one, none  |
 // | job       | [job]                                                                                    | number                                   |
 // | bound     | nodes, hop limit                                                                         | most transmissions, or 0 without a bound |
+// | count     | source, echo, path bit, path count (a table's words)                                     | number, stations held, and of the source |
+// |           |                                                                                          | reads, echoes, has path, shortest path   |
+// | forget    | address (a table's words)                                                                | number, stations held                    |
 mod line;
 mod reading_verbs;
+mod table_verbs;
 mod telling;
 mod verb;
 mod writing_verbs;

@@ -1,5 +1,6 @@
 // The verbs without an output. Each function prints the numbers answered, and answers whether they are those expected.
 use crate::line::Line;
+use crate::table_verbs;
 use crate::telling::list;
 use crate::telling::tell;
 use crate::telling::wide;
@@ -16,6 +17,9 @@ pub(crate) fn ask(line: Line, input: &[u8], values: &[u16]) -> bool {
     }
     if verb == verb::LISTS {
         return finds_fault(line, values);
+    }
+    if (verb == verb::COUNT) | (verb == verb::FORGET) {
+        return table_verbs::ask(line, values);
     }
     reads(line, input)
 }

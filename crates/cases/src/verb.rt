@@ -1,7 +1,11 @@
 // The verbs, each by its first letter.
 pub(crate) const BOUND: usize = b'b' as usize;
 
+pub(crate) const COUNT: usize = b'c' as usize;
+
 pub(crate) const DELIVER: usize = b'd' as usize;
+
+pub(crate) const FORGET: usize = b'f' as usize;
 
 pub(crate) const HEAR: usize = b'h' as usize;
 

@@ -9,6 +9,11 @@ ghost use Rattle.decision.specs.Decision.{nodeOf};
 ghost use Rattle.node.specs.Answers.{Hears};
 ghost use Rattle.bound.specs.Bound.{bound, bytesBound};
 ghost use Rattle.bound.specs.Answer.{answer};
+ghost use Rattle.stations.specs.Table.{capacity, tableIn};
+ghost use Rattle.stations.specs.Asking.{stationOf, foundAt};
+ghost use Rattle.counting.specs.Counting.{countNumber, memoryAfterCount};
+ghost use Rattle.counting.specs.Removing.{removalNumber, memoryAfterRemoval};
+ghost use Rattle.listening.specs.Listening.{answerNumber, memoryAfterAnswer, Listens};
 ghost use Rattle.boundary.specs.Boundary.{headerInC, pathAddressIn, pathHas, freshFromC, StepsInC, boundInC, limitsInC};
 use batch::Cursor;
 use boundary::MantBound;
@@ -16,10 +21,13 @@ use boundary::MantFresh;
 use boundary::MantHeader;
 use boundary::MantLimits;
 use boundary::MantStep;
+use counting::Heard;
 use decision::Settings;
+use listening::Listened;
 use node::Answer;
 use pdu::Reading;
 use pdu::Written;
+use stations::Found;
 
 // The header of the PDU at the start of `bytes`, or the number, 1 to 6, of why there is none. Bytes after the PDU are not looked at.
 // Document 01, "Header, byte by byte", and "Numbers answered", 1 to 6.
@@ -196,4 +204,92 @@ pub extern "C" fn mant_limits() -> MantLimits
     ensures { λ r. ⌜ r ≡ limitsInC ⌝ }
 {
     boundary::limits_in_c()
+}
+
+// How many stations a memory has room for: 128 in 513 words or more, fewer in less. Document 02, W-201.
+#[no_mangle]
+pub extern "C" fn mant_stations_capacity(table: &[u16]) -> usize
+    ensures { λ r. ⌜ r ≡ capacity (now (table .entry)) ⌝ }
+{
+    stations::capacity(table)
+}
+
+// How many stations a table holds. A memory that says more than it has room for is a full table. Document 02, W-201.
+#[no_mangle]
+pub extern "C" fn mant_stations_held(table: &[u16]) -> usize
+    ensures { λ r. ⌜ r ≡ length (tableIn (now (table .entry))) ⌝ }
+{
+    stations::held(table)
+}
+
+// The station at a place of the rising order of addresses, the lowest at 0; 56 from the number held on. Document 02, W-201.
+#[no_mangle]
+pub extern "C" fn mant_station_at(table: &[u16], place: usize) -> Found
+    ensures { λ r. ⌜ r ≡ foundAt place (tableIn (now (table .entry))) ⌝ }
+{
+    stations::station_at(table, place)
+}
+
+// The station of an address, or 56 where it is not held. Document 02, W-201.
+#[no_mangle]
+pub extern "C" fn mant_station_of(table: &[u16], address: u16) -> Found
+    ensures { λ r. ⌜ r ≡ stationOf address (tableIn (now (table .entry))) ⌝ }
+{
+    stations::station_of(table, address)
+}
+
+// Removes the station of an address: 0, or 56 where it is not held and the table stays as it was. Document 02, W-201.
+#[no_mangle]
+pub extern "C" fn mant_remove_station(table: &mut [u16], address: u16) -> u8
+    ensures { λ r. ⌜ (r ≡ removalNumber address (tableIn (now (table .entry))))
+        × (now (table .exit) ≡ memoryAfterRemoval address (now (table .entry))) ⌝ }
+{
+    counting::remove(table, address)
+}
+
+// Counts a PDU that was read: 0, or 55 where its source is new while there is no room for another, and the table stays as it was. Document 02, W-201.
+#[no_mangle]
+pub extern "C" fn mant_count_heard(table: &mut [u16], heard: Heard) -> u8
+    ensures { λ r. ⌜ (r ≡ countNumber heard (now (table .entry))) × (now (table .exit) ≡ memoryAfterCount heard (now (table .entry))) ⌝ }
+{
+    counting::count(table, heard)
+}
+
+// Counts the PDU at the start of `received` by what a node answered for it, as after a step of a walk; nothing where no PDU was read. Answers the
+// table's number, 0 or 55. Of an answer that is not for these bytes, what they hold is counted. Document 02, W-201.
+#[no_mangle]
+pub extern "C" fn mant_count_answer(table: &mut [u16], received: &[u8], answer: Answer) -> u8
+    ensures { λ r. ⌜ (r ≡ answerNumber answer (now (received .entry)) (now (table .entry)))
+        × (now (table .exit) ≡ memoryAfterAnswer answer (now (received .entry)) (now (table .entry))) ⌝ }
+{
+    listening::count_answer(table, received, answer)
+}
+
+// What `mant_hear` answers and leaves, whatever the table holds; and the PDU counted in the table, if it could be read. The table's number stands beside
+// the answer. Document 02, W-201.
+#[no_mangle]
+pub extern "C" fn mant_hear_and_count<'a>(
+    settings: Settings,
+    source_pass: &'a [u16],
+    source_reject: &'a [u16],
+    destination_pass: &'a [u16],
+    destination_reject: &'a [u16],
+    received: &[u8],
+    output: &mut [u8],
+    table: &mut [u16],
+) -> Listened
+    ensures { λ r. ⌜ Listens (nodeOf settings (listsOf (now («source_pass» .entry)) (now («source_reject» .entry))
+        (now («destination_pass» .entry)) (now («destination_reject» .entry))))
+        (now (received .entry)) (now (output .entry)) (now (table .entry)) r (now (output .exit)) (now (table .exit)) ⌝ }
+{
+    listening::hear(
+        settings,
+        source_pass,
+        source_reject,
+        destination_pass,
+        destination_reject,
+        received,
+        output,
+        table,
+    )
 }

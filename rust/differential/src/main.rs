@@ -2,9 +2,11 @@
 //! generated inputs: every number, field, delivered part and output byte.
 //!
 //! `differential [seed [count [first]]]`: the seed of the inputs (1), how many
-//! (200,000), and the first (0), so that one input can be run alone.
+//! (214,000), and the first (0), so that one input can be run alone.
 
 mod bounding;
+mod by_hand;
+mod counting;
 mod flooding;
 mod hearing;
 mod listing;
@@ -12,6 +14,7 @@ mod originating;
 mod output;
 mod reading;
 mod same;
+mod table;
 mod walking;
 
 use generator::Random;
@@ -25,11 +28,11 @@ type Compared = Result<(), String>;
 /// After so many differences the run stops.
 const MOST_DIFFERENCES: u64 = 10;
 
-/// A kind of input: its name, its share of a hundred, and its comparison.
+/// A kind of input: its name, its share, and its comparison.
 type Kind = (&'static str, usize, fn(&mut Random) -> Compared);
 
 /// The kinds of input.
-const KINDS: [Kind; 7] = [
+const KINDS: [Kind; 9] = [
     ("reading and writing again", 28, reading::compare),
     ("origination", 13, originating::compare),
     ("lists", 6, listing::compare),
@@ -37,6 +40,8 @@ const KINDS: [Kind; 7] = [
     ("batches", 9, walking::compare),
     ("bounds", 5, bounding::compare),
     ("floods", 1, flooding::compare),
+    ("histories of a table of stations", 6, counting::compare),
+    ("tables put together by hand", 1, by_hand::compare),
 ];
 
 /// What the arguments ask for.
@@ -59,7 +64,7 @@ fn main() -> ExitCode {
 
 /// Reads the arguments.
 fn asked() -> Result<Asked, String> {
-    let mut numbers = [1, 200_000, 0];
+    let mut numbers = [1, 214_000, 0];
     let mut arguments = std::env::args().skip(1);
     for (number, argument) in numbers.iter_mut().zip(arguments.by_ref()) {
         *number = argument

@@ -1,11 +1,13 @@
-//! Seeded inputs for everything that document 01 describes: PDUs, damaged
-//! and cut ones, settings, lists, outputs, batches and jobs.
+//! Seeded inputs for everything that document 01 describes, and 02 as far as
+//! it is built: PDUs, damaged and cut ones, settings, lists, outputs, batches,
+//! jobs, and histories of a table of stations.
 //!
 //! Everything is drawn from one [`Random`], so the same seed gives the same
 //! inputs. PDUs are laid out here by arithmetic of their own, not by the
 //! reference's writing.
 
 mod batch;
+mod history;
 mod job;
 mod lists;
 mod output;
@@ -13,8 +15,10 @@ mod random;
 mod received;
 mod settings;
 mod shape;
+mod table;
 
 pub use batch::batch;
+pub use history::{deed, history, source_near, Deed, History};
 pub use job::{damaged_job, job, random_job, DamagedJob, JobParts};
 pub use lists::{bad_list, four_lists, good_four_lists, good_list, FourLists};
 pub use output::{output, room};
@@ -22,3 +26,4 @@ pub use random::{splitmix64, Random};
 pub use received::{cut, damaged, random_bytes, received};
 pub use settings::{origination, payload_to_send, settings};
 pub use shape::{address, shape, Shape};
+pub use table::{any_table, rising_table};

@@ -2,13 +2,16 @@
 //!
 //! Every function answers for every input and allocates nothing. An output is
 //! changed only where a PDU is written to it, and keeps its bytes past the
-//! PDU's end. [`raw`] gives the library's structs as they are.
+//! PDU's end. [`Stations`] holds the stations that a box has heard. [`raw`]
+//! gives the library's structs as they are.
 
 pub mod raw;
 mod refusal;
+mod stations;
 
 pub use raw::{Cursor, Limits, Node};
 pub use refusal::Refusal;
+pub use stations::{Heard, Listened, Station, Stations};
 use std::ops::Range;
 
 /// The header of a PDU.
@@ -220,6 +223,20 @@ impl Answer {
                 .map(|()| place..place + answer.delivered_length),
             repeat: Refusal::check(answer.repeat).map(|()| answer.repeated_length),
             taken: answer.taken,
+        }
+    }
+
+    /// The library's own, as `of` was given it.
+    fn raw(&self) -> raw::Answer {
+        let number = |refusal: &Refusal| refusal.number();
+        let delivered = self.delivery.clone().unwrap_or(0..0);
+        raw::Answer {
+            delivery: self.delivery.as_ref().map_or_else(number, |_| 0),
+            repeat: self.repeat.as_ref().map_or_else(number, |_| 0),
+            delivered_place: delivered.start,
+            delivered_length: delivered.len(),
+            repeated_length: self.repeat.unwrap_or(0),
+            taken: self.taken,
         }
     }
 }

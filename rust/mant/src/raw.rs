@@ -93,6 +93,43 @@ pub struct Step {
     pub next: Cursor,
 }
 
+/// `MantStation`.
+#[repr(C)]
+#[derive(Clone, Copy, Debug, Default, PartialEq, Eq)]
+pub struct Station {
+    pub address: u16,
+    pub reads: u16,
+    pub echoes: u16,
+    pub has_path: bool,
+    pub shortest_path: u16,
+}
+
+/// `MantFound`.
+#[repr(C)]
+#[derive(Clone, Copy, Debug, Default, PartialEq, Eq)]
+pub struct Found {
+    pub number: u8,
+    pub station: Station,
+}
+
+/// `MantHeard`.
+#[repr(C)]
+#[derive(Clone, Copy, Debug, Default, PartialEq, Eq)]
+pub struct Heard {
+    pub source: u16,
+    pub echo: bool,
+    pub path_bit: bool,
+    pub path_count: u8,
+}
+
+/// `MantListened`.
+#[repr(C)]
+#[derive(Clone, Copy, Debug, Default, PartialEq, Eq)]
+pub struct Listened {
+    pub answer: Answer,
+    pub table_number: u8,
+}
+
 /// `MantBound`.
 #[repr(C)]
 #[derive(Clone, Copy, Debug, Default, PartialEq, Eq)]
@@ -125,6 +162,11 @@ pub const REFUSED: u8 = 2;
 /// `MANT_NO_NUMBER`.
 pub const NO_NUMBER: u8 = 255;
 
+/// `MANT_STATION_LIMIT`.
+pub const STATION_LIMIT: usize = 128;
+/// `MANT_STATION_WORDS`.
+pub const STATION_WORDS: usize = 513;
+
 // The sizes that the header asserts.
 const _: () = {
     assert!(size_of::<Header>() == 40);
@@ -134,6 +176,10 @@ const _: () = {
     assert!(size_of::<Answer>() == 40);
     assert!(size_of::<Cursor>() == 16);
     assert!(size_of::<Step>() == 64);
+    assert!(size_of::<Station>() == 10);
+    assert!(size_of::<Found>() == 12);
+    assert!(size_of::<Heard>() == 6);
+    assert!(size_of::<Listened>() == 48);
     assert!(size_of::<Bound>() == 16);
     assert!(size_of::<Limits>() == 56);
 };
@@ -162,6 +208,19 @@ extern "C" {
         destination_pass: *const u16, destination_pass_length: usize, destination_reject: *const u16, destination_reject_length: usize,
         batch: *const u8, batch_length: usize, cursor: Cursor, output: *mut u8, output_length: usize,
     ) -> Step;
+    fn mant_stations_capacity(table: *const u16, table_words: usize) -> usize;
+    fn mant_stations_held(table: *const u16, table_words: usize) -> usize;
+    fn mant_station_at(table: *const u16, table_words: usize, place: usize) -> Found;
+    fn mant_station_of(table: *const u16, table_words: usize, address: u16) -> Found;
+    fn mant_remove_station(table: *mut u16, table_words: usize, address: u16) -> u8;
+    fn mant_count_heard(table: *mut u16, table_words: usize, heard: Heard) -> u8;
+    fn mant_count_answer(table: *mut u16, table_words: usize, received: *const u8, received_length: usize, answer: Answer) -> u8;
+    fn mant_hear_and_count(
+        settings: Node,
+        source_pass: *const u16, source_pass_length: usize, source_reject: *const u16, source_reject_length: usize,
+        destination_pass: *const u16, destination_pass_length: usize, destination_reject: *const u16, destination_reject_length: usize,
+        received: *const u8, received_length: usize, output: *mut u8, output_length: usize, table: *mut u16, table_words: usize,
+    ) -> Listened;
     fn mant_most_transmissions(nodes: u64, hop_limit: u64) -> Bound;
     fn mant_most_bytes(nodes: u64, hop_limit: u64, size: u64) -> Bound;
     fn mant_limits() -> Limits;
@@ -175,7 +234,7 @@ pub type Lists<'a> = [&'a [u16]; 4];
 #[inline]
 pub fn read(bytes: &[u8]) -> Header {
     // SAFETY: as in every call here, pointers and lengths are those of live
-    // slices, and an output is borrowed alone.
+    // slices, and an output or a table that is changed is borrowed alone.
     unsafe { mant_read(bytes.as_ptr(), bytes.len()) }
 }
 
@@ -288,6 +347,89 @@ pub fn step(settings: Node, lists: Lists, batch: &[u8], cursor: Cursor, output: 
             cursor,
             output.as_mut_ptr(),
             output.len(),
+        )
+    }
+}
+
+/// `mant_stations_capacity`.
+pub fn stations_capacity(table: &[u16]) -> usize {
+    // SAFETY: as above.
+    unsafe { mant_stations_capacity(table.as_ptr(), table.len()) }
+}
+
+/// `mant_stations_held`.
+pub fn stations_held(table: &[u16]) -> usize {
+    // SAFETY: as above.
+    unsafe { mant_stations_held(table.as_ptr(), table.len()) }
+}
+
+/// `mant_station_at`.
+pub fn station_at(table: &[u16], place: usize) -> Found {
+    // SAFETY: as above.
+    unsafe { mant_station_at(table.as_ptr(), table.len(), place) }
+}
+
+/// `mant_station_of`.
+pub fn station_of(table: &[u16], address: u16) -> Found {
+    // SAFETY: as above.
+    unsafe { mant_station_of(table.as_ptr(), table.len(), address) }
+}
+
+/// `mant_remove_station`.
+pub fn remove_station(table: &mut [u16], address: u16) -> u8 {
+    // SAFETY: as above.
+    unsafe { mant_remove_station(table.as_mut_ptr(), table.len(), address) }
+}
+
+/// `mant_count_heard`.
+#[inline]
+pub fn count_heard(table: &mut [u16], heard: Heard) -> u8 {
+    // SAFETY: as above.
+    unsafe { mant_count_heard(table.as_mut_ptr(), table.len(), heard) }
+}
+
+/// `mant_count_answer`.
+pub fn count_answer(table: &mut [u16], received: &[u8], answer: Answer) -> u8 {
+    // SAFETY: as above.
+    unsafe {
+        mant_count_answer(
+            table.as_mut_ptr(),
+            table.len(),
+            received.as_ptr(),
+            received.len(),
+            answer,
+        )
+    }
+}
+
+/// `mant_hear_and_count`.
+#[inline]
+pub fn hear_and_count(
+    settings: Node,
+    lists: Lists,
+    received: &[u8],
+    output: &mut [u8],
+    table: &mut [u16],
+) -> Listened {
+    let [a, b, c, d] = lists;
+    // SAFETY: as above.
+    unsafe {
+        mant_hear_and_count(
+            settings,
+            a.as_ptr(),
+            a.len(),
+            b.as_ptr(),
+            b.len(),
+            c.as_ptr(),
+            c.len(),
+            d.as_ptr(),
+            d.len(),
+            received.as_ptr(),
+            received.len(),
+            output.as_mut_ptr(),
+            output.len(),
+            table.as_mut_ptr(),
+            table.len(),
         )
     }
 }

@@ -65,6 +65,8 @@ refusals! {
     RepeatOutputTooShort = 40, "the output has no room for the repeated PDU";
     ForThisNode = 41, "not repeated: it is for this node";
     BatchTooLong = 54, "the batch has more than 16,384 bytes";
+    TableFull = 55, "a new station, and the table holds as many as it has room for";
+    NotHeld = 56, "no such station is held";
 }
 
 impl Refusal {

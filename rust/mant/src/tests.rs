@@ -138,6 +138,104 @@ fn lists() {
     assert!(!list_holds(&[1, 3], 4));
 }
 
+/// The example from another source.
+fn from(source: u16) -> Vec<u8> {
+    let mut pdu = example();
+    pdu[4..6].copy_from_slice(&source.to_be_bytes());
+    pdu
+}
+
+fn number(answered: Result<(), Refusal>) -> u8 {
+    answered.map_or_else(Refusal::number, |()| 0)
+}
+
+#[test]
+fn the_example_is_counted() {
+    let mut stations = Stations::default();
+    let mut output = [0; 30];
+    let (node, lists) = (node(2000), Lists::default());
+    let listened = stations.hear(&node, &lists, &example(), &mut output);
+    let answer = hear(&node, &lists, &example(), &mut [0; 30]);
+    assert_eq!((listened.answer, listened.table), (answer, Ok(())));
+    assert_eq!(output[..22], repeated());
+    stations.hear(&node, &lists, &repeated(), &mut output);
+    stations.hear(&node, &lists, &example()[..19], &mut output);
+    let station = Station {
+        address: 1000,
+        reads: 2,
+        echoes: 1,
+        shortest_path: Some(0),
+    };
+    assert_eq!(stations.get(1000), Ok(station));
+    assert_eq!(stations.get(1001).map_err(Refusal::number), Err(56));
+    assert_eq!(stations.iter().collect::<Vec<_>>(), [station]);
+    assert_eq!(stations.remove(1000), Ok(()));
+    assert_eq!(number(stations.remove(1000)), 56);
+    assert_eq!((stations.len(), stations.at(0)), (0, None));
+    assert_eq!(stations, Stations::default());
+}
+
+#[test]
+fn a_walk_is_counted() {
+    let batch = [&example()[..], &[0, 0, 0, 0, 0, 5], &[1]].concat();
+    let mut stations = Stations::default();
+    let (mut output, mut cursor) = ([0; 4615], Cursor::default());
+    while let Step::Answered(answer, next) =
+        step(&node(2000), &Lists::default(), &batch, cursor, &mut output)
+    {
+        let counted = stations.count_answer(&batch[cursor.place..], &answer);
+        assert_eq!(counted, Ok(()));
+        cursor = next;
+    }
+    let shown = |station: Station| (station.address, station.reads, station.shortest_path);
+    let listed: Vec<_> = stations.iter().map(shown).collect();
+    assert_eq!(listed, [(5, 1, None), (1000, 1, Some(0))]);
+}
+
+#[test]
+fn a_full_table() {
+    let mut stations = Stations::default();
+    for source in (0..Stations::LIMIT as u16).rev() {
+        let heard = Heard {
+            source,
+            ..Heard::default()
+        };
+        assert_eq!(stations.count(&heard), Ok(()));
+    }
+    let before = stations.clone();
+    let listened = stations.hear(&node(2000), &Lists::default(), &from(999), &mut [0; 30]);
+    assert_eq!(
+        (listened.answer.repeat, number(listened.table)),
+        (Ok(22), 55)
+    );
+    assert_eq!((stations.len(), &stations), (Stations::LIMIT, &before));
+    let listened = stations.hear(&node(2000), &Lists::default(), &from(127), &mut [0; 30]);
+    assert_eq!(listened.table, Ok(()));
+    assert_eq!(stations.get(127).map(|station| station.reads), Ok(2));
+    let addresses = stations.iter().map(|station| station.address);
+    assert!(addresses.eq(0..Stations::LIMIT as u16));
+}
+
+#[test]
+fn counts_stop() {
+    let mut words = [0; Stations::WORDS];
+    words[..5].copy_from_slice(&[1, 1000, 65_535, 65_534, 8]);
+    let mut stations = Stations::from_words(words);
+    for path_count in [9, 6] {
+        let heard = Heard {
+            source: 1000,
+            echo: true,
+            path_count: Some(path_count),
+        };
+        assert_eq!(stations.count(&heard), Ok(()));
+    }
+    assert_eq!(stations.words()[..5], [1, 1000, 65_535, 65_535, 7]);
+    assert_eq!(
+        stations.get(1000).map(|station| station.shortest_path),
+        Ok(Some(6))
+    );
+}
+
 #[test]
 fn bounds_and_limits() {
     assert_eq!(most_transmissions(3, 2), Ok(Some(10)));

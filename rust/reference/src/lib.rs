@@ -1,8 +1,9 @@
-//! A plain reading of document 01, written from its text alone.
+//! A plain reading of document 01, and of document 02 as far as it is built,
+//! written from their text alone.
 //!
-//! Nothing here is fast or clever. Each module cites the section of 01 that
-//! it reads, and uses the names of 01. It shares nothing with the library it
-//! is compared with but the words of the numbers, in docs/NUMBERS.md.
+//! Nothing here is fast or clever. Each module cites the section that it reads,
+//! and uses the names of 01. It shares nothing with the library it is compared
+//! with but the words of the numbers, in docs/NUMBERS.md.
 
 mod batch;
 mod flood;
@@ -13,6 +14,7 @@ mod node;
 pub mod numbers;
 mod octets;
 mod origin;
+mod stations;
 mod writing;
 
 pub use batch::{walk, Step, Walk, MOST_BATCH};
@@ -23,4 +25,5 @@ pub use lists::{holds, list_fault, Lists, MOST_RANGES, MOST_VALUES};
 pub use node::{hear, Answer, Settings};
 pub use numbers::{described, meaning};
 pub use origin::{originate, Origination};
+pub use stations::{hear_and_count, Station, Stations, MOST_STATIONS};
 pub use writing::{write, write_again};

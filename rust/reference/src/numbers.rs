@@ -45,6 +45,8 @@ numbers! {
     JOB_LIST_COUNT = 52, "a list of the job has more than 64 ranges";
     JOB_LEFT_OVER = 53, "the job goes on after its batch";
     BATCH_SIZE = 54, "the batch has more than 16,384 bytes";
+    TABLE_FULL = 55, "a new station, and the table holds as many as it has room for";
+    NOT_HELD = 56, "no such station is held";
 }
 
 /// What a number of the table means, in words.

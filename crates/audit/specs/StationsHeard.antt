@@ -1,0 +1,58 @@
+-- Document 02, W-201, as one record; `proofs/StationsHeard.antt` gives it from its parts.
+use Prim.Native.Nat.{ℕ, _≤_, _<_}
+use mathlib.Core.Bool.{true, false}
+use mathlib.Core.List.{List}
+use mathlib.Core.Path.{_≡_}
+use lib.ListN.{length}
+use Rattle.octets.specs.Octets.{at}
+use Rattle.pdu.specs.Header.{headerOf}
+use Rattle.decision.specs.Decision.{Node, isEcho}
+use Rattle.node.specs.declared.Answer.{Answer}
+use Rattle.node.specs.Answers.{listOrReadingFault, answerOf}
+use Rattle.stations.specs.Table.{capacity, tableIn, addresses, stationAt, placeOf, isHeld}
+use Rattle.stations.specs.Asking.{stationOf, foundAt}
+use Rattle.counting.specs.declared.Heard.{Heard}
+use Rattle.counting.specs.Counting.{countNumber, memoryAfterCount}
+use Rattle.counting.specs.Removing.{removalNumber, memoryAfterRemoval}
+use Rattle.listening.specs.Listening.{wasRead, heardOf, answerNumber, memoryAfterAnswer}
+use Rattle.listening.specs.History.{Deed, memoryAfter, since, shownBy, Rises}
+
+pub record StationsHeard : Type 0 where
+  -- a memory of 513 words or more has room for 128 stations
+  pub room-for-128 : (memory : List ℕ) → 513 ≤ length memory → capacity memory ≡ 128
+  -- a PDU was read where no list is at fault and reading refused nothing, and nowhere else; it is an echo where echo dropped it
+  pub read : (node : Node) (room : ℕ) (received : List ℕ) → listOrReadingFault node received ≡ 0
+      → (wasRead (answerOf node room received) ≡ true)
+      × (heardOf (answerOf node room received) received .echo ≡ isEcho (node .settings) (headerOf received) received)
+  pub read-only : (node : Node) (room : ℕ) (received : List ℕ) → wasRead (answerOf node room received) ≡ true → listOrReadingFault node received ≡ 0
+  -- one from a station that is held, or while there is room, is counted; any other is answered 55, and the table stays as it was
+  pub counted-held : (heard : Heard) (memory : List ℕ) → isHeld (heard .source) (addresses (tableIn memory)) ≡ true → countNumber heard memory ≡ 0
+  pub counted-new : (heard : Heard) (memory : List ℕ) → length (tableIn memory) < capacity memory → countNumber heard memory ≡ 0
+  pub full : (heard : Heard) (memory : List ℕ) → isHeld (heard .source) (addresses (tableIn memory)) ≡ false
+      → length (tableIn memory) ≡ capacity memory → (countNumber heard memory ≡ 55) × (memoryAfterCount heard memory ≡ memory)
+  pub full-unchanged : (answer : Answer) (received memory : List ℕ) → answerNumber answer received memory ≡ 55
+      → memoryAfterAnswer answer received memory ≡ memory
+  -- removing: 0 for a station that is held; else 56, and the table stays as it was
+  pub removed : (address : ℕ) (memory : List ℕ) → isHeld address (addresses (tableIn memory)) ≡ true → removalNumber address (tableIn memory) ≡ 0
+  pub not-removed : (address : ℕ) (memory : List ℕ) → isHeld address (addresses (tableIn memory)) ≡ false
+      → (removalNumber address (tableIn memory) ≡ 56) × (memoryAfterRemoval address memory ≡ memory)
+  -- after any hearings and removals from an empty table: its first word says how many are held, at most 128
+  pub limit : (memory : List ℕ) → at memory 0 ≡ 0 → (deeds : List Deed)
+      → (at (memoryAfter memory deeds) 0 ≡ length (tableIn (memoryAfter memory deeds))) × (at (memoryAfter memory deeds) 0 ≤ 128)
+  -- the addresses rise strictly
+  pub rises : (memory : List ℕ) → at memory 0 ≡ 0 → (deeds : List Deed) → Rises (addresses (tableIn (memoryAfter memory deeds)))
+  -- and every address shows what was counted from it since it was last taken in, or 56 where that is nothing
+  pub shows : (memory : List ℕ) → at memory 0 ≡ 0 → (deeds : List Deed) (address : ℕ)
+      → stationOf address (tableIn (memoryAfter memory deeds)) ≡ shownBy address (since memory address deeds)
+  -- among addresses that rise, the place of one has the lower ones before it and none of them behind it
+  pub place : (address : ℕ) (known : List ℕ) → Rises known → length known ≤ 128
+      → ((i : ℕ) → i < placeOf address known → at known i < address)
+      × ((i : ℕ) → placeOf address known ≤ i → i < length known → address ≤ at known i)
+  -- it is held where it stands, and not where it stands nowhere
+  pub held : (address : ℕ) (known : List ℕ) → Rises known → length known ≤ 128 → (i : ℕ) → i < length known → at known i ≡ address
+      → (placeOf address known ≡ i) × (isHeld address known ≡ true)
+  pub not-held : (address : ℕ) (known : List ℕ) → Rises known → length known ≤ 128 → ((i : ℕ) → i < length known → at known i ≡ address → ⊥)
+      → isHeld address known ≡ false
+  -- the listing shows the table's stations one after another
+  pub listed : (memory : List ℕ) (i : ℕ) → i < length (tableIn memory)
+      → foundAt i (tableIn memory) ≡ record { number = 0; station = stationAt (tableIn memory) i }

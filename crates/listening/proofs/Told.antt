@@ -1,0 +1,399 @@
+-- After any hearings and removals a table shows of each station what was heard from it.
+use Prim.Native.Nat.{ℕ, suc, _+_, _-_, _≤_, _<_, min}
+use native.Mathlib.Omega.{arith}
+use native.Mathlib.Numerals.{add-one}
+use mathlib.Core.Bool.{Bool, true, false, not, cond, _&&_, _||_}
+use mathlib.Core.List.{List, [], _∷_, _++_}
+use mathlib.Core.Path.{_≡_, refl, ap, ap₂, sym, subst, _∙_}
+use lib.Dec.{T, leb, eqb}
+use lib.ListN.{length, take, drop, length-append, length-drop}
+use lib.Seq.{length-take-le, take-at, drop-at, split-at}
+use borrow.Author.Tests.{eqb-true, eqb-false, ne-eqb, leb-false}
+use Rattle.octets.specs.Numbers.{_gives_}
+use Rattle.octets.specs.Octets.{at, over}
+use Rattle.stations.specs.declared.Station.{Station}
+use Rattle.stations.specs.declared.Found.{Found}
+use Rattle.stations.specs.Table.{capacity, stationsFrom, tableIn, memoryOf, addresses, newStation, stationAt, nextPlace, searched, placeOf, isHeld}
+use Rattle.stations.specs.Asking.{foundIf, stationOf}
+use Rattle.stations.proofs.Memory.{length-table, table-fits, length-addresses}
+use Rattle.stations.proofs.Places.{place-inside}
+use Rattle.node.specs.declared.Answer.{Answer}
+use Rattle.decision.specs.Decision.{Node}
+use Rattle.node.specs.Answers.{answerOf}
+use Rattle.counting.specs.declared.Heard.{Heard}
+use Rattle.counting.specs.Counting.{oneMore, counted, countNumber, tableAfterCount, memoryAfterCount}
+use Rattle.counting.specs.Removing.{without, memoryAfterRemoval}
+use Rattle.listening.specs.Listening.{wasRead, heardOf, answerNumber, memoryAfterAnswer}
+use Rattle.listening.specs.History.{Deed, Hearing, Removal, memoryAfter, isCounted, since, echoesOf, pathCounts, least, shownBy, Rises}
+use Rattle.listening.proofs.Rising.{held-at}
+use Rattle.listening.proofs.Inserting.{inserted, address-at, length-inserted, shows-new, none-before, shows-others, rises-before, rises-after}
+use Rattle.listening.proofs.Kept.{AllSound, table-sound, sound-append, sound-take, sound-drop, sound-at, sound-counted, table-kept}
+
+abbrev found : Station → Found
+found station = record { number = 0; station = station }
+
+-- one PDU more
+has-more : (counts : List ℕ) (bit : Bool) (count : ℕ)
+    → (not (eqb (length counts) 0) || bit) ≡ not (eqb (length (cond bit (count ∷ counts) counts)) 0)
+has-more counts true count = go (not (eqb (length counts) 0))
+  where
+    go : (t : Bool) → (t || true) ≡ not (eqb (suc (length counts)) 0)
+    go true = rw (ne-eqb (suc (length counts)) 0 (λ z. omega arith))
+    go false = rw (ne-eqb (suc (length counts)) 0 (λ z. omega arith))
+has-more counts false count = go (not (eqb (length counts) 0))
+  where
+    go : (t : Bool) → (t || false) ≡ t
+    go true = refl
+    go false = refl
+
+shortest-more : (counts : List ℕ) (bit : Bool) (count : ℕ)
+    → cond bit (cond (not (eqb (length counts) 0)) (min (least counts) count) count) (least counts) ≡ least (cond bit (count ∷ counts) counts)
+unfolding least
+shortest-more [] true count = refl
+shortest-more (other ∷ others) true count = rw (ne-eqb (suc (length others)) 0 (λ z. omega arith)) (omega arith)
+shortest-more counts false count = refl
+
+echoes-more : (echo : Bool) (count : ℕ) → cond echo (oneMore (min count 65535)) (min count 65535) ≡ min (cond echo (count + 1) count) 65535
+echoes-more true count = omega arith
+echoes-more false count = refl
+
+-- what many PDUs show, once there is one more
+pub shown-more : (address : ℕ) (heard : Heard) (before : List Heard) (station : Station) → shownBy address before ≡ found station
+    → found (counted heard station) ≡ shownBy address (heard ∷ before)
+unfolding counted echoesOf pathCounts
+shown-more address heard [] station e = let n : _≡_ {A = ℕ} 56 0 = ap (λ (f : Found). f .number) e in absurd (omega arith)
+shown-more address heard (first ∷ others) station e =
+    let before = first ∷ others in
+    let counts = pathCounts before in
+    let reads : oneMore (min (length before) 65535) ≡ min (length (heard ∷ before)) 65535 = omega arith in
+    ap (λ (f : Found). found (counted heard (f .station))) (sym e)
+    ∙ (λ i. record {
+      number = 0;
+      station = record {
+        address = address;
+        reads = reads i;
+        echoes = echoes-more (heard .echo) (echoesOf before) i;
+        «has_path» = has-more counts (heard .«path_bit») (heard .«path_count») i;
+        «shortest_path» = shortest-more counts (heard .«path_bit») (heard .«path_count») i;
+      };
+    })
+
+-- and of a station's first PDU
+pub shown-first : (address : ℕ) (heard : Heard) → found (counted heard (newStation address)) ≡ shownBy address (heard ∷ [])
+unfolding counted echoesOf pathCounts least
+shown-first address heard = go (heard .echo) (heard .«path_bit»)
+  where
+    go : (echo bit : Bool)
+        → _≡_ {A = Found}
+        (record {
+          number = 0;
+          station = record {
+            address = address;
+            reads = 1;
+            echoes = cond echo 1 0;
+            «has_path» = bit;
+            «shortest_path» = cond bit (heard .«path_count») 0;
+          };
+        })
+        (record {
+          number = 0;
+          station = record {
+            address = address;
+            reads = 1;
+            echoes = min (cond echo 1 0) 65535;
+            «has_path» = not (eqb (length (cond bit (heard .«path_count» ∷ []) [])) 0);
+            «shortest_path» = least (cond bit (heard .«path_count» ∷ []) []);
+          };
+        })
+    go true true = refl
+    go true false = refl
+    go false true = refl
+    go false false = refl
+
+-- where nothing is shown, nothing was heard
+pub shown-none : (address : ℕ) (heards : List Heard) → foundIf false [] 0 ≡ shownBy address heards → heards ≡ []
+shown-none address [] e = refl
+shown-none address (heard ∷ others) e = let n : _≡_ {A = ℕ} 56 0 = ap (λ (f : Found). f .number) e in absurd (omega arith)
+
+-- an address that is not held is not shown
+pub not-shown : (address : ℕ) (table : List Station) → isHeld address (addresses table) ≡ false → stationOf address table ≡ foundIf false [] 0
+unfolding stationOf
+not-shown address table e = rw e
+
+-- a table taken apart at a place
+put-there : (table : List Station) (place : ℕ) (station : Station) → place < length table
+    → take place table ++ station ∷ drop (place + 1) table ≡ inserted place station (without place table)
+put-there table place station h =
+    let front = take place table in
+    let back = drop (place + 1) table in
+    let long : length front ≡ place = length-take-le place table (omega arith) in
+    ap₂ (λ (xs ys : List Station). xs ++ station ∷ ys) (sym (take-at front back place long)) (sym (drop-at front back place long))
+
+stood-there : (table : List Station) (place : ℕ) → place < length table → table ≡ inserted place (stationAt table place) (without place table)
+stood-there table place h =
+    split-at table place (newStation 0) h
+    ∙ ap (λ (n : ℕ). take place table ++ stationAt table place ∷ drop n table) (sym (add-one place))
+    ∙ put-there table place (stationAt table place) h
+
+length-without : (table : List Station) (place : ℕ) → place < length table → suc (length (without place table)) ≡ length table
+length-without table place h =
+    let parts = length-append (take place table) (drop (place + 1) table) in
+    omega (arith, parts, length-take-le place table (omega arith), length-drop (place + 1) table)
+
+same-addresses : (front back : List Station) (one other : Station) → one .address ≡ other .address
+    → addresses (front ++ one ∷ back) ≡ addresses (front ++ other ∷ back)
+same-addresses [] back one other e = ap (λ (a : ℕ). a ∷ addresses back) e
+same-addresses (station ∷ front) back one other e = ap (λ (l : List ℕ). station .address ∷ l) (same-addresses front back one other e)
+
+first-word : (stations : List Station) (memory : List ℕ) → at (memoryOf stations memory) 0 ≡ length stations
+unfolding memoryOf over
+first-word stations memory = refl
+
+-- what a table shows, by a list of PDUs for each address
+pub record Told (memory : List ℕ) (heards : ℕ → List Heard) : Type 0 where
+  pub says : at memory 0 ≡ length (tableIn memory)
+  pub rises : Rises (addresses (tableIn memory))
+  pub told : (address : ℕ) → stationOf address (tableIn memory) ≡ shownBy address (heards address)
+
+-- a station that is put in shows what was told of it, and the others what was told of them
+one-more-told : (place : ℕ) (after : Station) (table : List Station) → place ≤ length table → Rises (addresses (inserted place after table))
+    → length (inserted place after table) ≤ 255 → (heard : Heard) (heards : ℕ → List Heard) → heard .source ≡ after .address
+    → ((address : ℕ) → (address ≡ after .address → ⊥) → stationOf address table ≡ shownBy address (heards address))
+    → found after ≡ shownBy (after .address) (heard ∷ heards (after .address))
+    → (address : ℕ) → stationOf address (inserted place after table)
+    ≡ shownBy address (cond (eqb (heard .source) address) (heard ∷ heards address) (heards address))
+one-more-told place after table inside rises short heard heards source others new address = go (eqb (heard .source) address) refl
+  where
+    go : (t : Bool) → eqb (heard .source) address ≡ t
+        → stationOf address (inserted place after table) ≡ shownBy address (cond t (heard ∷ heards address) (heards address))
+    go true e =
+        let own : after .address ≡ address = sym source ∙ eqb-true (heard .source) address e in
+        subst (λ (a : ℕ). stationOf a (inserted place after table) ≡ shownBy a (heard ∷ heards a)) own
+        (shows-new place after table inside rises short ∙ new)
+    go false e =
+        let other : address ≡ after .address → ⊥ = λ same. eqb-false (heard .source) address e (source ∙ sym same) in
+        shows-others place after table inside rises short address other ∙ others address other
+
+module _ (memory : List ℕ) (heard : Heard) (heards : ℕ → List Heard) (before : Told memory heards) where
+  abbrev table : List Station
+  table = tableIn memory
+
+  abbrev known : List ℕ
+  known = addresses table
+
+  abbrev place : ℕ
+  place = placeOf (heard .source) known
+
+  abbrev more : ℕ → List Heard
+  more address = cond (eqb (heard .source) address) (heard ∷ heards address) (heards address)
+
+  count-room : isHeld (heard .source) known ≡ false → countNumber heard memory ≡ 0 → length table < capacity memory
+  unfolding countNumber _gives_
+  count-room e n = go (leb (capacity memory) (length table)) refl (rw e at n)
+    where
+      go : (t : Bool) → leb (capacity memory) (length table) ≡ t → _≡_ {A = ℕ} (cond t 55 0) 0 → length table < capacity memory
+      go true f z = absurd (omega arith)
+      go false f z = leb-false (capacity memory) (length table) f
+
+  told-held : isHeld (heard .source) known ≡ true
+      → Told (memoryOf (take place table ++ counted heard (stationAt table place) ∷ drop (place + 1) table) memory) more
+  unfolding counted
+  told-held e =
+      let stands = held-at (heard .source) known e in
+      let inside : place < length table = omega (arith, stands .0, length-addresses table) in
+      let old = stationAt table place in
+      let after = counted heard old in
+      let rest = without place table in
+      let source : heard .source ≡ after .address = sym (stands .1) ∙ address-at table place in
+      let within : place ≤ length rest = omega (arith, inside, length-without table place inside) in
+      let fits = table-fits memory in
+      let all = take place table ++ after ∷ drop (place + 1) table in
+      let now : all ≡ inserted place after rest = put-there table place after inside in
+      let was : table ≡ inserted place old rest = stood-there table place inside in
+      let long : length all ≡ length table =
+      ap length now ∙ length-inserted place after rest within ∙ length-without table place inside in
+      let sound : AllSound all =
+      sound-append (take place table) (after ∷ drop (place + 1) table) (sound-take place table (table-sound memory))
+      (sound-counted heard old (sound-at table place (table-sound memory)), sound-drop (place + 1) table (table-sound memory)) in
+      let kept-all : tableIn (memoryOf all memory) ≡ all =
+      table-kept all memory sound (omega (arith, long, length-table memory)) (omega (arith, fits .1, inside)) in
+      let kept : tableIn (memoryOf all memory) ≡ inserted place after rest = kept-all ∙ now in
+      let rises-old : Rises (addresses (inserted place old rest)) = subst (λ (t : List Station). Rises (addresses t)) was (before .rises) in
+      let rises-new : Rises (addresses (inserted place after rest)) =
+      subst Rises (same-addresses (take place rest) (drop place rest) old after refl) rises-old in
+      let short : length (inserted place after rest) ≤ 255 = omega (arith, ap length (sym now), long, fits .0) in
+      let short-old : length (inserted place old rest) ≤ 255 = omega (arith, ap length (sym was), fits .0) in
+      let own : stationOf (after .address) table ≡ found old =
+      ap (stationOf (old .address)) was ∙ shows-new place old rest within rises-old short-old in
+      let others : (address : ℕ) → (address ≡ after .address → ⊥) → stationOf address rest ≡ shownBy address (heards address) =
+      λ address other. sym (ap (stationOf address) was ∙ shows-others place old rest within rises-old short-old address other) ∙ before .told address in
+      record {
+        says = first-word all memory ∙ ap length (sym kept-all);
+        rises = subst (λ (t : List Station). Rises (addresses t)) (sym kept) rises-new;
+        told = λ address.
+            ap (stationOf address) kept
+            ∙ one-more-told place after rest within rises-new short heard heards source others
+            (shown-more (after .address) heard (heards (after .address)) old (sym (before .told (after .address)) ∙ own)) address;
+      }
+
+  told-new : isHeld (heard .source) known ≡ false → length table < capacity memory
+      → Told (memoryOf (take place table ++ counted heard (newStation (heard .source)) ∷ drop place table) memory) more
+  unfolding counted
+  told-new e room =
+      let after = counted heard (newStation (heard .source)) in
+      let within : place ≤ length table = place-inside (heard .source) table in
+      let fits = table-fits memory in
+      let all = inserted place after table in
+      let long : length all ≡ suc (length table) = length-inserted place after table within in
+      let sound : AllSound all =
+      sound-append (take place table) (after ∷ drop place table) (sound-take place table (table-sound memory))
+      (sound-counted heard (newStation (heard .source)) (λ z. refl), sound-drop place table (table-sound memory)) in
+      let kept : tableIn (memoryOf all memory) ≡ all = table-kept all memory sound (omega (arith, long, room)) (omega (arith, room)) in
+      let rises-new : Rises (addresses all) = rises-after place after table within (before .rises) (omega (arith, fits .0)) e refl in
+      let short : length all ≤ 255 = omega (arith, long, room) in
+      let none : heards (heard .source) ≡ [] =
+      shown-none (heard .source) (heards (heard .source)) (sym (not-shown (heard .source) table e) ∙ before .told (heard .source)) in
+      let new : found after ≡ shownBy (heard .source) (heard ∷ heards (heard .source)) = rw none (shown-first (heard .source) heard) in
+      record {
+        says = first-word all memory ∙ ap length (sym kept);
+        rises = subst (λ (t : List Station). Rises (addresses t)) (sym kept) rises-new;
+        told = λ address.
+            ap (stationOf address) kept
+            ∙ one-more-told place after table within rises-new short heard heards refl (λ a other. before .told a) new address;
+      }
+
+  pub count-told : countNumber heard memory ≡ 0 → Told (memoryAfterCount heard memory) more
+  unfolding memoryAfterCount tableAfterCount
+  count-told n = go (isHeld (heard .source) known) refl
+    where
+      go : (t : Bool) → isHeld (heard .source) known ≡ t
+          → Told
+          (cond (eqb (countNumber heard memory) 0)
+          (memoryOf
+          (cond t
+          (take place table ++ counted heard (stationAt table place) ∷ drop (place + 1) table)
+          (take place table ++ counted heard (newStation (heard .source)) ∷ drop place table))
+          memory)
+          memory)
+          more
+      go true e = rw n (told-held e)
+      go false e = rw n (told-new e (count-room e n))
+
+-- a removal
+pub removal-told : (memory : List ℕ) (heards : ℕ → List Heard) → Told memory heards → (removed : ℕ)
+    → Told (memoryAfterRemoval removed memory) (λ (address : ℕ). cond (eqb removed address) [] (heards address))
+unfolding memoryAfterRemoval
+removal-told memory heards before removed = go (isHeld removed (addresses (tableIn memory))) refl
+  where
+    table : List Station
+    table = tableIn memory
+
+    place : ℕ
+    place = placeOf removed (addresses table)
+
+    less : ℕ → List Heard
+    less address = cond (eqb removed address) [] (heards address)
+
+    gone : isHeld removed (addresses table) ≡ true → Told (memoryOf (without place table) memory) less
+    gone e =
+        let stands = held-at removed (addresses table) e in
+        let inside : place < length table = omega (arith, stands .0, length-addresses table) in
+        let old = stationAt table place in
+        let rest = without place table in
+        let own : removed ≡ old .address = sym (stands .1) ∙ address-at table place in
+        let long = length-without table place inside in
+        let within : place ≤ length rest = omega (arith, inside, long) in
+        let fits = table-fits memory in
+        let was : table ≡ inserted place old rest = stood-there table place inside in
+        let sound : AllSound rest =
+        sound-append (take place table) (drop (place + 1) table) (sound-take place table (table-sound memory))
+        (sound-drop (place + 1) table (table-sound memory)) in
+        let kept : tableIn (memoryOf rest memory) ≡ rest =
+        table-kept rest memory sound (omega (arith, long, length-table memory)) (omega (arith, fits .1, inside)) in
+        let rises-old : Rises (addresses (inserted place old rest)) = subst (λ (t : List Station). Rises (addresses t)) was (before .rises) in
+        let short : length (inserted place old rest) ≤ 255 = omega (arith, ap length (sym was), fits .0) in
+        let shown : (t : Bool) (address : ℕ) → eqb removed address ≡ t → stationOf address rest ≡ shownBy address (cond t [] (heards address)) =
+        λ t address. shown-after t address old rest was own within rises-old short in
+        record {
+          says = first-word rest memory ∙ ap length (sym kept);
+          rises = subst (λ (t : List Station). Rises (addresses t)) (sym kept) (rises-before place old rest within rises-old short);
+          told = λ address. ap (stationOf address) kept ∙ shown (eqb removed address) address refl;
+        }
+      where
+        shown-after : (t : Bool) (address : ℕ) (old : Station) (rest : List Station) → table ≡ inserted place old rest → removed ≡ old .address
+            → place ≤ length rest → Rises (addresses (inserted place old rest)) → length (inserted place old rest) ≤ 255
+            → eqb removed address ≡ t → stationOf address rest ≡ shownBy address (cond t [] (heards address))
+        shown-after true address old rest was own within rises short e =
+            let same : old .address ≡ address = sym own ∙ eqb-true removed address e in
+            subst (λ (a : ℕ). stationOf a rest ≡ foundIf false [] 0) same (none-before place old rest within rises short)
+        shown-after false address old rest was own within rises short e =
+            let other : address ≡ old .address → ⊥ = λ same. eqb-false removed address e (own ∙ sym same) in
+            sym (ap (stationOf address) was ∙ shows-others place old rest within rises short address other) ∙ before .told address
+
+    stays : isHeld removed (addresses table) ≡ false → Told memory less
+    stays e = record { says = before .says; rises = before .rises; told = λ address. go-on (eqb removed address) address refl }
+      where
+        go-on : (t : Bool) (address : ℕ) → eqb removed address ≡ t → stationOf address table ≡ shownBy address (cond t [] (heards address))
+        go-on true address f =
+            subst (λ (a : ℕ). stationOf a table ≡ foundIf false [] 0) (eqb-true removed address f) (not-shown removed table e)
+        go-on false address f = before .told address
+
+    go : (t : Bool) → isHeld removed (addresses table) ≡ t → Told (cond t (memoryOf (without place table) memory) memory) less
+    go true e = gone e
+    go false e = stays e
+
+-- from an empty table on
+empty-held : (address : ℕ) → isHeld address [] ≡ false
+unfolding searched nextPlace
+empty-held address = refl
+
+empty-table : (memory : List ℕ) → at memory 0 ≡ 0 → tableIn memory ≡ []
+unfolding tableIn stationsFrom
+empty-table memory e =
+    let none : min (at memory 0) (capacity memory) ≡ 0 = omega (arith, e) in ap (λ (n : ℕ). stationsFrom n (drop 1 memory)) none
+
+empty-told : (memory : List ℕ) → at memory 0 ≡ 0 → Told memory (λ (address : ℕ). [])
+empty-told memory e =
+    let none = empty-table memory e in
+    record {
+      says = e ∙ ap length (sym none);
+      rises = subst (λ (t : List Station). Rises (addresses t)) (sym none) (λ i j h l. absurd (omega arith));
+      told = λ address. ap (stationOf address) none ∙ not-shown address [] (empty-held address);
+    }
+
+-- a hearing
+not-counted : (heard : Heard) (memory : List ℕ) → eqb (countNumber heard memory) 0 ≡ false → memoryAfterCount heard memory ≡ memory
+unfolding memoryAfterCount
+not-counted heard memory e = rw e
+
+hearing-told : (memory : List ℕ) (heards : ℕ → List Heard) → Told memory heards → (node : Node) (room : ℕ) (received : List ℕ)
+    → Told (memoryAfterAnswer (answerOf node room received) received memory)
+    (λ (address : ℕ).
+    cond (isCounted node room received memory && eqb (heardOf (answerOf node room received) received .source) address)
+    (heardOf (answerOf node room received) received ∷ heards address)
+    (heards address))
+unfolding memoryAfterAnswer answerNumber
+hearing-told memory heards before node room received = go (wasRead answer) (eqb (countNumber heard memory) 0) refl
+  where
+    answer : Answer
+    answer = answerOf node room received
+
+    heard : Heard
+    heard = heardOf answer received
+
+    go : (read none : Bool) → eqb (countNumber heard memory) 0 ≡ none
+        → Told (cond read (memoryAfterCount heard memory) memory)
+        (λ (address : ℕ).
+        cond ((read && eqb (cond read (countNumber heard memory) 0) 0) && eqb (heard .source) address) (heard ∷ heards address) (heards address))
+    go false none e = before
+    go true true e = rw e (count-told memory heard heards before (eqb-true (countNumber heard memory) 0 e))
+    go true false e = rw e (subst (λ (m : List ℕ). Told m heards) (sym (not-counted heard memory e)) before)
+
+pub history-told : (memory : List ℕ) → at memory 0 ≡ 0 → (deeds : List Deed)
+    → Told (memoryAfter memory deeds) (λ (address : ℕ). since memory address deeds)
+unfolding memoryAfter since
+history-told memory e [] = empty-told memory e
+history-told memory e (Hearing node room received ∷ earlier) =
+    hearing-told (memoryAfter memory earlier) (λ (address : ℕ). since memory address earlier) (history-told memory e earlier) node room received
+history-told memory e (Removal address ∷ earlier) =
+    removal-told (memoryAfter memory earlier) (λ (a : ℕ). since memory a earlier) (history-told memory e earlier) address

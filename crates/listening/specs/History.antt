@@ -1,0 +1,73 @@
+-- Document 02, W-201: what a table shows after any hearings and removals.
+use Prim.Native.Nat.{ℕ, _+_, _<_, min}
+use mathlib.Core.Bool.{Bool, not, cond, _&&_}
+use mathlib.Core.List.{List, [], _∷_}
+use lib.Dec.{eqb}
+use lib.ListN.{length}
+use Rattle.octets.specs.Octets.{at}
+use Rattle.stations.specs.declared.Found.{Found}
+use Rattle.stations.specs.Table.{newStation}
+use Rattle.decision.specs.Decision.{Node}
+use Rattle.node.specs.Answers.{answerOf}
+use Rattle.counting.specs.declared.Heard.{Heard}
+use Rattle.counting.specs.Removing.{memoryAfterRemoval}
+use Rattle.listening.specs.Listening.{wasRead, heardOf, answerNumber, memoryAfterAnswer}
+
+-- what is done with a table: a node hears bytes, with so much room in its output; a station is removed
+pub data Deed : Type 0 where
+  Hearing : Node → ℕ → List ℕ → Deed
+  Removal : ℕ → Deed
+
+-- the memory after some deeds, the latest of them first
+unfoldable pub memoryAfter : List ℕ → List Deed → List ℕ
+memoryAfter memory [] = memory
+memoryAfter memory (Hearing node room received ∷ earlier) = memoryAfterAnswer (answerOf node room received) received (memoryAfter memory earlier)
+memoryAfter memory (Removal address ∷ earlier) = memoryAfterRemoval address (memoryAfter memory earlier)
+
+-- whether a hearing was counted: the PDU was read, and the table did not answer 55
+abbrev pub isCounted : Node → ℕ → List ℕ → List ℕ → Bool
+isCounted node room received memory =
+    wasRead (answerOf node room received) && eqb (answerNumber (answerOf node room received) received memory) 0
+
+-- the PDUs counted from an address since it was last taken in, the latest first
+unfoldable pub since : List ℕ → ℕ → List Deed → List Heard
+since memory address [] = []
+since memory address (Hearing node room received ∷ earlier) =
+    let heard = heardOf (answerOf node room received) received in
+    cond (isCounted node room received (memoryAfter memory earlier) && eqb (heard .source) address)
+    (heard ∷ since memory address earlier)
+    (since memory address earlier)
+since memory address (Removal removed ∷ earlier) = cond (eqb removed address) [] (since memory address earlier)
+
+-- how many of them were echoes, and the path counts of those with the path bit
+unfoldable pub echoesOf : List Heard → ℕ
+echoesOf [] = 0
+echoesOf (heard ∷ others) = cond (heard .echo) (echoesOf others + 1) (echoesOf others)
+
+unfoldable pub pathCounts : List Heard → List ℕ
+pathCounts [] = []
+pathCounts (heard ∷ others) = cond (heard .«path_bit») (heard .«path_count» ∷ pathCounts others) (pathCounts others)
+
+unfoldable pub least : List ℕ → ℕ
+least [] = 0
+least (count ∷ []) = count
+least (count ∷ other ∷ others) = min count (least (other ∷ others))
+
+-- what they say of their station; 56 where there is none
+abbrev pub shownBy : ℕ → List Heard → Found
+shownBy address [] = record { number = 56; station = newStation 0 }
+shownBy address (heard ∷ others) =
+    record {
+      number = 0;
+      station = record {
+        address = address;
+        reads = min (length (heard ∷ others)) 65535;
+        echoes = min (echoesOf (heard ∷ others)) 65535;
+        «has_path» = not (eqb (length (pathCounts (heard ∷ others))) 0);
+        «shortest_path» = least (pathCounts (heard ∷ others));
+      };
+    }
+
+-- addresses that rise strictly
+abbrev pub Rises : List ℕ → Type 0
+Rises known = (i j : ℕ) → i < j → j < length known → at known i < at known j

@@ -1,0 +1,42 @@
+-- Document 02, W-201: which of the PDUs that a node hears are counted, and as what.
+use Prim.Native.Nat.{ℕ}
+use mathlib.Core.Bool.{Bool, not, cond}
+use mathlib.Core.List.{List}
+use mathlib.Core.Path.{_≡_}
+use lib.Dec.{eqb}
+use lib.ListN.{length}
+use Rattle.pdu.specs.Header.{headerOf}
+use Rattle.node.specs.declared.Answer.{Answer}
+use Rattle.decision.specs.Decision.{Node}
+use Rattle.node.specs.Answers.{answerOf, Hears}
+use Rattle.counting.specs.declared.Heard.{Heard}
+use Rattle.counting.specs.Counting.{countNumber, memoryAfterCount}
+use Rattle.listening.specs.declared.Listened.{Listened}
+
+-- a PDU was read where the answer says where the next one begins ("A batch"); it does not with a list's fault and with 1 to 6
+abbrev pub wasRead : Answer → Bool
+wasRead answer = not (eqb (answer .taken) 0)
+
+-- what the table sees of a PDU and of the node's answer for it: 30 is an echo
+abbrev pub heardOf : Answer → List ℕ → Heard
+heardOf answer received =
+    record {
+      source = headerOf received .source;
+      echo = eqb (answer .delivery) 30;
+      «path_bit» = headerOf received .«path_bit»;
+      «path_count» = headerOf received .«path_count»;
+    }
+
+-- the table's number for it, and the memory that is left
+unfoldable pub answerNumber : Answer → List ℕ → List ℕ → ℕ
+answerNumber answer received memory = cond (wasRead answer) (countNumber (heardOf answer received) memory) 0
+
+unfoldable pub memoryAfterAnswer : Answer → List ℕ → List ℕ → List ℕ
+memoryAfterAnswer answer received memory = cond (wasRead answer) (memoryAfterCount (heardOf answer received) memory) memory
+
+-- hearing a PDU and counting it: the node's answer and output are as without a table
+abbrev pub Listens : Node → List ℕ → List ℕ → List ℕ → Listened → List ℕ → List ℕ → Type 0
+Listens node received output memory listened left after =
+    Hears node received output (listened .answer) left
+    × (listened .«table_number» ≡ answerNumber (answerOf node (length output) received) received memory)
+    × (after ≡ memoryAfterAnswer (answerOf node (length output) received) received memory)

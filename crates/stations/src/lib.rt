@@ -1,0 +1,182 @@
+// The stations that a box has heard: a table in memory that the caller lends, asked by address and by place.
+ghost use mathlib.Core.Path.{_≡_};
+ghost use mathlib.Core.Bool.{false};
+ghost use mathlib.Core.List.{[]};
+ghost use Prim.Native.Nat.{_+_, _-_, _*_, _<_, _≤_};
+ghost use lib.ListN.{length, drop};
+ghost use Rattle.stations.specs.Table.{capacity, tableIn, stationFrom, addresses, nextPlace, placeOf, isAt};
+ghost use Rattle.stations.specs.Asking.{sought, foundIf, stationOf, foundAt};
+
+impl Station {
+    // The most stations that a table holds.
+    pub const LIMIT: usize = 128;
+}
+
+// A source address that was heard: how many PDUs were read from it, how many of those were dropped by echo, and the least path count of those that
+// have the path bit. `has_path` is false, and the path count 0, while there was none.
+#[repr(C)]
+pub struct Station {
+    pub address: u16,
+    pub reads: u16,
+    pub echoes: u16,
+    pub has_path: bool,
+    pub shortest_path: u16,
+}
+
+// The number 0 and a station, or 56 and a station that is all 0.
+#[repr(C)]
+pub struct Found {
+    pub number: u8,
+    pub station: Station,
+}
+
+// Where an address stands in the rising order, or would stand, and whether it is held.
+pub struct Sought {
+    pub place: usize,
+    pub is_held: bool,
+}
+
+fn size(word: u16) -> usize
+    ensures { λ r. ⌜ r ≡ word ⌝ }
+{
+    word as usize
+}
+
+// How many stations the memory has room for: 128 in 513 words or more, fewer in less.
+pub fn capacity(table: &[u16]) -> usize
+    ensures { λ r. ⌜ (r ≡ capacity (now (table .entry))) × (r ≤ 128) × (4 * r ≤ length (now (table .entry)) - 1) ⌝ }
+{
+    let words = table.len();
+    if words == 0 {
+        return 0;
+    }
+    let room = (words - 1) / 4;
+    if room < Station::LIMIT {
+        room
+    } else {
+        Station::LIMIT
+    }
+}
+
+// How many stations are held. A memory that says more than it has room for is a full table. Document 02, W-201.
+pub fn held(table: &[u16]) -> usize
+    ensures { λ r. ⌜ (r ≡ length (tableIn (now (table .entry)))) × (r ≤ 128) × (4 * r ≤ length (now (table .entry)) - 1) ⌝ }
+{
+    let most = capacity(table);
+    if most == 0 {
+        return 0;
+    }
+    let first = size(table[0]);
+    if first < most { first } else { most }
+}
+
+fn next_place(table: &[u16], address: u16, end: usize, place: usize, step: usize) -> usize
+    requires { ⌜ (end ≡ length (tableIn (now table))) × (end ≤ 128) × (4 * end ≤ length (now table) - 1)
+        × (place ≤ end) × (0 < step) × (step ≤ 128) ⌝ }
+    ensures { λ r. ⌜ (r ≡ nextPlace address (addresses (tableIn (now (table .entry)))) place step) × (r ≤ end) ⌝ }
+{
+    let next = place + step;
+    if next <= end {
+        if table[4 * next - 3] < address {
+            return next;
+        }
+    }
+    place
+}
+
+fn place_of(table: &[u16], address: u16) -> usize
+    ensures { λ r. ⌜ r ≡ placeOf address (addresses (tableIn (now (table .entry)))) ⌝ }
+{
+    let end = held(table);
+    let mut place: usize = 0;
+    let mut step: usize = 128;
+    let mut left: usize = 8;
+    while left > 0 {
+        place = next_place(table, address, end, place, step);
+        step /= 2;
+        left -= 1;
+    }
+    place
+}
+
+fn is_at(table: &[u16], address: u16, place: usize) -> bool
+    ensures { λ r. ⌜ r ≡ isAt address (addresses (tableIn (now (table .entry)))) place ⌝ }
+{
+    if place < held(table) {
+        table[4 * place + 1] == address
+    } else {
+        false
+    }
+}
+
+// The place of an address, found in eight halved steps. Document 02, W-201: listing by rising address.
+pub fn seek(table: &[u16], address: u16) -> Sought
+    ensures { λ r. ⌜ r ≡ sought address (addresses (tableIn (now (table .entry)))) ⌝ }
+{
+    let place = place_of(table, address);
+    Sought {
+        place,
+        is_held: is_at(table, address, place),
+    }
+}
+
+fn station_from(table: &[u16], place: usize) -> Station
+    requires { ⌜ (place < 128) × (4 * place + 4 < length (now table)) ⌝ }
+    ensures { λ r. ⌜ (r ≡ stationFrom (drop (4 * place + 1) (now (table .entry)))) × (r .«shortest_path» < 65535) ⌝ }
+{
+    let first = 4 * place + 1;
+    let path = table[first + 3];
+    Station {
+        address: table[first],
+        reads: table[first + 1],
+        echoes: table[first + 2],
+        has_path: path != 0,
+        shortest_path: one_less(path),
+    }
+}
+
+fn one_less(word: u16) -> u16
+    ensures { λ r. ⌜ (r ≡ word - 1) × (r < 65535) ⌝ }
+{
+    if word == 0 { 0 } else { word - 1 }
+}
+
+fn refused() -> Found
+    ensures { λ r. ⌜ r ≡ foundIf false [] 0 ⌝ }
+{
+    let station = Station {
+        address: 0,
+        reads: 0,
+        echoes: 0,
+        has_path: false,
+        shortest_path: 0,
+    };
+    Found {
+        number: 56,
+        station,
+    }
+}
+
+// The station at a place of the rising order, the lowest address at 0; 56 from the number held on. Document 02, W-201.
+pub fn station_at(table: &[u16], place: usize) -> Found
+    ensures { λ r. ⌜ (r ≡ foundAt place (tableIn (now (table .entry)))) × (r .station .«shortest_path» < 65535) ⌝ }
+{
+    if place < held(table) {
+        return Found {
+            number: 0,
+            station: station_from(table, place),
+        };
+    }
+    refused()
+}
+
+// The station of an address, or 56 where it is not held. Document 02, W-201.
+pub fn station_of(table: &[u16], address: u16) -> Found
+    ensures { λ r. ⌜ r ≡ stationOf address (tableIn (now (table .entry))) ⌝ }
+{
+    let place = place_of(table, address);
+    if is_at(table, address, place) {
+        return station_at(table, place);
+    }
+    refused()
+}
