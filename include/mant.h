@@ -13,8 +13,9 @@
  * An output shares no memory with another slice of the call, nor does a table. Structs are those declared here, passed by value and so aligned by the
  * compiler, and a bool in them holds 0 or 1, as C's does unless it was written by other means, such as memcpy.
  *
- * Output. It changes only where a PDU is written (number 0), or, at a node, where the repeat number is 0. It then begins with that PDU, and keeps
- * its bytes past the PDU's end. With every other number the output is left as it was. MANT_PDU_LIMIT bytes are room for every PDU.
+ * Output. It changes only where a PDU or an exchange is written (number 0), or, at a node, where the repeat number is 0. It then begins with that PDU
+ * or exchange, and keeps its bytes past the end of it. With every other number the output is left as it was. MANT_PDU_LIMIT bytes are room for every
+ * PDU, MANT_EXCHANGE_LIMIT for every exchange.
  *
  * Table. The stations heard (document 02, W-201) are held in uint16_t words that the caller lends, and keeps from call to call: how many are held, then
  * four words for each station, by rising address: its address, the PDUs read from it, those of them that echo dropped, and one more than its shortest
@@ -23,6 +24,12 @@
  * room is a full table's. Where a call changes the table it writes the first word and the words of the stations then held, and keeps those behind
  * them; where it does not, no word changes. Words put together by hand get an answer too: they are held and listed as they stand there, but by address
  * stations are looked for as if the addresses rose, so that where they do not, one that stands there may not be found.
+ *
+ * Exchange. A decoder and an encoder that are two devices exchange PDUs (document 02, W-202) as elements of type, length and value (document 003,
+ * section 3); prefix and total length are the serial driver's. A type or a length has one byte up to 127, else two bytes of which the first has its top
+ * bit set; a small number in two bytes is taken too. The values of types 10, 11 and 20 are runs of elements again, at most 4 levels deep. An exchange is
+ * one element of type 20 with nothing after it. Directly in it are the PDU's header, type 1024, and its payload, type 1025, each exactly once, in any
+ * order; other elements beside them are passed over.
  *
  * Numbers. Every refusal has one: enum MantNumber below, and mant_meaning gives its words.
  */
@@ -54,7 +61,7 @@ enum MantNumber {
     MANT_PORT_ABOVE_15 = 11,                /* the port asked for is above 15 */
     MANT_PAYLOAD_TOO_LONG = 12,             /* the payload has more than 4,095 bytes */
     MANT_RELIABLE_WITHOUT_DESTINATION = 13, /* reliable service needs a destination */
-    MANT_OUTPUT_TOO_SHORT = 14,             /* the output has no room for the PDU */
+    MANT_OUTPUT_TOO_SHORT = 14,             /* the output has no room for the PDU, or for its exchange */
     MANT_RESERVED_ABOVE_3 = 15,             /* reserved bits above 3: a number of this library's own, for a header put together by hand */
     MANT_LOW_ABOVE_HIGH = 20,               /* a list has a range whose low is above its high */
     MANT_LIST_ODD = 21,                     /* the last value of a list has no partner */
@@ -77,7 +84,11 @@ enum MantNumber {
     MANT_JOB_LEFT_OVER = 53,                /* the job goes on after its batch */
     MANT_BATCH_TOO_LONG = 54,               /* the batch has more than 16,384 bytes */
     MANT_TABLE_FULL = 55,                   /* a new station, and the table holds as many as it has room for */
-    MANT_NOT_HELD = 56                      /* no such station is held */
+    MANT_NOT_HELD = 56,                     /* no such station is held */
+    MANT_ELEMENT_CUT = 57,                  /* an element does not end within the run that it stands in */
+    MANT_ELEMENT_TOO_DEEP = 58,             /* an element stands at level 5 */
+    MANT_NOT_AN_EXCHANGE = 59,              /* not one element of type 20 that holds one header and one payload */
+    MANT_NOT_SPLIT_AT_HEADER = 63           /* bytes follow the PDU, or its two parts do not meet at the header's end */
 };
 
 /* No number: what delivery and repeat hold in a step that has no answer, MANT_ENDED. */
@@ -98,7 +109,7 @@ static inline const char *mant_meaning(uint8_t number)
     case MANT_PORT_ABOVE_15: return "the port asked for is above 15";
     case MANT_PAYLOAD_TOO_LONG: return "the payload has more than 4,095 bytes";
     case MANT_RELIABLE_WITHOUT_DESTINATION: return "reliable service needs a destination";
-    case MANT_OUTPUT_TOO_SHORT: return "the output has no room for the PDU";
+    case MANT_OUTPUT_TOO_SHORT: return "the output has no room for the PDU, or for its exchange";
     case MANT_RESERVED_ABOVE_3: return "reserved bits above 3: a number of this library's own, for a header put together by hand";
     case MANT_LOW_ABOVE_HIGH: return "a list has a range whose low is above its high";
     case MANT_LIST_ODD: return "the last value of a list has no partner";
@@ -122,6 +133,10 @@ static inline const char *mant_meaning(uint8_t number)
     case MANT_BATCH_TOO_LONG: return "the batch has more than 16,384 bytes";
     case MANT_TABLE_FULL: return "a new station, and the table holds as many as it has room for";
     case MANT_NOT_HELD: return "no such station is held";
+    case MANT_ELEMENT_CUT: return "an element does not end within the run that it stands in";
+    case MANT_ELEMENT_TOO_DEEP: return "an element stands at level 5";
+    case MANT_NOT_AN_EXCHANGE: return "not one element of type 20 that holds one header and one payload";
+    case MANT_NOT_SPLIT_AT_HEADER: return "bytes follow the PDU, or its two parts do not meet at the header's end";
     default: return "no such number";
     }
 }
@@ -138,6 +153,9 @@ static inline const char *mant_meaning(uint8_t number)
 /* How many stations a table holds at most, and how many words are room for so many. */
 #define MANT_STATION_LIMIT 128
 #define MANT_STATION_WORDS 513
+
+/* The most bytes that mant_write_exchange writes. */
+#define MANT_EXCHANGE_LIMIT 4626
 
 /* The header of a PDU, in the order of its bits. A destination, PDU ID or path count that the PDU does not have is 0. With a number other than 0
    every field after it is 0 or false. */
@@ -167,6 +185,15 @@ typedef struct MantWritten {
     uint8_t number;
     size_t length;
 } MantWritten;
+
+/* Where the parts of a PDU lie in an exchange that was read. Places count from its first byte. With a number other than 0 every field after it is 0. */
+typedef struct MantExchange {
+    uint8_t number;           /* 0; else 57, 58, 59, 1 to 6 or 63 */
+    size_t header_place;
+    size_t header_length;
+    size_t payload_place;     /* with an empty payload, where it would begin; that may be the end of the bytes */
+    size_t payload_length;
+} MantExchange;
 
 /* What is asked of a fresh PDU. Hop limit and port are wider than their bits, so that 263 arrives as 263 and is refused. */
 typedef struct MantFresh {
@@ -275,6 +302,7 @@ typedef struct MantLimits {
 #endif
 MANT_SIZE(MantHeader, 40);
 MANT_SIZE(MantWritten, 16);
+MANT_SIZE(MantExchange, 40);
 MANT_SIZE(MantFresh, 32);
 MANT_SIZE(MantNode, 8);
 MANT_SIZE(MantAnswer, 40);
@@ -301,6 +329,17 @@ bool mant_path_has(const uint8_t *bytes, size_t bytes_length, uint16_t address);
 /* Writes the PDU at the start of the bytes again, from what reading shows of it: the same bytes. Answers 1 to 6 where there is no PDU, 14 where
    the output is too short. Leaves the output alone unless the number is 0. */
 MantWritten mant_write_again(const uint8_t *bytes, size_t bytes_length, uint8_t *output, size_t output_length);
+
+/* Where header and payload lie in the exchange that the bytes are, all of them. The whole of the bytes is judged first, also what is passed over: 57
+   where an element does not end within the run it stands in, 58 where one is at level 5, for the one that begins first, and 58 where it is both. Then 59
+   where the bytes are not one such exchange; 1 to 6 on header and payload joined; 63 where bytes follow the PDU, or where the first part is not just
+   its header. */
+MantExchange mant_read_exchange(const uint8_t *bytes, size_t bytes_length);
+
+/* Writes the exchange of the PDU at the start of the bytes: header first, nothing beside the two, every type and length in the shorter form. Answers
+   1 to 6 where there is no PDU, 14 where the output is shorter than the exchange, and leaves the output alone then. Bytes after the PDU are not looked
+   at. */
+MantWritten mant_write_exchange(const uint8_t *bytes, size_t bytes_length, uint8_t *output, size_t output_length);
 
 /* Writes a fresh PDU with this payload. Answers 10 to 14, the first that applies, where it can't. Leaves the output alone unless the number is 0. */
 MantWritten mant_originate(MantFresh settings, const uint8_t *payload, size_t payload_length, uint8_t *output, size_t output_length);

@@ -102,6 +102,15 @@ pub fn example() -> Vec<u8> {
     pdu(0, &PAYLOAD)
 }
 
+/// A full PDU, 4,615 bytes: like the example, but reliable, with a path of 255
+/// addresses and a payload of 4,095 bytes.
+pub fn full() -> Vec<u8> {
+    let mut bytes = pdu(255, &[7; 4_095]);
+    bytes[0] |= 8;
+    bytes.insert(8, 0);
+    bytes
+}
+
 /// A full batch, 16,384 bytes: 818 times the example and one of 24 bytes.
 pub fn batch_of_small() -> Vec<u8> {
     let mut bytes = example().repeat(818);

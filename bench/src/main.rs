@@ -2,6 +2,7 @@
 //! and prints a Markdown table of ns for one run.
 
 mod counting;
+mod exchanging;
 mod inputs;
 mod plain;
 #[cfg(test)]
@@ -23,6 +24,7 @@ const ROOM: usize = 16_384;
 fn main() {
     check_plain();
     counting::check_plain();
+    exchanging::check_plain();
     println!(
         "ns for one run, best / median of {ROUNDS} rounds at {} pairs of offsets within a page\n",
         OFFSETS.len()
@@ -56,9 +58,11 @@ fn main() {
         "hear and count, example, full table",
         counting::hearing_and_counting(),
     );
+    row("read an exchange, full PDU", exchanging::reading());
+    row("write an exchange, full PDU", exchanging::writing());
     println!("\nHow the node's cost grows:\n");
     growth(&example);
-    println!("\nThe Rust reading is rust/reference. memcpy copies the PDU that is read, written or repeated, or every PDU of the batch, one by one, or a station's words. Ratios are of the best rounds.");
+    println!("\nThe Rust reading is rust/reference. memcpy copies the PDU that is read, written or repeated, or every PDU of the batch, one by one, or a station's words, or the exchange that is read. Ratios are of the best rounds.");
 }
 
 /// The rows that show how the node's cost grows.

@@ -1,7 +1,7 @@
 //! plain.c, called as the library is.
 
 use mant::raw::{
-    Answer, Fresh, Header, Heard, Listened, Lists, Node, Station, Written, STATION_LIMIT,
+    Answer, Exchange, Fresh, Header, Heard, Listened, Lists, Node, Station, Written, STATION_LIMIT,
 };
 
 #[repr(C)]
@@ -36,6 +36,8 @@ impl Table {
 #[rustfmt::skip]
 extern "C" {
     fn plain_read(bytes: *const u8, length: usize) -> Header;
+    fn plain_read_exchange(bytes: *const u8, length: usize) -> Exchange;
+    fn plain_write_exchange(bytes: *const u8, length: usize, output: *mut u8, output_length: usize) -> Written;
     fn plain_originate(settings: Fresh, payload: *const u8, payload_length: usize, output: *mut u8, output_length: usize) -> Written;
     fn plain_hear(node: Node, lists: *const List, received: *const u8, length: usize, output: *mut u8, output_length: usize) -> Answer;
     fn plain_walk(
@@ -52,6 +54,27 @@ extern "C" {
 pub fn read(bytes: &[u8]) -> Header {
     // SAFETY: here and below, pointers and lengths are those of live slices.
     unsafe { plain_read(bytes.as_ptr(), bytes.len()) }
+}
+
+/// `plain_read_exchange`.
+#[inline]
+pub fn read_exchange(bytes: &[u8]) -> Exchange {
+    // SAFETY: as above.
+    unsafe { plain_read_exchange(bytes.as_ptr(), bytes.len()) }
+}
+
+/// `plain_write_exchange`.
+#[inline]
+pub fn write_exchange(bytes: &[u8], output: &mut [u8]) -> Written {
+    // SAFETY: as above.
+    unsafe {
+        plain_write_exchange(
+            bytes.as_ptr(),
+            bytes.len(),
+            output.as_mut_ptr(),
+            output.len(),
+        )
+    }
 }
 
 /// `plain_originate`.

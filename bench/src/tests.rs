@@ -2,7 +2,10 @@
 //! reference does.
 
 use crate::plain;
-use generator::{four_lists, origination, output, payload_to_send, received, room, Random};
+use generator::{
+    exchange, exchanged_pdu, four_lists, origination, output, payload_to_send, received, room,
+    Random,
+};
 use mant::raw;
 use reference::Stations;
 
@@ -104,5 +107,43 @@ fn plain_counts_as_the_reference_does() {
         assert_eq!(counts, (wanted.address, wanted.reads, wanted.echoes));
         let shortest = plain.has_path.then_some(plain.shortest_path);
         assert_eq!(shortest, wanted.shortest_path);
+    }
+}
+
+#[test]
+fn plain_reads_exchanges_as_the_reference_does() {
+    let mut random = Random::from_seed(5);
+    for _ in 0..INPUTS {
+        let bytes = exchange(&mut random);
+        let plain = plain::read_exchange(&bytes);
+        let wanted = match reference::read_exchange(&bytes) {
+            Ok(parts) => raw::Exchange {
+                number: 0,
+                header_place: parts.header.start,
+                header_length: parts.header.len(),
+                payload_place: parts.payload.start,
+                payload_length: parts.payload.len(),
+            },
+            Err(number) => raw::Exchange {
+                number,
+                ..raw::Exchange::default()
+            },
+        };
+        assert_eq!(plain, wanted);
+    }
+}
+
+#[test]
+fn plain_writes_exchanges_as_the_reference_does() {
+    let mut random = Random::from_seed(6);
+    for _ in 0..INPUTS {
+        let bytes = exchanged_pdu(&mut random);
+        let room = room(&mut random, bytes.len() + 11);
+        let mut one = output(&mut random, room);
+        let mut other = one.clone();
+        let written = plain::write_exchange(&bytes, &mut one);
+        let wanted = reference::write_exchange(&bytes, &mut other);
+        assert_eq!((written.number, written.length), wanted);
+        assert_eq!(one, other);
     }
 }

@@ -14,9 +14,13 @@ pub mod Run
 pub mod Stations
 pub mod Counting
 pub mod Listening
+pub mod Elements
+pub mod Joined
+pub mod Exchange
 pub mod Bound
 pub mod Boundary
 pub mod Mant
 pub mod Demands
 pub mod StationsHeard
+pub mod SerialExchange
 pub mod Examples

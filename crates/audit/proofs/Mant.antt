@@ -42,6 +42,10 @@ use Rattle.mant.proofs.mant_count_answer.Reads as mant-count-answer-reads
 use Rattle.mant.proofs.mant_count_answer.Kinds as mant-count-answer-kinds
 use Rattle.mant.proofs.mant_hear_and_count.Reads as mant-hear-and-count-reads
 use Rattle.mant.proofs.mant_hear_and_count.Kinds as mant-hear-and-count-kinds
+use Rattle.mant.proofs.mant_read_exchange.Reads as mant-read-exchange-reads
+use Rattle.mant.proofs.mant_read_exchange.Kinds as mant-read-exchange-kinds
+use Rattle.mant.proofs.mant_write_exchange.Reads as mant-write-exchange-reads
+use Rattle.mant.proofs.mant_write_exchange.Kinds as mant-write-exchange-kinds
 
 pub mant-read : Promised 1 mant-read-kinds.ps mant-read-kinds.r mant-read-reads.Asked mant-read-reads.Post (λ κs x. x)
 mant-read = (λ κs a. tt, λ κs a x y s t p q. p ∙ sym q)
@@ -128,3 +132,11 @@ mant-hear-and-count = (
     λ i. ((p .0 .1 ∙ sym (q .0 .1)) i, (p .2 ∙ sym (q .2)) i),
   ),
 )
+
+pub mant-read-exchange : Promised 1 mant-read-exchange-kinds.ps mant-read-exchange-kinds.r mant-read-exchange-reads.Asked
+    mant-read-exchange-reads.Post (λ κs x. x)
+mant-read-exchange = (λ κs a. tt, λ κs a x y s t p q. p ∙ sym q)
+
+pub mant-write-exchange : PromisedWithOutput 2 mant-write-exchange-kinds.ps mant-write-exchange-kinds.r mant-write-exchange-reads.Asked
+    mant-write-exchange-reads.Post (λ κs s. now (s .1 .0))
+mant-write-exchange = (λ κs a. tt, λ κs a x y s t p q. (p .0 ∙ sym (q .0), p .1 ∙ sym (q .1)))

@@ -1,4 +1,5 @@
 pub mod Promise
 pub mod Demands
 pub mod StationsHeard
+pub mod SerialExchange
 pub mod Examples

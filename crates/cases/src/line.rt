@@ -225,13 +225,13 @@ const ADDRESSED: usize = 0o22222222_13_13_7;
 fn shape_of(verb: usize, asked: usize) -> usize {
     match verb {
         verb::BOUND => 0o22_7,
-        verb::JOB | verb::READ | verb::VIEW => 0o13_7,
+        verb::EXCHANGE | verb::JOB | verb::READ | verb::VIEW => 0o13_7,
         verb::LISTS => TWO_LISTS,
         verb::COUNT => COUNTING,
         verb::FORGET => FORGETTING,
         verb::DELIVER | verb::HEAR | verb::STEP => HEARING,
         verb::ORIGINATE => pick(asked == ADDRESSED, ADDRESSED, ORIGINATION),
-        verb::WRITE => 0o13_13_7,
+        verb::PACK | verb::WRITE => 0o13_13_7,
         _ => NO_SHAPE,
     }
 }

@@ -21,7 +21,19 @@ pub(crate) fn ask(line: Line, input: &[u8], values: &[u16]) -> bool {
     if (verb == verb::COUNT) | (verb == verb::FORGET) {
         return table_verbs::ask(line, values);
     }
+    if verb == verb::EXCHANGE {
+        return unpacks(line, input);
+    }
     reads(line, input)
+}
+
+fn unpacks(line: Line, input: &[u8]) -> bool {
+    let read = exchange::read_exchange(input);
+    tell(line, 0o22222, 0, wide(read.number))
+        & tell(line, 0o22222, 1, read.header_place as u64)
+        & tell(line, 0o22222, 2, read.header_length as u64)
+        & tell(line, 0o22222, 3, read.payload_place as u64)
+        & tell(line, 0o22222, 4, read.payload_length as u64)
 }
 
 fn reads(line: Line, input: &[u8]) -> bool {

@@ -26,6 +26,9 @@ fn by_verb(line: Line, input: &[u8], values: &[u16], output: &mut [u8]) -> bool 
     if verb == verb::WRITE {
         return tells_written(line, writing::write_again(input, output));
     }
+    if verb == verb::PACK {
+        return tells_written(line, exchange::write_exchange(input, output));
+    }
     if verb == verb::ORIGINATE {
         return tells_written(line, origin::originate(origin_of(line), input, output));
     }

@@ -14,6 +14,8 @@ ghost use Rattle.stations.specs.Asking.{stationOf, foundAt};
 ghost use Rattle.counting.specs.Counting.{countNumber, memoryAfterCount};
 ghost use Rattle.counting.specs.Removing.{removalNumber, memoryAfterRemoval};
 ghost use Rattle.listening.specs.Listening.{answerNumber, memoryAfterAnswer, Listens};
+ghost use Rattle.exchange.specs.Exchange.{exchangeOf};
+ghost use Rattle.exchange.specs.Encoding.{writtenExchange, exchangeOutput};
 ghost use Rattle.boundary.specs.Boundary.{headerInC, pathAddressIn, pathHas, freshFromC, StepsInC, boundInC, limitsInC};
 use batch::Cursor;
 use boundary::MantBound;
@@ -23,6 +25,7 @@ use boundary::MantLimits;
 use boundary::MantStep;
 use counting::Heard;
 use decision::Settings;
+use exchange::Exchange;
 use listening::Listened;
 use node::Answer;
 use pdu::Reading;
@@ -292,4 +295,22 @@ pub extern "C" fn mant_hear_and_count<'a>(
         output,
         table,
     )
+}
+
+// Reads a serial exchange: 0 with place and length of header and payload in `bytes`; or 57 or 58, 59, 1 to 6, 63, with zeros. Document 02, W-202.
+#[no_mangle]
+pub extern "C" fn mant_read_exchange(bytes: &[u8]) -> Exchange
+    ensures { λ r. ⌜ r ≡ exchangeOf (now (bytes .entry)) ⌝ }
+{
+    exchange::read_exchange(bytes)
+}
+
+// Writes the PDU at the start of `bytes` as a serial exchange, and answers 0 and its length. Answers 1 to 6 where there is no PDU and 14 where the
+// output is too short for the exchange, with length 0 and the output as it was. Output past the exchange keeps its bytes. Document 02, W-202.
+#[no_mangle]
+pub extern "C" fn mant_write_exchange(bytes: &[u8], output: &mut [u8]) -> Written
+    ensures { λ r. ⌜ (r ≡ writtenExchange (now (bytes .entry)) (length (now (output .entry))))
+        × (now (output .exit) ≡ exchangeOutput (now (bytes .entry)) (now (output .entry))) ⌝ }
+{
+    exchange::write_exchange(bytes, output)
 }

@@ -2,11 +2,12 @@
 //! generated inputs: every number, field, delivered part and output byte.
 //!
 //! `differential [seed [count [first]]]`: the seed of the inputs (1), how many
-//! (214,000), and the first (0), so that one input can be run alone.
+//! (232,000), and the first (0), so that one input can be run alone.
 
 mod bounding;
 mod by_hand;
 mod counting;
+mod exchanging;
 mod flooding;
 mod hearing;
 mod listing;
@@ -32,7 +33,7 @@ const MOST_DIFFERENCES: u64 = 10;
 type Kind = (&'static str, usize, fn(&mut Random) -> Compared);
 
 /// The kinds of input.
-const KINDS: [Kind; 9] = [
+const KINDS: [Kind; 11] = [
     ("reading and writing again", 28, reading::compare),
     ("origination", 13, originating::compare),
     ("lists", 6, listing::compare),
@@ -42,6 +43,8 @@ const KINDS: [Kind; 9] = [
     ("floods", 1, flooding::compare),
     ("histories of a table of stations", 6, counting::compare),
     ("tables put together by hand", 1, by_hand::compare),
+    ("exchanges read", 6, exchanging::compare_reading),
+    ("exchanges written", 3, exchanging::compare_writing),
 ];
 
 /// What the arguments ask for.
@@ -64,7 +67,7 @@ fn main() -> ExitCode {
 
 /// Reads the arguments.
 fn asked() -> Result<Asked, String> {
-    let mut numbers = [1, 214_000, 0];
+    let mut numbers = [1, 232_000, 0];
     let mut arguments = std::env::args().skip(1);
     for (number, argument) in numbers.iter_mut().zip(arguments.by_ref()) {
         *number = argument

@@ -1,12 +1,13 @@
 //! Seeded inputs for everything that document 01 describes, and 02 as far as
 //! it is built: PDUs, damaged and cut ones, settings, lists, outputs, batches,
-//! jobs, and histories of a table of stations.
+//! jobs, histories of a table of stations, and exchanges.
 //!
 //! Everything is drawn from one [`Random`], so the same seed gives the same
 //! inputs. PDUs are laid out here by arithmetic of their own, not by the
 //! reference's writing.
 
 mod batch;
+mod exchange;
 mod history;
 mod job;
 mod lists;
@@ -18,6 +19,7 @@ mod shape;
 mod table;
 
 pub use batch::batch;
+pub use exchange::{exchange, exchanged_pdu, levels_down, short_exchange};
 pub use history::{deed, history, source_near, Deed, History};
 pub use job::{damaged_job, job, random_job, DamagedJob, JobParts};
 pub use lists::{bad_list, four_lists, good_four_lists, good_list, FourLists};

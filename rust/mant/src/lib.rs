@@ -1,14 +1,16 @@
 //! The MANT layer of ALERT2: the C library libmant.a with Rust types.
 //!
 //! Every function answers for every input and allocates nothing. An output is
-//! changed only where a PDU is written to it, and keeps its bytes past the
-//! PDU's end. [`Stations`] holds the stations that a box has heard. [`raw`]
-//! gives the library's structs as they are.
+//! changed only where a PDU or an exchange is written to it, and keeps its
+//! bytes past the end of that. [`Stations`] holds the stations that a box has
+//! heard. [`raw`] gives the library's structs as they are.
 
+mod exchange;
 pub mod raw;
 mod refusal;
 mod stations;
 
+pub use exchange::{read_exchange, write_exchange, Exchange};
 pub use raw::{Cursor, Limits, Node};
 pub use refusal::Refusal;
 pub use stations::{Heard, Listened, Station, Stations};

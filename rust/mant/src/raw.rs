@@ -36,6 +36,17 @@ pub struct Written {
     pub length: usize,
 }
 
+/// `MantExchange`.
+#[repr(C)]
+#[derive(Clone, Copy, Debug, Default, PartialEq, Eq)]
+pub struct Exchange {
+    pub number: u8,
+    pub header_place: usize,
+    pub header_length: usize,
+    pub payload_place: usize,
+    pub payload_length: usize,
+}
+
 /// `MantFresh`.
 #[repr(C)]
 #[derive(Clone, Copy, Debug, Default, PartialEq, Eq)]
@@ -167,10 +178,14 @@ pub const STATION_LIMIT: usize = 128;
 /// `MANT_STATION_WORDS`.
 pub const STATION_WORDS: usize = 513;
 
+/// `MANT_EXCHANGE_LIMIT`.
+pub const EXCHANGE_LIMIT: usize = 4626;
+
 // The sizes that the header asserts.
 const _: () = {
     assert!(size_of::<Header>() == 40);
     assert!(size_of::<Written>() == 16);
+    assert!(size_of::<Exchange>() == 40);
     assert!(size_of::<Fresh>() == 32);
     assert!(size_of::<Node>() == 8);
     assert!(size_of::<Answer>() == 40);
@@ -190,6 +205,8 @@ extern "C" {
     fn mant_path_address(bytes: *const u8, bytes_length: usize, place: usize) -> u16;
     fn mant_path_has(bytes: *const u8, bytes_length: usize, address: u16) -> bool;
     fn mant_write_again(bytes: *const u8, bytes_length: usize, output: *mut u8, output_length: usize) -> Written;
+    fn mant_read_exchange(bytes: *const u8, bytes_length: usize) -> Exchange;
+    fn mant_write_exchange(bytes: *const u8, bytes_length: usize, output: *mut u8, output_length: usize) -> Written;
     fn mant_originate(settings: Fresh, payload: *const u8, payload_length: usize, output: *mut u8, output_length: usize) -> Written;
     fn mant_list_fault(
         source_pass: *const u16, source_pass_length: usize, source_reject: *const u16, source_reject_length: usize,
@@ -255,6 +272,27 @@ pub fn write_again(bytes: &[u8], output: &mut [u8]) -> Written {
     // SAFETY: as above.
     unsafe {
         mant_write_again(
+            bytes.as_ptr(),
+            bytes.len(),
+            output.as_mut_ptr(),
+            output.len(),
+        )
+    }
+}
+
+/// `mant_read_exchange`.
+#[inline]
+pub fn read_exchange(bytes: &[u8]) -> Exchange {
+    // SAFETY: as above.
+    unsafe { mant_read_exchange(bytes.as_ptr(), bytes.len()) }
+}
+
+/// `mant_write_exchange`.
+#[inline]
+pub fn write_exchange(bytes: &[u8], output: &mut [u8]) -> Written {
+    // SAFETY: as above.
+    unsafe {
+        mant_write_exchange(
             bytes.as_ptr(),
             bytes.len(),
             output.as_mut_ptr(),

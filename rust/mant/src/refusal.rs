@@ -47,7 +47,7 @@ refusals! {
     PortAbove15 = 11, "the port asked for is above 15";
     PayloadTooLong = 12, "the payload has more than 4,095 bytes";
     ReliableWithoutDestination = 13, "reliable service needs a destination";
-    OutputTooShort = 14, "the output has no room for the PDU";
+    OutputTooShort = 14, "the output has no room for the PDU, or for its exchange";
     ReservedAbove3 = 15, "reserved bits above 3: a number of this library's own, for a header put together by hand";
     LowAboveHigh = 20, "a list has a range whose low is above its high";
     ListOdd = 21, "the last value of a list has no partner";
@@ -67,6 +67,10 @@ refusals! {
     BatchTooLong = 54, "the batch has more than 16,384 bytes";
     TableFull = 55, "a new station, and the table holds as many as it has room for";
     NotHeld = 56, "no such station is held";
+    ElementCut = 57, "an element does not end within the run that it stands in";
+    ElementTooDeep = 58, "an element stands at level 5";
+    NotAnExchange = 59, "not one element of type 20 that holds one header and one payload";
+    NotSplitAtHeader = 63, "bytes follow the PDU, or its two parts do not meet at the header's end";
 }
 
 impl Refusal {

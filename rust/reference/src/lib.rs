@@ -6,6 +6,7 @@
 //! with but the words of the numbers, in docs/NUMBERS.md.
 
 mod batch;
+mod exchange;
 mod flood;
 mod header;
 mod job;
@@ -18,6 +19,7 @@ mod stations;
 mod writing;
 
 pub use batch::{walk, Step, Walk, MOST_BATCH};
+pub use exchange::{read_exchange, write_exchange, Exchange, MOST_EXCHANGE};
 pub use flood::{bound, bytes_bound, longest_path};
 pub use header::{read, Header, FIXED_LENGTH, MOST_PATH, MOST_PAYLOAD, MOST_PDU};
 pub use job::{read_job, relay, Job};

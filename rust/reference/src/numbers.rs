@@ -23,7 +23,7 @@ numbers! {
     PORT_SETTING = 11, "the port asked for is above 15";
     PAYLOAD_SIZE = 12, "the payload has more than 4,095 bytes";
     RELIABLE_WITHOUT_DESTINATION = 13, "reliable service needs a destination";
-    OUTPUT_SHORT = 14, "the output has no room for the PDU";
+    OUTPUT_SHORT = 14, "the output has no room for the PDU, or for its exchange";
     RESERVED_ABOVE_3 = 15, "reserved bits above 3: a number of this library's own, for a header put together by hand";
     LOW_ABOVE_HIGH = 20, "a list has a range whose low is above its high";
     ODD_LIST = 21, "the last value of a list has no partner";
@@ -47,6 +47,10 @@ numbers! {
     BATCH_SIZE = 54, "the batch has more than 16,384 bytes";
     TABLE_FULL = 55, "a new station, and the table holds as many as it has room for";
     NOT_HELD = 56, "no such station is held";
+    ELEMENT_CUT = 57, "an element does not end within the run that it stands in";
+    ELEMENT_TOO_DEEP = 58, "an element stands at level 5";
+    NOT_AN_EXCHANGE = 59, "not one element of type 20 that holds one header and one payload";
+    NOT_SPLIT_AT_HEADER = 63, "bytes follow the PDU, or its two parts do not meet at the header's end";
 }
 
 /// What a number of the table means, in words.

@@ -1,0 +1,84 @@
+-- Document 02, W-202, as one record; `proofs/SerialExchange.antt` gives it from its parts. Reading never looks at what lies outside the input: the
+-- promise of `read_exchange` is `exchangeOf` of the input's bytes and of nothing else, and here `first-fault` has every element that it comes to begin
+-- within them, and `parts` what it shows lie within them.
+use Prim.Native.Nat.{ℕ, _+_, _≤_}
+use mathlib.Core.Bool.{not}
+use mathlib.Core.List.{List, [], _∷_, _++_}
+use mathlib.Core.Path.{_≡_}
+use lib.Dec.{ltb}
+use lib.ListN.{length, take, drop}
+use Rattle.octets.specs.Numbers.{_gives_, _orElse_}
+use Rattle.octets.specs.Octets.{AllBytes, over}
+use Rattle.pdu.specs.declared.Header.{Header}
+use Rattle.pdu.specs.declared.Reading.the-variants.{Pdu}
+use Rattle.pdu.specs.Header.{headerOf}
+use Rattle.pdu.specs.Sizes.{headerLength, pduLength}
+use Rattle.pdu.specs.Reading.{readOf, readingNumber}
+use Rattle.pdu.specs.Parts.{payloadIn}
+use Rattle.elements.specs.Elements.{levelLimit, runFault}
+use Rattle.elements.specs.Order.{reached, firstOwn, Ordered}
+use Rattle.joined.specs.Joined.{isSplit}
+use Rattle.exchange.specs.Exchange.{isExchange, headerPart, payloadPart, exchangeOf}
+use Rattle.exchange.specs.Encoding.{exchangeBytes, encoding, writtenExchange, exchangeOutput, exchangeLimit}
+
+-- the example of document 003, section 10.1, and its PDU
+abbrev pub example : List ℕ
+example =
+    0x14 ∷ 0x24 ∷ 0x84 ∷ 0x00 ∷ 0x06 ∷ 0x00 ∷ 0x00 ∷ 0x70 ∷ 0x0D ∷ 0x11 ∷ 0x33 ∷ 0x84 ∷ 0x01 ∷ 0x0D ∷ 0xA4 ∷ 0x08 ∷ 0x3F ∷ 0x03 ∷ 0xA3
+    ∷ 0x08 ∷ 0x3B ∷ 0x03 ∷ 0xA5 ∷ 0x28 ∷ 0x0A ∷ 0x04 ∷ 0x99 ∷ 0x84 ∷ 0x02 ∷ 0x04 ∷ 0x4D ∷ 0x1C ∷ 0x4A ∷ 0x10 ∷ 0x84 ∷ 0x03 ∷ 0x01 ∷ 0x31 ∷ []
+
+abbrev pub examplePdu : List ℕ
+examplePdu =
+    0x00 ∷ 0x00 ∷ 0x70 ∷ 0x0D ∷ 0x11 ∷ 0x33 ∷ 0xA4 ∷ 0x08 ∷ 0x3F ∷ 0x03 ∷ 0xA3 ∷ 0x08 ∷ 0x3B ∷ 0x03 ∷ 0xA5 ∷ 0x28 ∷ 0x0A ∷ 0x04 ∷ 0x99 ∷ []
+
+pub record SerialExchange : Type 0 where
+  -- the numbers in their order, when reading and when writing
+  pub reading-order : (bytes : List ℕ) → exchangeOf bytes .number
+      ≡ (runFault levelLimit bytes 0 (length bytes)
+      orElse (not (isExchange bytes) gives 59)
+      orElse readingNumber (readOf (headerPart bytes ++ payloadPart bytes))
+      orElse (not (isSplit (headerPart bytes) (payloadPart bytes)) gives 63))
+  pub writing-order : (bytes : List ℕ) (room : ℕ)
+      → writtenExchange bytes room .number ≡ (readingNumber (readOf bytes) orElse (ltb room (length (encoding bytes)) gives 14))
+  -- 57 or 58 is the own fault of the first faulty one of the elements that reading comes to, and these are in the order in which they begin
+  pub first-fault : (bytes : List ℕ)
+      → (runFault levelLimit bytes 0 (length bytes) ≡ firstOwn bytes (reached levelLimit bytes 0 (length bytes)))
+      × Ordered 0 (length bytes) (reached levelLimit bytes 0 (length bytes))
+  -- what is written reads back: number 0, and header and payload are the PDU's
+  pub reads-back : (bytes : List ℕ) (header : Header) → AllBytes bytes → readOf bytes ≡ Pdu header
+      → (exchangeOf (encoding bytes) .number ≡ 0)
+      × (headerPart (encoding bytes) ≡ take (headerLength header) bytes)
+      × (payloadPart (encoding bytes) ≡ payloadIn header bytes)
+  -- what reading shows are parts of the input, whole
+  pub parts : (exchange : List ℕ) → exchangeOf exchange .number ≡ 0
+      → (take (exchangeOf exchange .«header_length») (drop (exchangeOf exchange .«header_place») exchange) ≡ headerPart exchange)
+      × (take (exchangeOf exchange .«payload_length») (drop (exchangeOf exchange .«payload_place») exchange) ≡ payloadPart exchange)
+      × (exchangeOf exchange .«header_place» + exchangeOf exchange .«header_length» ≤ length exchange)
+      × (exchangeOf exchange .«payload_place» + exchangeOf exchange .«payload_length» ≤ length exchange)
+  -- joined they are a PDU with nothing after it, split at its header's end
+  pub holds-a-pdu : (exchange : List ℕ) → exchangeOf exchange .number ≡ 0 → let pdu = headerPart exchange ++ payloadPart exchange in
+      (readOf pdu ≡ Pdu (headerOf pdu)) × (headerLength (headerOf pdu) ≡ length (headerPart exchange)) × (pduLength (headerOf pdu) ≡ length pdu)
+  -- what was read and is written again is the one encoding of that PDU, whatever the order, the forms and the elements beside it were
+  pub one-encoding : (exchange bytes : List ℕ) (header : Header) → AllBytes bytes → readOf bytes ≡ Pdu header → exchangeOf exchange .number ≡ 0
+      → headerPart exchange ++ payloadPart exchange ≡ take (pduLength header) bytes → encoding (headerPart exchange ++ payloadPart exchange) ≡ encoding bytes
+  -- header first
+  pub header-first : (exchange : List ℕ) → exchangeOf exchange .number ≡ 0
+      → encoding (headerPart exchange ++ payloadPart exchange) ≡ exchangeBytes (headerPart exchange) (payloadPart exchange)
+  -- no exchange that is written is longer than 4,626 bytes, and one of a header of 520 bytes and a payload of 4,095 is as long
+  pub longest : (bytes : List ℕ) (header : Header) → AllBytes bytes → readOf bytes ≡ Pdu header → length (encoding bytes) ≤ exchangeLimit
+  pub as-long : (header payload : List ℕ) → length header ≡ 520 → length payload ≡ 4095 → length (exchangeBytes header payload) ≡ exchangeLimit
+  -- with 0 the exchange stands at the output's start and the rest is kept; a refusal writes nothing
+  pub written : (bytes output : List ℕ) → writtenExchange bytes (length output) .number ≡ 0
+      → (writtenExchange bytes (length output) .length ≡ length (encoding bytes)) × (exchangeOutput bytes output ≡ over (encoding bytes) output)
+  pub untouched : (bytes output : List ℕ) → (writtenExchange bytes (length output) .number ≡ 0 → ⊥)
+      → (writtenExchange bytes (length output) .length ≡ 0) × (exchangeOutput bytes output ≡ output)
+  -- document 003's example, with two elements that are passed over; its PDU of 19 bytes makes an exchange of 27
+  pub example-read : exchangeOf example
+      ≡ record { number = 0; «header_place» = 5; «header_length» = 6; «payload_place» = 14; «payload_length» = 13 }
+  pub example-written : (headerPart example ++ payloadPart example ≡ examplePdu) × (length (encoding examplePdu) ≡ 27)
+  -- at level 5: 58, cut or not; cut at level 4: 57; an empty run at level 4 is whole; type 10 in two bytes holds a run too
+  pub deep : exchangeOf (10 ∷ 8 ∷ 10 ∷ 6 ∷ 10 ∷ 4 ∷ 10 ∷ 2 ∷ 1 ∷ 0 ∷ []) .number ≡ 58
+  pub deep-cut : exchangeOf (10 ∷ 7 ∷ 10 ∷ 5 ∷ 10 ∷ 3 ∷ 10 ∷ 1 ∷ 5 ∷ []) .number ≡ 58
+  pub level-4-cut : exchangeOf (10 ∷ 5 ∷ 10 ∷ 3 ∷ 10 ∷ 1 ∷ 5 ∷ []) .number ≡ 57
+  pub level-4-empty : exchangeOf (10 ∷ 6 ∷ 10 ∷ 4 ∷ 10 ∷ 2 ∷ 10 ∷ 0 ∷ []) .number ≡ 59
+  pub long-type : exchangeOf (0x80 ∷ 10 ∷ 2 ∷ 5 ∷ 1 ∷ []) .number ≡ 57

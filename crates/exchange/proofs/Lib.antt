@@ -1,0 +1,7 @@
+pub mod Written
+pub mod There
+pub mod Judged
+pub mod Putting
+pub mod Back
+pub mod Laws
+pub mod Answered

@@ -1,0 +1,119 @@
+//! Exchanges with a separate decoder: read, written, and each from the other.
+
+use crate::output::Output;
+use crate::same::{written, Input};
+use crate::Compared;
+use generator::{exchange, exchanged_pdu, levels_down, room, short_exchange, Random};
+use mant::raw::{self, EXCHANGE_LIMIT};
+use reference::{read_exchange, write_exchange, Exchange};
+
+/// Compares reading on bytes of every kind, at times on every cut of an
+/// exchange, at every level.
+pub fn compare_reading(random: &mut Random) -> Compared {
+    if random.one_in(12) {
+        return compare_cuts(random);
+    }
+    let bytes = exchange(random);
+    compare_read(&bytes)?;
+    match read_exchange(&bytes) {
+        Ok(parts) => compare_written_again(&bytes, &parts),
+        Err(_) => Ok(()),
+    }
+}
+
+/// An exchange cut at every byte, the rest of it behind the cut, and so cut as
+/// a run of a level of its own.
+fn compare_cuts(random: &mut Random) -> Compared {
+    let bytes = short_exchange(random);
+    for length in 0..=bytes.len() {
+        let cut = &bytes[..length];
+        compare_read(cut)?;
+        let levels = random.between(1, 5);
+        compare_read(&levels_down(random, cut, levels))?;
+    }
+    Ok(())
+}
+
+/// Number, places and lengths, and the parts that the wrapper shows.
+fn compare_read(bytes: &[u8]) -> Compared {
+    let input = Input {
+        bytes,
+        rest: &"an exchange to be read",
+    };
+    let shown = read_exchange(bytes);
+    input.same("exchange", raw::read_exchange(bytes), in_library(&shown))?;
+    let wrapped = mant::read_exchange(bytes).map_err(mant::Refusal::number);
+    let wanted = shown.map(|parts| mant::Exchange {
+        header: &bytes[parts.header],
+        payload: &bytes[parts.payload],
+    });
+    input.same("wrapped exchange", wrapped, wanted)
+}
+
+/// An exchange as the library shows it; all 0 after a refusal.
+fn in_library(shown: &Result<Exchange, u8>) -> raw::Exchange {
+    match shown {
+        Ok(Exchange { header, payload }) => raw::Exchange {
+            number: 0,
+            header_place: header.start,
+            header_length: header.len(),
+            payload_place: payload.start,
+            payload_length: payload.len(),
+        },
+        Err(number) => raw::Exchange {
+            number: *number,
+            ..raw::Exchange::default()
+        },
+    }
+}
+
+/// What was read is written as the one encoding of its PDU, and that is read
+/// back to the same parts and written to the same bytes.
+fn compare_written_again(bytes: &[u8], parts: &Exchange) -> Compared {
+    let input = Input {
+        bytes,
+        rest: &"an exchange to be written again",
+    };
+    let parts = (&bytes[parts.header.clone()], &bytes[parts.payload.clone()]);
+    let pdu = [parts.0, parts.1].concat();
+    let mut library = vec![0; EXCHANGE_LIMIT];
+    let mut reference = library.clone();
+    let answered = raw::write_exchange(&pdu, &mut library);
+    let wanted = written(write_exchange(&pdu, &mut reference));
+    input.same("written again", answered, wanted)?;
+    input.same_bytes("bytes written again", &library, &reference)?;
+    let again = &library[..answered.length];
+    compare_read(again)?;
+    let back = mant::read_exchange(again).map_err(mant::Refusal::number);
+    let back = back.map(|exchange| (exchange.header, exchange.payload));
+    input.same("read back", back, Ok(parts))
+}
+
+/// Compares writing with rooms about the exchange's length.
+pub fn compare_writing(random: &mut Random) -> Compared {
+    let bytes = exchanged_pdu(random);
+    let (_, length) = write_exchange(&bytes, &mut [0; EXCHANGE_LIMIT]);
+    let room = room(random, length);
+    let input = Input {
+        bytes: &bytes,
+        rest: &format!("room {room}"),
+    };
+    let mut library = Output::of(random, room);
+    let mut reference = library.clone();
+    let mut wrapper = library.clone();
+    let answered = raw::write_exchange(&bytes, library.room());
+    let wanted = written(write_exchange(&bytes, reference.room()));
+    input.same("exchange written", answered, wanted)?;
+    input.same_bytes("output", library.all(), reference.all())?;
+    let wrapped = mant::write_exchange(&bytes, wrapper.room()).map_err(mant::Refusal::number);
+    let wanted = match wanted.number {
+        0 => Ok(wanted.length),
+        number => Err(number),
+    };
+    input.same("wrapped", wrapped, wanted)?;
+    input.same_bytes("wrapped output", wrapper.all(), reference.all())?;
+    match answered.number {
+        0 => compare_read(&library.room()[..answered.length]),
+        _ => Ok(()),
+    }
+}
