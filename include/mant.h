@@ -25,11 +25,11 @@
  * them; where it does not, no word changes. Words put together by hand get an answer too: they are held and listed as they stand there, but by address
  * stations are looked for as if the addresses rose, so that where they do not, one that stands there may not be found.
  *
- * Exchange. A decoder and an encoder that are two devices exchange PDUs (document 02, W-202) as elements of type, length and value (document 003,
- * section 3); prefix and total length are the serial driver's. A type or a length has one byte up to 127, else two bytes of which the first has its top
- * bit set; a small number in two bytes is taken too. The values of types 10, 11 and 20 are runs of elements again, at most 4 levels deep. An exchange is
- * one element of type 20 with nothing after it. Directly in it are the PDU's header, type 1024, and its payload, type 1025, each exactly once, in any
- * order; other elements beside them are passed over.
+ * Exchange. What a decoder and an encoder that are two devices send each other (document 02, W-202; document 003, section 3, for the elements): one
+ * element of type 20 that is all of the bytes, and in it an element of type 1024, the PDU's header, and one of type 1025, its payload, one of each, in
+ * either order; elements of other types may stand there too. A type or a length below 128 is one byte, or two that say the same; from 128 on it is two,
+ * with 128 added to the first of them. Elements of types 10, 11 and 20 hold elements, four levels down at most, of which the exchange is the first. What
+ * frames it on the line is the driver's.
  *
  * Numbers. Every refusal has one: enum MantNumber below, and mant_meaning gives its words.
  */

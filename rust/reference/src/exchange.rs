@@ -17,7 +17,7 @@ const FORWARD_PDU: usize = 20;
 const PDU_HEADER: usize = 1024;
 /// The type of the payload's element.
 const PDU_PAYLOAD: usize = 1025;
-/// The types whose values are runs of elements again.
+/// The types whose values are elements.
 const RUNS: [usize; 3] = [10, 11, FORWARD_PDU];
 /// So many levels deep at most.
 const MOST_LEVELS: usize = 4;
