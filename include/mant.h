@@ -332,8 +332,8 @@ MantWritten mant_write_again(const uint8_t *bytes, size_t bytes_length, uint8_t 
 
 /* Where header and payload lie in the exchange that the bytes are, all of them. The whole of the bytes is judged first, also what is passed over: 57
    where an element does not end within the run it stands in, 58 where one is at level 5, for the one that begins first, and 58 where it is both. Then 59
-   where the bytes are not one such exchange; 1 to 6 on header and payload joined; 63 where bytes follow the PDU, or where the first part is not just
-   its header. */
+   where the bytes are not one such exchange; 1 to 6 on header and payload joined; 63 where bytes follow the PDU, or where the header's part is not just
+   its header. To write what was read again, put the two together first, the header before the payload. */
 MantExchange mant_read_exchange(const uint8_t *bytes, size_t bytes_length);
 
 /* Writes the exchange of the PDU at the start of the bytes: header first, nothing beside the two, every type and length in the shorter form. Answers

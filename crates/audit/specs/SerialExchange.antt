@@ -18,8 +18,8 @@ use Rattle.pdu.specs.Parts.{payloadIn}
 use Rattle.elements.specs.Elements.{levelLimit, runFault}
 use Rattle.elements.specs.Order.{reached, firstOwn, Ordered}
 use Rattle.joined.specs.Joined.{isSplit}
-use Rattle.exchange.specs.Exchange.{isExchange, headerPart, payloadPart, exchangeOf}
-use Rattle.exchange.specs.Encoding.{exchangeBytes, encoding, writtenExchange, exchangeOutput, exchangeLimit}
+use Rattle.exchange.specs.Exchange.{isExchange, headerPart, payloadPart, refusedBy, exchangeOf}
+use Rattle.exchange.specs.Encoding.{numberBytes, exchangeBytes, encoding, writtenExchange, exchangeOutput, exchangeLimit}
 
 -- the example of document 003, section 10.1, and its PDU
 abbrev pub example : List ℕ
@@ -27,9 +27,15 @@ example =
     0x14 ∷ 0x24 ∷ 0x84 ∷ 0x00 ∷ 0x06 ∷ 0x00 ∷ 0x00 ∷ 0x70 ∷ 0x0D ∷ 0x11 ∷ 0x33 ∷ 0x84 ∷ 0x01 ∷ 0x0D ∷ 0xA4 ∷ 0x08 ∷ 0x3F ∷ 0x03 ∷ 0xA3
     ∷ 0x08 ∷ 0x3B ∷ 0x03 ∷ 0xA5 ∷ 0x28 ∷ 0x0A ∷ 0x04 ∷ 0x99 ∷ 0x84 ∷ 0x02 ∷ 0x04 ∷ 0x4D ∷ 0x1C ∷ 0x4A ∷ 0x10 ∷ 0x84 ∷ 0x03 ∷ 0x01 ∷ 0x31 ∷ []
 
-abbrev pub examplePdu : List ℕ
-examplePdu =
-    0x00 ∷ 0x00 ∷ 0x70 ∷ 0x0D ∷ 0x11 ∷ 0x33 ∷ 0xA4 ∷ 0x08 ∷ 0x3F ∷ 0x03 ∷ 0xA3 ∷ 0x08 ∷ 0x3B ∷ 0x03 ∷ 0xA5 ∷ 0x28 ∷ 0x0A ∷ 0x04 ∷ 0x99 ∷ []
+abbrev pub exampleHeader : List ℕ
+exampleHeader = 0x00 ∷ 0x00 ∷ 0x70 ∷ 0x0D ∷ 0x11 ∷ 0x33 ∷ []
+
+abbrev pub examplePayload : List ℕ
+examplePayload = 0xA4 ∷ 0x08 ∷ 0x3F ∷ 0x03 ∷ 0xA3 ∷ 0x08 ∷ 0x3B ∷ 0x03 ∷ 0xA5 ∷ 0x28 ∷ 0x0A ∷ 0x04 ∷ 0x99 ∷ []
+
+-- header and payload as elements, in the short form
+abbrev pub headerFirst : List ℕ
+headerFirst = (0x84 ∷ 0x00 ∷ 0x06 ∷ exampleHeader) ++ (0x84 ∷ 0x01 ∷ 0x0D ∷ examplePayload)
 
 pub record SerialExchange : Type 0 where
   -- the numbers in their order, when reading and when writing
@@ -72,10 +78,27 @@ pub record SerialExchange : Type 0 where
       → (writtenExchange bytes (length output) .length ≡ length (encoding bytes)) × (exchangeOutput bytes output ≡ over (encoding bytes) output)
   pub untouched : (bytes output : List ℕ) → (writtenExchange bytes (length output) .number ≡ 0 → ⊥)
       → (writtenExchange bytes (length output) .length ≡ 0) × (exchangeOutput bytes output ≡ output)
-  -- document 003's example, with two elements that are passed over; its PDU of 19 bytes makes an exchange of 27
+  -- document 003's example, with two elements that are passed over; its PDU of 19 bytes makes an exchange of 27, header first
   pub example-read : exchangeOf example
       ≡ record { number = 0; «header_place» = 5; «header_length» = 6; «payload_place» = 14; «payload_length» = 13 }
-  pub example-written : (headerPart example ++ payloadPart example ≡ examplePdu) × (length (encoding examplePdu) ≡ 27)
+  pub example-written : (headerPart example ++ payloadPart example ≡ exampleHeader ++ examplePayload)
+      × (encoding (exampleHeader ++ examplePayload) ≡ 0x14 ∷ 0x19 ∷ headerFirst)
+  -- payload first, and every number in the long form
+  pub either-order : exchangeOf (0x14 ∷ 0x19 ∷ (0x84 ∷ 0x01 ∷ 0x0D ∷ examplePayload) ++ (0x84 ∷ 0x00 ∷ 0x06 ∷ exampleHeader))
+      ≡ record { number = 0; «header_place» = 21; «header_length» = 6; «payload_place» = 5; «payload_length» = 13 }
+  pub long-forms : exchangeOf (0x80 ∷ 0x14 ∷ 0x80 ∷ 0x1B ∷ (0x84 ∷ 0x00 ∷ 0x80 ∷ 0x06 ∷ exampleHeader) ++ (0x84 ∷ 0x01 ∷ 0x80 ∷ 0x0D ∷ examplePayload))
+      ≡ record { number = 0; «header_place» = 8; «header_length» = 6; «payload_place» = 18; «payload_length» = 13 }
+  -- the shorter form is written up to 127
+  pub forms-written : (numberBytes 127 ≡ 127 ∷ []) × (numberBytes 128 ≡ 0x80 ∷ 0x80 ∷ [])
+  -- an element after the exchange, and a second header: 59; a byte after the PDU, and a split before the header's end: 63, with zeros
+  pub one-after : exchangeOf (0x14 ∷ 0x19 ∷ headerFirst ++ (1 ∷ 0 ∷ [])) ≡ refusedBy 59
+  pub two-headers : exchangeOf (0x14 ∷ 0x22 ∷ (0x84 ∷ 0x00 ∷ 0x06 ∷ exampleHeader) ++ headerFirst) ≡ refusedBy 59
+  pub byte-after : exchangeOf (0x14 ∷ 0x0D ∷ 0x84 ∷ 0 ∷ 6 ∷ 0 ∷ 0 ∷ 0 ∷ 0 ∷ 0 ∷ 5 ∷ 0x84 ∷ 1 ∷ 1 ∷ 0xFF ∷ []) ≡ refusedBy 63
+  pub split-early : exchangeOf (0x14 ∷ 0x0C ∷ 0x84 ∷ 0 ∷ 5 ∷ 0 ∷ 0 ∷ 0 ∷ 0 ∷ 0 ∷ 0x84 ∷ 1 ∷ 1 ∷ 5 ∷ []) ≡ refusedBy 63
+  -- cut by its run and not by the input; type 11 holds a run, type 12 does not
+  pub run-cut : exchangeOf (0x14 ∷ 3 ∷ 5 ∷ 2 ∷ 1 ∷ 0 ∷ 0 ∷ []) .number ≡ 57
+  pub type-11 : exchangeOf (11 ∷ 2 ∷ 5 ∷ 1 ∷ []) .number ≡ 57
+  pub type-12 : exchangeOf (12 ∷ 2 ∷ 5 ∷ 1 ∷ []) .number ≡ 59
   -- at level 5: 58, cut or not; cut at level 4: 57; an empty run at level 4 is whole; type 10 in two bytes holds a run too
   pub deep : exchangeOf (10 ∷ 8 ∷ 10 ∷ 6 ∷ 10 ∷ 4 ∷ 10 ∷ 2 ∷ 1 ∷ 0 ∷ []) .number ≡ 58
   pub deep-cut : exchangeOf (10 ∷ 7 ∷ 10 ∷ 5 ∷ 10 ∷ 3 ∷ 10 ∷ 1 ∷ 5 ∷ []) .number ≡ 58
