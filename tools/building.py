@@ -1,5 +1,5 @@
 """Builds from the present sources, for ./relay, tools/build and the tests: one build at a time in a clone, and none left running. What is built is for
-x86-64; on another processor it runs under the emulator of the Rattle kit."""
+x86-64; on another processor it runs under the emulator of the Rattle kit, and a library is also made for that processor, to be tested and timed."""
 import contextlib
 import fcntl
 import hashlib
@@ -12,6 +12,8 @@ import signal
 import subprocess
 import sys
 import time
+
+import native
 
 TOP = pathlib.Path(__file__).resolve().parent.parent
 TARGET = TOP / 'target'
@@ -73,10 +75,10 @@ def started(words, **more):
         raise
 
 
-def run_rt(name, words):
-    """Runs rt; after a while, with a line on standard error that grows. Its status and what it said."""
+def run_rt(name, words, **settings):
+    """Runs rt, with these settings in its environment; after a while, with a line on standard error that grows. Its status and what it said."""
     began, told = time.monotonic(), False
-    with started(['rt', *words], cwd=TOP, stdout=subprocess.PIPE, stderr=subprocess.STDOUT) as child:
+    with started(['rt', *words], cwd=TOP, env=os.environ | settings, stdout=subprocess.PIPE, stderr=subprocess.STDOUT) as child:
         while True:
             try:
                 said = child.communicate(timeout=QUIET)[0]
@@ -93,9 +95,9 @@ def run_rt(name, words):
     return child.returncode, said.decode(errors='replace')
 
 
-def rt(name, *words):
+def rt(name, *words, **settings):
     try:
-        status, said = run_rt(name, words)
+        status, said = run_rt(name, words, **settings)
     except OSError as error:
         raise Failed(f'`rt`, of the Rattle kit, cannot be run: {error.strerror}') from error
     if status != 0:
@@ -169,14 +171,30 @@ def state_of(crate, archive):
 
 
 def library(name, crate):
-    """Proves a library and writes its archive for C, unless the one that is there was made here from the same sources."""
-    archive = TARGET / 'staticlib' / f'lib{crate}.a'
+    """Proves a library and writes its archive for C, and one for this machine's processor, unless those that are there were made here from the same
+    sources."""
+    archive, own = TARGET / 'staticlib' / f'lib{crate}.a', TARGET / 'native' / f'lib{crate}.a'
     made_from = archive.with_suffix('.from')
     try:
-        if archive.is_file() and made_from.is_file() and made_from.read_text() == state_of(crate, archive):
+        if archive.is_file() and own.is_file() and made_from.is_file() and made_from.read_text() == state_of(crate, archive):
             return
     except OSError as error:
         raise Failed(f'{error.filename}: {error.strerror}') from error
     made_from.unlink(missing_ok=True)
-    rt(name, 'staticlib', crate)
+    own.parent.mkdir(parents=True, exist_ok=True)
+    if platform.machine() == 'x86_64':
+        rt(name, 'staticlib', crate)
+        shutil.copyfile(archive, own)
+    else:
+        for_this_processor(name, crate, own)
     made_from.write_text(state_of(crate, archive))
+
+
+def for_this_processor(name, crate, own):
+    kept = own.with_name(f'{crate}.bc')
+    kit = native.keeping_kit(own.parent / 'kit', toolchain(), kept)
+    rt(name, 'staticlib', crate, RATTLE_HOME=str(kit))
+    try:
+        native.compiled(toolchain(), kept, own)
+    except (OSError, subprocess.CalledProcessError) as error:
+        raise Failed(f'the module of {crate} could not be compiled for {platform.machine()}: {error}') from error

@@ -1,5 +1,5 @@
 //! Links libmant.a from the folder MANT_LIB_DIR, or from target/staticlib of
-//! the repository where that is not set.
+//! the repository where that is not set. The latter is for x86-64.
 
 use std::env;
 use std::path::{Path, PathBuf};
@@ -7,11 +7,11 @@ use std::path::{Path, PathBuf};
 fn main() {
     let target = ["CARGO_CFG_TARGET_ARCH", "CARGO_CFG_TARGET_OS"]
         .map(|name| env::var(name).unwrap_or_default());
+    println!("cargo:rerun-if-env-changed=MANT_LIB_DIR");
     assert!(
-        target == ["x86_64", "linux"],
+        target == ["x86_64", "linux"] || env::var_os("MANT_LIB_DIR").is_some(),
         "libmant.a is for x86-64 Linux only"
     );
-    println!("cargo:rerun-if-env-changed=MANT_LIB_DIR");
     let folder = folder();
     let library = folder.join("libmant.a");
     assert!(
