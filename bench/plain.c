@@ -253,6 +253,9 @@ Answer plain_hear(Node node, const List lists[4], const uint8_t *received, size_
                 return twice(30, header.pdu_length);
             }
         }
+        if (header.source == node.own) {
+            return twice(42, header.pdu_length);
+        }
     }
     if (node.source_pass && !list_holds(lists[0], header.source)) {
         return twice(31, header.pdu_length);
@@ -376,7 +379,8 @@ Listened plain_hear_and_count(Node node, const List lists[4], const uint8_t *rec
     if (listened.answer.taken != 0) {
         bool path_bit = received[0] >> 1 & 1;
         size_t path_place = 6 + 2 * (size_t)(received[0] & 1) + (received[0] >> 3 & 1);
-        Heard heard = {word(received + 4), listened.answer.delivery == 30, path_bit, path_bit ? received[path_place] : 0};
+        bool echo = listened.answer.delivery == 30 || listened.answer.delivery == 42;
+        Heard heard = {word(received + 4), echo, path_bit, path_bit ? received[path_place] : 0};
         listened.table_number = plain_count(table, heard);
     }
     return listened;

@@ -78,6 +78,7 @@ enum MantNumber {
     MANT_FOR_ANOTHER = 39,                  /* not delivered: it is for another node */
     MANT_REPEAT_OUTPUT_TOO_SHORT = 40,      /* the output has no room for the repeated PDU */
     MANT_FOR_THIS_NODE = 41,                /* not repeated: it is for this node */
+    MANT_OWN_REPORT = 42,                   /* echo: this node is the source */
     MANT_JOB_CUT = 50,                      /* the job ends too early */
     MANT_JOB_FLAGS = 51,                    /* bit 6 or 7 of the job's flags is set */
     MANT_JOB_LIST_COUNT = 52,               /* a list of the job has more than 64 ranges */
@@ -126,6 +127,7 @@ static inline const char *mant_meaning(uint8_t number)
     case MANT_FOR_ANOTHER: return "not delivered: it is for another node";
     case MANT_REPEAT_OUTPUT_TOO_SHORT: return "the output has no room for the repeated PDU";
     case MANT_FOR_THIS_NODE: return "not repeated: it is for this node";
+    case MANT_OWN_REPORT: return "echo: this node is the source";
     case MANT_JOB_CUT: return "the job ends too early";
     case MANT_JOB_FLAGS: return "bit 6 or 7 of the job's flags is set";
     case MANT_JOB_LIST_COUNT: return "a list of the job has more than 64 ranges";
@@ -211,7 +213,7 @@ typedef struct MantFresh {
 /* What a node is set to. Each of its four lists is on or off; a pass list that is on and empty passes nothing. */
 typedef struct MantNode {
     uint16_t own;
-    bool echo;                /* refuse a PDU whose path holds the own address */
+    bool echo;                /* drop a PDU whose path holds the own address, or whose source it is */
     bool repeating;
     bool source_pass;
     bool source_reject;
@@ -266,7 +268,7 @@ typedef struct MantFound {
 /* What a table counts of a PDU that was read. */
 typedef struct MantHeard {
     uint16_t source;
-    bool echo;                /* the node dropped it by echo: it answered 30 */
+    bool echo;                /* the node dropped it by echo: it answered 30 or 42 */
     bool path_bit;            /* false: it has no path, and `path_count` does not count */
     uint8_t path_count;
 } MantHeard;
@@ -354,9 +356,11 @@ uint8_t mant_list_fault(const uint16_t *source_pass, size_t source_pass_length, 
 bool mant_list_holds(const uint16_t *list, size_t list_length, uint16_t address);
 
 /* What a node answers for the PDU at the start of the received bytes: a number for delivery and one for repeating. Faults of the lists (20 to 22),
-   of reading (1 to 6), 30 to 34 and 40 are given as both, and nothing is delivered then. The lists are checked even where they are off. The
-   delivered payload is the delivered_length bytes from received + delivered_place on. With length 0 there are none, and that place may be the end of
-   the received bytes. The repeated PDU is written to the output where the repeat number is 0; with any other the output is left alone. */
+   of reading (1 to 6), 30, 42, 31 to 34 and 40, the first of them in this order, are given as both, and nothing is delivered then. The lists are
+   checked even where they are off. With echo on, 30 is given where the path holds the own address, and 42 where the source is the own address, with
+   the path bit or without (document 02, W-203); with echo off, neither. The delivered payload is the delivered_length bytes from received +
+   delivered_place on. With length 0 there are none, and that place may be the end of the received bytes. The repeated PDU is written to the output
+   where the repeat number is 0; with any other the output is left alone. */
 MantAnswer mant_hear(MantNode settings, const uint16_t *source_pass, size_t source_pass_length, const uint16_t *source_reject,
                      size_t source_reject_length, const uint16_t *destination_pass, size_t destination_pass_length,
                      const uint16_t *destination_reject, size_t destination_reject_length, const uint8_t *received, size_t received_length,
@@ -396,10 +400,10 @@ uint8_t mant_remove_station(uint16_t *table, size_t table_words, uint16_t addres
    count has come to 65,535. */
 uint8_t mant_count_heard(uint16_t *table, size_t table_words, MantHeard heard);
 
-/* Counts the PDU at the start of the received bytes by what a node answered for it, as mant_count_heard does: delivery number 30 is an echo. Where
-   the answer says that no PDU was read, `taken` is 0: it answers 0 and leaves the table alone. It is for a walk, after each step: in the loop above,
-   with received = batch + (s.next.place - s.answer.taken) and the bytes from there to the batch's end; a step without an answer counts nothing. Of an
-   answer that is not the node's for these bytes, what they hold is counted. */
+/* Counts the PDU at the start of the received bytes by what a node answered for it, as mant_count_heard does: delivery number 30 or 42 is an echo.
+   Where the answer says that no PDU was read, `taken` is 0: it answers 0 and leaves the table alone. It is for a walk, after each step: in the loop
+   above, with received = batch + (s.next.place - s.answer.taken) and the bytes from there to the batch's end; a step without an answer counts nothing.
+   Of an answer that is not the node's for these bytes, what they hold is counted. */
 uint8_t mant_count_answer(uint16_t *table, size_t table_words, const uint8_t *received, size_t received_length, MantAnswer answer);
 
 /* What mant_hear answers and writes to the output, and the PDU counted in the table as by mant_count_answer, so that no PDU is forgotten. Every PDU
@@ -410,8 +414,9 @@ MantListened mant_hear_and_count(MantNode settings, const uint16_t *source_pass,
                                  const uint16_t *destination_reject, size_t destination_reject_length, const uint8_t *received,
                                  size_t received_length, uint8_t *output, size_t output_length, uint16_t *table, size_t table_words);
 
-/* The most transmissions that one fresh PDU with a path and this hop limit can cause among so many repeating nodes, its own counted. Echo is on at
-   each node, and no two have the same address. */
+/* The most transmissions that one fresh PDU with a path and this hop limit can cause among so many repeating nodes, its first sending counted. Echo is
+   on at each node, and no two have the same address. The node at the PDU's source address hears too, with echo on, and does not count among these nodes,
+   since it drops what it hears of its own (42). So a gauge that also repeats counts for the reports of others, and not for its own. */
 MantBound mant_most_transmissions(uint64_t nodes, uint64_t hop_limit);
 
 /* The most bytes that those transmissions have together, where the fresh PDU has this size. Any size is answered, also one that no PDU has. */

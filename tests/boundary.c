@@ -210,6 +210,28 @@ static void hearing_and_counting(void)
     CHECK(mant_station_of(table, MANT_STATION_WORDS, 1000).number == 56);
 }
 
+/* PDUs from the node itself: the example, one without a path, and one whose path has the node too. */
+static void own_reports(void)
+{
+    const MantNode originator = {.own = 1000, .echo = true, .repeating = true}, without_echo = {.own = 1000, .repeating = true};
+    const MantNode passing = {.own = 1000, .echo = true, .repeating = true, .source_pass = true};
+    const uint8_t without_path[6] = {0, 0, 0x70, 0, 0x03, 0xE8}, with_both[9] = {2, 0, 0x70, 0, 0x03, 0xE8, 1, 0x03, 0xE8};
+    uint16_t table[MANT_STATION_WORDS] = {0};
+    uint8_t output[24], untouched[24];
+    memset(output, 77, sizeof output);
+    memset(untouched, 77, sizeof untouched);
+    MantListened l = mant_hear_and_count(originator, NO_LISTS, example, 20, output, sizeof output, table, MANT_STATION_WORDS);
+    CHECK(l.answer.delivery == MANT_OWN_REPORT && l.answer.repeat == 42 && l.answer.delivered_length == 0 && l.answer.repeated_length == 0);
+    CHECK(l.answer.taken == 20 && l.table_number == 0 && memcmp(output, untouched, sizeof output) == 0);
+    MantAnswer a = mant_hear(passing, NO_LISTS, without_path, 6, output, sizeof output);
+    CHECK(a.delivery == 42 && a.repeat == 42 && a.taken == 6 && mant_count_answer(table, MANT_STATION_WORDS, without_path, 6, a) == 0);
+    CHECK(is_station(mant_station_of(table, MANT_STATION_WORDS, 1000), 1000, 2, 2, true, 0));
+    a = mant_hear(passing, NO_LISTS, with_both, 9, output, sizeof output);
+    CHECK(a.delivery == MANT_ECHO && a.repeat == MANT_ECHO && memcmp(output, untouched, sizeof output) == 0);
+    a = mant_hear(without_echo, NO_LISTS, without_path, 6, output, sizeof output);
+    CHECK(a.delivery == 0 && a.repeat == 0 && a.repeated_length == 6 && memcmp(output, without_path, 6) == 0 && output[6] == 77);
+}
+
 static void a_full_table(void)
 {
     uint16_t table[MANT_STATION_WORDS + 8] = {0}, before[MANT_STATION_WORDS + 8];
@@ -269,6 +291,7 @@ int main(void)
     origination();
     lists_and_walk();
     hearing_and_counting();
+    own_reports();
     a_full_table();
     short_tables();
     bounds_and_limits();

@@ -4,7 +4,7 @@
 use crate::plain;
 use generator::{
     exchange, exchanged_pdu, four_lists, origination, output, payload_to_send, received, room,
-    Random,
+    settings_for, Random,
 };
 use mant::raw;
 use reference::Stations;
@@ -51,9 +51,9 @@ fn plain_originates_as_the_reference_does() {
 fn plain_hears_as_the_reference_does() {
     let mut random = Random::from_seed(3);
     for _ in 0..INPUTS {
-        let settings = generator::settings(&mut random);
         let four = four_lists(&mut random);
         let bytes = received(&mut random);
+        let settings = settings_for(&mut random, &bytes);
         let room = room(&mut random, bytes.len() + 2);
         let mut one = output(&mut random, room);
         let mut other = one.clone();

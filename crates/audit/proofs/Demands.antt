@@ -38,7 +38,7 @@ use Rattle.flood.specs.Air.{address}
 use Rattle.flood.proofs.Demand.{demand-3, demand-3-bytes}
 use Rattle.flood.proofs.Demand as demand
 use Rattle.flood.proofs.Exact as exact
-use Rattle.flood.proofs.Fresh.{originated-begins, fresh-hop}
+use Rattle.flood.proofs.Fresh.{originated-begins, fresh-source, fresh-hop}
 use Rattle.flood.proofs.Sent.{sent-written, none-written}
 use Rattle.audit.specs.Demands.{Demand1, Demand2, Demand3}
 
@@ -166,7 +166,7 @@ bounded =
       begun-bounded = λ nodes all first begins receptions once.
           (demand.begun-bounded nodes all first begins receptions once, demand.begun-bytes nodes all first begins receptions once);
       originated-begins = λ settings payload room message.
-          (originated-begins settings payload room message, fresh-hop settings payload room message);
+          (originated-begins settings payload room message, fresh-source settings payload room message, fresh-hop settings payload room message);
       sent-is-left = λ n received output sent long e. sent-written n received output long sent e;
       silent-is-left = λ n received output long e. none-written n received output long e;
     }

@@ -23,4 +23,5 @@ pub mod Mant
 pub mod Demands
 pub mod StationsHeard
 pub mod SerialExchange
+pub mod OwnReport
 pub mod Examples

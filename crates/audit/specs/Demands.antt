@@ -24,9 +24,9 @@ use Rattle.batch.specs.declared.Cursor.{Cursor}
 use Rattle.batch.specs.declared.Stepped.the-variants.{Answered}
 use Rattle.batch.specs.Walk.{batchLimit, stepOf, stepOutput, walk, steps}
 use Rattle.bound.specs.Bound.{terms, bound, bytesBound}
-use Rattle.flood.specs.Flood.{Reception, Bounded}
+use Rattle.flood.specs.Flood.{Reception, others, Bounded}
 use Rattle.flood.specs.Complete.{Complete}
-use Rattle.flood.specs.Air.{Repeater, Nodes, Open, Originated, address, sends, pathOf, onTheAir, bytesOnTheAir, Begins, hopOf}
+use Rattle.flood.specs.Air.{Repeater, Nodes, Open, Originated, address, sends, sourceOf, pathOf, onTheAir, bytesOnTheAir, Begins, hopOf}
 
 -- Demand 1, total. That every public function answers any input, and how, are its contract and this crate's theorems by the forms of Promise.antt, one
 -- for each function, in the files named by the crates. Here: a hop setting above 7 is refused, whatever else is set, with nothing written.
@@ -83,26 +83,29 @@ pub record Demand2 : Type 0 where
   pub walk-ends : (node : Node) (room : ℕ) (batch : List ℕ) → length batch ≤ batchLimit
       → (length batch ≤ walk node room batch .end) ⊎ (listOrReadingFault node (drop (walk node room batch .end) batch) ≡ 0 → ⊥)
 
--- Demand 3, bounded, over demand 2's rules: any nodes of different addresses with echo on, whatever their lists, settings and room; any message that
--- origination wrote with a path; any receptions of transmissions already made, none twice.
+-- Demand 3, bounded, over demand 2's rules, as document 02, W-203 has it: any nodes of different addresses with echo on, whatever their lists, settings
+-- and room, the originator among them or not; any message that origination wrote with a path; any receptions of transmissions already made, by the
+-- originator too, none twice. N is the number of the others, the nodes whose address is not the source.
 pub record Demand3 : Type 0 where
   pub bounded : (nodes : List Repeater) → Nodes nodes → (settings : asked.Settings) (payload : List ℕ) (room : ℕ) → Originated settings payload room
       → (receptions : List Reception) → List·Nodup receptions
-      → Bounded address pathOf nodes (settings .«hop_limit») (onTheAir nodes (fresh settings payload) receptions)
+      → Bounded address pathOf (others address (settings .source) nodes) (settings .«hop_limit») (onTheAir nodes (fresh settings payload) receptions)
   -- the bytes on the air
   pub bytes-bounded : (nodes : List Repeater) → Nodes nodes → (settings : asked.Settings) (payload : List ℕ) (room : ℕ)
       → Originated settings payload room
       → (receptions : List Reception) → List·Nodup receptions
-      → bytesOnTheAir nodes (fresh settings payload) receptions ≤ bytesBound (length nodes) (settings .«hop_limit») (length (fresh settings payload))
-  -- both are exact where every node repeats what it may, has room, hears every transmission, and the message is for everyone
+      → bytesOnTheAir nodes (fresh settings payload) receptions
+      ≤ bytesBound (length (others address (settings .source) nodes)) (settings .«hop_limit») (length (fresh settings payload))
+  -- both are exact where each of the others repeats what it may and has room, every node hears every transmission, and the message is for everyone
   pub reached : (nodes : List Repeater) → Nodes nodes → (settings : asked.Settings) (payload : List ℕ) (room : ℕ) → Originated settings payload room
-      → ((n : Repeater) → List·Memᴰ n nodes → Open (n .node))
-      → ((n : Repeater) → List·Memᴰ n nodes → length (fresh settings payload) + 2 * terms (length nodes) (settings .«hop_limit») ≤ n .room)
-      → settings .destination ≡ Everyone → (length nodes ≤ pathLimit) ⊎ (settings .«hop_limit» < 7)
+      → let counted = others address (settings .source) nodes in
+      ((n : Repeater) → List·Memᴰ n counted → Open (n .node))
+      → ((n : Repeater) → List·Memᴰ n counted → length (fresh settings payload) + 2 * terms (length counted) (settings .«hop_limit») ≤ n .room)
+      → settings .destination ≡ Everyone → (length counted ≤ pathLimit) ⊎ (settings .«hop_limit» < 7)
       → (receptions : List Reception) → List·Nodup receptions → Complete sends nodes (fresh settings payload ∷ []) receptions
-      → (length (onTheAir nodes (fresh settings payload) receptions) ≡ bound (length nodes) (settings .«hop_limit»))
+      → (length (onTheAir nodes (fresh settings payload) receptions) ≡ bound (length counted) (settings .«hop_limit»))
       × (bytesOnTheAir nodes (fresh settings payload) receptions
-      ≡ bytesBound (length nodes) (settings .«hop_limit») (length (fresh settings payload)))
+      ≡ bytesBound (length counted) (settings .«hop_limit») (length (fresh settings payload)))
   -- and such receptions exist
   pub schedule : (nodes : List Repeater) → Nodes nodes → (settings : asked.Settings) (payload : List ℕ) (room : ℕ)
       → Originated settings payload room
@@ -110,10 +113,10 @@ pub record Demand3 : Type 0 where
   -- and of whatever else begins a flood, as an originated message does
   pub begun-bounded : (nodes : List Repeater) → Nodes nodes → (first : List ℕ) → Begins first
       → (receptions : List Reception) → List·Nodup receptions
-      → Bounded address pathOf nodes (hopOf first) (onTheAir nodes first receptions)
-      × (bytesOnTheAir nodes first receptions ≤ bytesBound (length nodes) (hopOf first) (length first))
+      → Bounded address pathOf (others address (sourceOf first) nodes) (hopOf first) (onTheAir nodes first receptions)
+      × (bytesOnTheAir nodes first receptions ≤ bytesBound (length (others address (sourceOf first) nodes)) (hopOf first) (length first))
   pub originated-begins : (settings : asked.Settings) (payload : List ℕ) (room : ℕ) → Originated settings payload room
-      → Begins (fresh settings payload) × (hopOf (fresh settings payload) ≡ settings .«hop_limit»)
+      → Begins (fresh settings payload) × (sourceOf (fresh settings payload) ≡ settings .source) × (hopOf (fresh settings payload) ≡ settings .«hop_limit»)
   -- what a node of the model sends is what `hear` leaves at the start of its output; where it sends nothing, `hear` repeats nothing
   pub sent-is-left : (n : Repeater) (received output sent : List ℕ) → length output ≡ n .room → sends n received ≡ some sent
       → take (answerOf (n .node) (length output) received .«repeated_length») (outputAfter (n .node) received output) ≡ sent

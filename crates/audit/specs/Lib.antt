@@ -2,4 +2,5 @@ pub mod Promise
 pub mod Demands
 pub mod StationsHeard
 pub mod SerialExchange
+pub mod OwnReport
 pub mod Examples

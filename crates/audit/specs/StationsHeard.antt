@@ -1,12 +1,12 @@
 -- Document 02, W-201, as one record; `proofs/StationsHeard.antt` gives it from its parts.
 use Prim.Native.Nat.{ℕ, _≤_, _<_}
-use mathlib.Core.Bool.{true, false}
+use mathlib.Core.Bool.{true, false, _||_}
 use mathlib.Core.List.{List}
 use mathlib.Core.Path.{_≡_}
 use lib.ListN.{length}
 use Rattle.octets.specs.Octets.{at}
 use Rattle.pdu.specs.Header.{headerOf}
-use Rattle.decision.specs.Decision.{Node, isEcho}
+use Rattle.decision.specs.Decision.{Node, isEcho, isOwnReport}
 use Rattle.node.specs.declared.Answer.{Answer}
 use Rattle.node.specs.Answers.{listOrReadingFault, answerOf}
 use Rattle.stations.specs.Table.{capacity, tableIn, addresses, stationAt, placeOf, isHeld}
@@ -20,10 +20,12 @@ use Rattle.listening.specs.History.{Deed, memoryAfter, since, shownBy, Rises}
 pub record StationsHeard : Type 0 where
   -- a memory of 513 words or more has room for 128 stations
   pub room-for-128 : (memory : List ℕ) → 513 ≤ length memory → capacity memory ≡ 128
-  -- a PDU was read where no list is at fault and reading refused nothing, and nowhere else; it is an echo where echo dropped it
+  -- a PDU was read where no list is at fault and reading refused nothing, and nowhere else; it is an echo where echo dropped it, by its path or, W-203,
+  -- by its source
   pub read : (node : Node) (room : ℕ) (received : List ℕ) → listOrReadingFault node received ≡ 0
       → (wasRead (answerOf node room received) ≡ true)
-      × (heardOf (answerOf node room received) received .echo ≡ isEcho (node .settings) (headerOf received) received)
+      × (heardOf (answerOf node room received) received .echo
+      ≡ (isEcho (node .settings) (headerOf received) received || isOwnReport (node .settings) (headerOf received)))
   pub read-only : (node : Node) (room : ℕ) (received : List ℕ) → wasRead (answerOf node room received) ≡ true → listOrReadingFault node received ≡ 0
   -- one from a station that is held, or while there is room, is counted; any other is answered 55, and the table stays as it was
   pub counted-held : (heard : Heard) (memory : List ℕ) → isHeld (heard .source) (addresses (tableIn memory)) ≡ true → countNumber heard memory ≡ 0

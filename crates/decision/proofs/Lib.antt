@@ -1,1 +1,2 @@
+pub mod Dropping
 pub mod Tests

@@ -1,4 +1,5 @@
 -- Document 01, "One PDU at one node": its steps 3 to 6, of a PDU that was read, as functions of the node, the header and the received bytes.
+-- Document 02, W-203 adds to step 3.
 use Prim.Native.Nat.{ℕ}
 use mathlib.Core.Bool.{Bool, false, not, _&&_}
 use mathlib.Core.List.{List}
@@ -38,12 +39,17 @@ abbrev pub isForAnother : ℕ → Destination → Bool
 isForAnother own Everyone = false
 isForAnother own (Address address) = not (eqb address own)
 
--- step 3: echo on, the path bit set and the own address anywhere in the path; then number 30, or 0
+-- step 3: echo on, the path bit set and the own address anywhere in the path
 abbrev pub isEcho : Settings → Header → List ℕ → Bool
 isEcho settings header received = settings .echo && (header .«path_bit» && inPath (settings .own) (pathIn header received))
 
+-- document 02, W-203: echo on and the PDU's source is the own address, with the path bit or without
+abbrev pub isOwnReport : Settings → Header → Bool
+isOwnReport settings header = settings .echo && eqb (header .source) (settings .own)
+
+-- number 30, directly after it 42 (W-203), or 0
 unfoldable pub echoFault : Settings → Header → List ℕ → ℕ
-echoFault settings header received = isEcho settings header received gives 30
+echoFault settings header received = isEcho settings header received gives 30 orElse isOwnReport settings header gives 42
 
 -- step 4: number 31 to 34, or 0 where the lists let the PDU pass
 unfoldable pub passFault : Node → Header → ℕ

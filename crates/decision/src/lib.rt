@@ -5,7 +5,7 @@ ghost use lib.Dec.{eqb};
 ghost use Rattle.pdu.specs.Sizes.{pathLimit};
 ghost use Rattle.lists.specs.Lists.{listsOf, holds};
 ghost use Rattle.decision.specs.Decision.{nodeOf, destinationIsIn, destinationIsOutside, isForOwn, isForAnother};
-ghost use Rattle.decision.specs.Decision.{isEcho, passFault, dropFault, deliveryFault, repeatFault};
+ghost use Rattle.decision.specs.Decision.{isEcho, isOwnReport, passFault, dropFault, deliveryFault, repeatFault};
 use pdu::Destination;
 use pdu::Header;
 
@@ -30,6 +30,13 @@ fn is_echo(settings: Settings, header: Header, received: &[u8]) -> bool
         }
     }
     false
+}
+
+fn is_own_report(settings: Settings, header: Header) -> bool
+    ensures { λ r. ⌜ r ≡ isOwnReport settings header ⌝ }
+{
+    let same = header.source == settings.own;
+    if settings.echo { same } else { false }
 }
 
 fn is_outside(on: bool, list: &[u16], address: u16) -> bool
@@ -116,8 +123,9 @@ fn pass_fault<'a>(
     0
 }
 
-// The number that drops a PDU that was read: 30 where it is an echo, then 31 to 34 by the lists, and 0 where none is given. Any header, lists and bytes
-// get a number; the path is looked for in `received`, and what lies past its end reads as 0. Document 01, "One PDU at one node", 3 and 4.
+// The number that drops a PDU that was read: 30 where it is an echo, then 42 where it is the node's own report, then 31 to 34 by the lists, and 0 where
+// none is given. Any header, lists and bytes get a number; the path is looked for in `received`, and what lies past its end reads as 0. Document 01,
+// "One PDU at one node", 3 and 4; document 02, W-203.
 pub fn drop_fault<'a>(
     settings: Settings,
     source_pass: &'a [u16],
@@ -132,6 +140,9 @@ pub fn drop_fault<'a>(
 {
     if is_echo(settings, header, received) {
         return 30;
+    }
+    if is_own_report(settings, header) {
+        return 42;
     }
     pass_fault(
         settings,

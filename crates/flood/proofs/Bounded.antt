@@ -9,45 +9,49 @@ use native.Mathlib.Omega.{arith}
 use lib.ListN.{length, length-map}
 use Rattle.bound.specs.Bound.{bound, bytesBound, series, terms}
 use Rattle.bound.proofs.Series.{terms-seven, terms-below}
-use Rattle.flood.specs.Flood.{Reception, flood, total, Bounded}
+use Rattle.flood.specs.Flood.{Reception, flood, total, others, Bounded}
 use Rattle.flood.proofs.Arrangements.{arrangements, arranged, total-arrangements}
 use Rattle.flood.proofs.Invariant.{Invariant, flooded}
 use Rattle.flood.proofs.Lists.{no-longer, no-more, total-map, total-one, total-same}
 use Rattle.flood.proofs.Network.{Network}
 
-module _ {Node Message : Type 0} (repeats : Node → Message → Option Message) (own : Node → ℕ)
+module _ {Node Message : Type 0} (repeats : Node → Message → Option Message) (own : Node → ℕ) (source : ℕ)
     (Sound : Message → Type 0) (path : Message → List ℕ) (hop : Message → ℕ)
-    (nodes : List Node) (first : Message) (net : Network repeats own Sound path hop nodes first) where
-  module _ (heard : List Reception) (log : List Message) (inv : Invariant repeats own Sound path hop nodes first heard log) where
-    length-path : (t : Message) → List·Memᴰ t log → length (path t) ≤ length nodes
-    length-path t m = omega (arith, length-map nodes own, no-longer (path t) (map own nodes) (inv .each t m .differ) (inv .each t m .known))
+    (nodes : List Node) (first : Message) (net : Network repeats own source Sound path hop nodes first) where
+  -- the nodes that count
+  abbrev counting : List Node
+  counting = others own source nodes
 
-    fits : (t : Message) → List·Memᴰ t log → length (path t) ≤ terms (length nodes) (hop first)
+  module _ (heard : List Reception) (log : List Message) (inv : Invariant repeats own source Sound path hop nodes first heard log) where
+    length-path : (t : Message) → List·Memᴰ t log → length (path t) ≤ length counting
+    length-path t m = omega (arith, length-map counting own, no-longer (path t) (map own counting) (inv .each t m .differ) (inv .each t m .known))
+
+    fits : (t : Message) → List·Memᴰ t log → length (path t) ≤ terms (length counting) (hop first)
     fits t m =
         by-cases (ℕ-discrete (hop first) 7)
-        (λ e. omega (arith, length-path t m, terms-seven (length nodes) (hop first) e))
+        (λ e. omega (arith, length-path t m, terms-seven (length counting) (hop first) e))
         (λ ne.
         let low = net .hop-fits in
-        omega (arith, length-path t m, terms-below (length nodes) (hop first) ne, inv .each t m .steps (omega arith)))
+        omega (arith, length-path t m, terms-below (length counting) (hop first) ne, inv .each t m .steps (omega arith)))
 
-    inside : (p : List ℕ) → List·Memᴰ p (map path log) → List·Memᴰ p (arrangements (terms (length nodes) (hop first)) (map own nodes))
+    inside : (p : List ℕ) → List·Memᴰ p (map path log) → List·Memᴰ p (arrangements (terms (length counting) (hop first)) (map own counting))
     inside p k =
         let (t, t-in, e) = Memᴰ·of-map path log k in
         let f = inv .each t t-in in
-        Memᴰ·cast {b = path t} (sym e) (arranged (terms (length nodes) (hop first)) (path t) (map own nodes) (f .differ) (f .known) (fits t t-in))
+        Memᴰ·cast {b = path t} (sym e) (arranged (terms (length counting) (hop first)) (path t) (map own counting) (f .differ) (f .known) (fits t t-in))
 
-    weighed : (weight : ℕ → ℕ) → total (λ t. weight (length (path t))) log ≤ series weight (length nodes) (terms (length nodes) (hop first))
+    weighed : (weight : ℕ → ℕ) → total (λ t. weight (length (path t))) log ≤ series weight (length counting) (terms (length counting) (hop first))
     weighed weight =
-        let m = terms (length nodes) (hop first) in
+        let m = terms (length counting) (hop first) in
         omega (
           arith,
-          no-more (λ p. weight (length p)) (map path log) (arrangements m (map own nodes)) (inv .all-differ) inside,
+          no-more (λ p. weight (length p)) (map path log) (arrangements m (map own counting)) (inv .all-differ) inside,
           total-map path (λ p. weight (length p)) log,
-          total-arrangements weight m (map own nodes),
-          ap (λ (n : ℕ). series weight n m) (length-map nodes own),
+          total-arrangements weight m (map own counting),
+          ap (λ (n : ℕ). series weight n m) (length-map counting own),
         )
 
-    bounded : Bounded own path nodes (hop first) log
+    bounded : Bounded own path counting (hop first) log
     unfolding bound
     bounded =
         record {
@@ -61,16 +65,16 @@ module _ {Node Message : Type 0} (repeats : Node → Message → Option Message)
   -- Any schedule with no reception twice.
   module _ (receptions : List Reception) (once : List·Nodup receptions) where
     pub flood-sound : (t : Message) → List·Memᴰ t (flood repeats nodes (first ∷ []) receptions) → Sound t
-    flood-sound t m = flooded repeats own Sound path hop nodes first net receptions once .1 .each t m .is-sound
+    flood-sound t m = flooded repeats own source Sound path hop nodes first net receptions once .1 .each t m .is-sound
 
-    pub flood-bounded : Bounded own path nodes (hop first) (flood repeats nodes (first ∷ []) receptions)
-    flood-bounded = let (heard, inv) = flooded repeats own Sound path hop nodes first net receptions once in bounded heard _ inv
+    pub flood-bounded : Bounded own path (others own source nodes) (hop first) (flood repeats nodes (first ∷ []) receptions)
+    flood-bounded = let (heard, inv) = flooded repeats own source Sound path hop nodes first net receptions once in bounded heard _ inv
 
     -- the transmissions add up to no more than the series, by any weight that goes by the path's length
     pub flood-weighed : (weight : ℕ → ℕ)
-        → total (λ t. weight (length (path t))) (flood repeats nodes (first ∷ []) receptions) ≤ series weight (length nodes)
-        (terms (length nodes) (hop first))
-    flood-weighed weight = let (heard, inv) = flooded repeats own Sound path hop nodes first net receptions once in weighed heard _ inv weight
+        → total (λ t. weight (length (path t))) (flood repeats nodes (first ∷ []) receptions) ≤ series weight (length (others own source nodes))
+        (terms (length (others own source nodes)) (hop first))
+    flood-weighed weight = let (heard, inv) = flooded repeats own source Sound path hop nodes first net receptions once in weighed heard _ inv weight
 
     -- the bytes on the air, where each transmission is longer than the first by 2 bytes for each entry of its path
     module _ (size : Message → ℕ) (sized : (t : Message) → Sound t → size t ≡ size first + 2 * length (path t)) where
@@ -78,6 +82,6 @@ module _ {Node Message : Type 0} (repeats : Node → Message → Option Message)
           ≡ total (λ t. size first + 2 * length (path t)) (flood repeats nodes (first ∷ []) receptions)
       bytes-by-paths = total-same size _ _ (λ t m. sized t (flood-sound t m))
 
-      pub flood-bytes : total size (flood repeats nodes (first ∷ []) receptions) ≤ bytesBound (length nodes) (hop first) (size first)
+      pub flood-bytes : total size (flood repeats nodes (first ∷ []) receptions) ≤ bytesBound (length (others own source nodes)) (hop first) (size first)
       unfolding bytesBound
       flood-bytes = omega (arith, bytes-by-paths, flood-weighed (λ k. size first + 2 * k))

@@ -1,6 +1,7 @@
--- THE BOUND IS REACHED over demand 2's rules: nodes that repeat all that echo and the hop limit let them repeat, and a PDU for none of them.
--- Every complete schedule makes exactly as many transmissions, and bytes, as the bound says; and there is such a schedule. Assumes nothing.
-use mathlib.Core.Path.{_≡_, refl, ap, _∙_}
+-- THE BOUND IS REACHED over demand 2's rules: nodes that repeat all that echo and the hop limit let them repeat, and a PDU for none of them. Of the
+-- originator nothing more is asked than echo on. Every complete schedule makes exactly as many transmissions, and bytes, as the bound says; and there
+-- is such a schedule. Assumes nothing.
+use mathlib.Core.Path.{_≡_, refl, ap, sym, _∙_}
 use mathlib.Core.Logic.{_≢_, _⊎_, ⊎-elim}
 use mathlib.Core.Bool.{Bool, true, false, cond}
 use mathlib.Core.Option.{some}
@@ -28,24 +29,30 @@ use Rattle.decision.specs.Decision.{isForOwn, echoFault, passFault, dropFault, 
 use Rattle.node.specs.Repeat.{repeated, repeatedLength}
 use Rattle.node.specs.Answers.{repeatNumber}
 use Rattle.node.proofs.Heard.{not-member, will-repeat}
-use Rattle.flood.specs.Air.{Repeater, address, sends, pathOf, hopOf, onTheAir, bytesOnTheAir, Nodes, Open, Begins, Originated}
+use Rattle.flood.specs.Air.{Repeater, address, sends, sourceOf, pathOf, hopOf, onTheAir, bytesOnTheAir, Nodes, Open, Begins, Originated}
 use Rattle.flood.specs.Complete.{Complete}
-use Rattle.flood.specs.Flood.{Reception}
+use Rattle.flood.specs.Flood.{Reception, others}
 use Rattle.flood.proofs.Demand.{network, begun-schedule, schedule}
-use Rattle.flood.proofs.Fresh.{originated-begins, fresh-hop, fresh-destination}
+use Rattle.flood.proofs.Fresh.{originated-begins, fresh-source, fresh-hop, fresh-destination}
 use Rattle.flood.proofs.Network.{Willing}
+use Rattle.flood.proofs.Others.{others-are}
 use Rattle.flood.proofs.Reached.{flood-reached, bytes-reached}
 use Rattle.flood.proofs.Sent.{Sound}
 
--- One open node that hears a transmission whose path does not name it, with hops left and room in the path.
+-- One open node that hears a transmission that it did not originate and whose path does not name it, with hops left and room in the path.
 module _ (first received : List ℕ) (n : Repeater) (free : Open (n .node)) (echo : n .node .settings .echo ≡ true) (sound : Sound first received)
-    (new : ¬ List·Memᴰ (address n) (pathOf received)) (hops : hopOf received ≢ 0) (short : length (pathOf received) < pathLimit)
+    (not-own : address n ≢ sourceOf first) (new : ¬ List·Memᴰ (address n) (pathOf received)) (hops : hopOf received ≢ 0)
+    (short : length (pathOf received) < pathLimit)
     (other : isForOwn (address n) (headerOf first .destination) ≡ false) (fits : length first + 2 * (length (pathOf received) + 1) ≤ n .room) where
+  from-another : eqb (sourceOf received) (address n) ≡ false
+  from-another = ne-eqb _ _ (λ (same : sourceOf received ≡ address n). not-own (sym same ∙ sound .same-source))
+
   passes : dropFault (n .node) (headerOf received) received ≡ 0
   unfolding dropFault echoFault passFault _gives_ _orElse_
   passes =
       rw (
         not-member (address n) (pathOf received) new,
+        from-another,
         echo,
         sound .has-path,
         free .source-pass-off,
@@ -119,44 +126,52 @@ longest settings payload room n taken fits =
 pub for-everyone : (own : ℕ) (to : Destination) → to ≡ Everyone → isForOwn own to ≡ false
 for-everyone own to e = rw e
 
--- Nodes of different addresses with echo on, all of them open, and a PDU that begins a flood and is for none of them.
+-- Nodes of different addresses with echo on, and a PDU that begins a flood; those that count are open, and it is for none of them.
 module _ (nodes : List Repeater) (all : Nodes nodes) (first : List ℕ) (begins : Begins first)
-    (free : (n : Repeater) → List·Memᴰ n nodes → Open (n .node))
-    (roomy : (n : Repeater) → List·Memᴰ n nodes → length first + 2 * terms (length nodes) (hopOf first) ≤ n .room)
-    (other : (n : Repeater) → List·Memᴰ n nodes → isForOwn (address n) (headerOf first .destination) ≡ false)
-    (fits : (length nodes ≤ pathLimit) ⊎ (hopOf first < 7)) where
-  all-willing : (n : Repeater) → List·Memᴰ n nodes → Willing sends address (Sound first) pathOf hopOf (terms (length nodes) (hopOf first)) n
+    (free : (n : Repeater) → List·Memᴰ n (others address (sourceOf first) nodes) → Open (n .node))
+    (roomy : (n : Repeater) → List·Memᴰ n (others address (sourceOf first) nodes)
+    → length first + 2 * terms (length (others address (sourceOf first) nodes)) (hopOf first) ≤ n .room)
+    (other : (n : Repeater) → List·Memᴰ n (others address (sourceOf first) nodes) → isForOwn (address n) (headerOf first .destination) ≡ false)
+    (fits : (length (others address (sourceOf first) nodes) ≤ pathLimit) ⊎ (hopOf first < 7)) where
+  abbrev counting : List Repeater
+  counting = others address (sourceOf first) nodes
+
+  all-willing : (n : Repeater) → List·Memᴰ n counting
+      → Willing sends address (sourceOf first) (Sound first) pathOf hopOf (terms (length counting) (hopOf first)) n
   all-willing n m received sound new hops short =
-      let small = terms-fit (length nodes) (hopOf first) fits in (
+      let small = terms-fit (length counting) (hopOf first) fits in
+      let (n-in, not-own) = others-are address (sourceOf first) nodes m in (
         repeated (address n) received,
-        willing first received n (free n m) (all .echo-on n m) sound new hops (omega arith) (other n m) (omega (arith, roomy n m)),
+        willing first received n (free n m) (all .echo-on n n-in) sound not-own new hops (omega arith) (other n m) (omega (arith, roomy n m)),
       )
 
   -- every schedule that leaves out nothing, in any order
   module _ (receptions : List Reception) (once : List·Nodup receptions) (complete : Complete sends nodes (first ∷ []) receptions) where
-    pub begun-reached : length (onTheAir nodes first receptions) ≡ bound (length nodes) (hopOf first)
+    pub begun-reached : length (onTheAir nodes first receptions) ≡ bound (length counting) (hopOf first)
     begun-reached =
-        flood-reached sends address (Sound first) pathOf hopOf nodes first (network nodes all first begins) all-willing receptions once complete
+        flood-reached sends address (sourceOf first) (Sound first) pathOf hopOf nodes first (network nodes all first begins) all-willing receptions once
+        complete
 
-    pub begun-reached-bytes : bytesOnTheAir nodes first receptions ≡ bytesBound (length nodes) (hopOf first) (length first)
+    pub begun-reached-bytes : bytesOnTheAir nodes first receptions ≡ bytesBound (length counting) (hopOf first) (length first)
     begun-reached-bytes =
-        bytes-reached sends address (Sound first) pathOf hopOf nodes first (network nodes all first begins) all-willing receptions once complete
-        length (λ t s. s .longer)
+        bytes-reached sends address (sourceOf first) (Sound first) pathOf hopOf nodes first (network nodes all first begins) all-willing receptions once
+        complete length (λ t s. s .longer)
 
   -- There is such a schedule, so that no smaller bounds hold.
   pub begun-attained : (receptions : List Reception) × List·Nodup receptions
-      × (length (onTheAir nodes first receptions) ≡ bound (length nodes) (hopOf first))
-      × (bytesOnTheAir nodes first receptions ≡ bytesBound (length nodes) (hopOf first) (length first))
+      × (length (onTheAir nodes first receptions) ≡ bound (length counting) (hopOf first))
+      × (bytesOnTheAir nodes first receptions ≡ bytesBound (length counting) (hopOf first) (length first))
   begun-attained =
       let (receptions, once, complete) = begun-schedule nodes all first begins in
       (receptions, once, begun-reached receptions once complete, begun-reached-bytes receptions once complete)
 
 -- The same of a message with the path bit that origination takes.
 module _ (nodes : List Repeater) (all : Nodes nodes) (settings : Settings) (payload : List ℕ) (room : ℕ) (message : Originated settings payload room)
-    (free : (n : Repeater) → List·Memᴰ n nodes → Open (n .node))
-    (roomy : (n : Repeater) → List·Memᴰ n nodes → length (fresh settings payload) + 2 * terms (length nodes) (settings .«hop_limit») ≤ n .room)
-    (other : (n : Repeater) → List·Memᴰ n nodes → isForOwn (address n) (settings .destination) ≡ false)
-    (fits : (length nodes ≤ pathLimit) ⊎ (settings .«hop_limit» < 7)) where
+    (free : (n : Repeater) → List·Memᴰ n (others address (settings .source) nodes) → Open (n .node))
+    (roomy : (n : Repeater) → List·Memᴰ n (others address (settings .source) nodes)
+    → length (fresh settings payload) + 2 * terms (length (others address (settings .source) nodes)) (settings .«hop_limit») ≤ n .room)
+    (other : (n : Repeater) → List·Memᴰ n (others address (settings .source) nodes) → isForOwn (address n) (settings .destination) ≡ false)
+    (fits : (length (others address (settings .source) nodes) ≤ pathLimit) ⊎ (settings .«hop_limit» < 7)) where
   abbrev sent : List ℕ
   sent = fresh settings payload
 
@@ -166,30 +181,40 @@ module _ (nodes : List Repeater) (all : Nodes nodes) (settings : Settings) (payl
   hop : hopOf sent ≡ settings .«hop_limit»
   hop = fresh-hop settings payload room message
 
-  roomy-sent : (n : Repeater) → List·Memᴰ n nodes → length sent + 2 * terms (length nodes) (hopOf sent) ≤ n .room
-  roomy-sent n m = rw hop (roomy n m)
+  same : others address (sourceOf sent) nodes ≡ others address (settings .source) nodes
+  same = ap (λ (source : ℕ). others address source nodes) (fresh-source settings payload room message)
 
-  other-sent : (n : Repeater) → List·Memᴰ n nodes → isForOwn (address n) (headerOf sent .destination) ≡ false
-  other-sent n m = rw (fresh-destination settings payload room message) (other n m)
+  free-sent : (n : Repeater) → List·Memᴰ n (others address (sourceOf sent) nodes) → Open (n .node)
+  free-sent = rw same free
 
-  fits-sent : (length nodes ≤ pathLimit) ⊎ (hopOf sent < 7)
-  fits-sent = rw hop fits
+  roomy-sent : (n : Repeater) → List·Memᴰ n (others address (sourceOf sent) nodes)
+      → length sent + 2 * terms (length (others address (sourceOf sent) nodes)) (hopOf sent) ≤ n .room
+  roomy-sent = rw (same, hop) roomy
+
+  other-sent : (n : Repeater) → List·Memᴰ n (others address (sourceOf sent) nodes) → isForOwn (address n) (headerOf sent .destination) ≡ false
+  other-sent = rw (same, fresh-destination settings payload room message) other
+
+  fits-sent : (length (others address (sourceOf sent) nodes) ≤ pathLimit) ⊎ (hopOf sent < 7)
+  fits-sent = rw (same, hop) fits
 
   module _ (receptions : List Reception) (once : List·Nodup receptions)
       (complete : Complete sends nodes (fresh settings payload ∷ []) receptions) where
-    pub reached : length (onTheAir nodes (fresh settings payload) receptions) ≡ bound (length nodes) (settings .«hop_limit»)
-    reached = begun-reached nodes all sent begins free roomy-sent other-sent fits-sent receptions once complete ∙ ap (bound (length nodes)) hop
+    pub reached : length (onTheAir nodes (fresh settings payload) receptions)
+        ≡ bound (length (others address (settings .source) nodes)) (settings .«hop_limit»)
+    reached =
+        begun-reached nodes all sent begins free-sent roomy-sent other-sent fits-sent receptions once complete
+        ∙ (λ i. bound (length (same i)) (hop i))
 
     pub reached-bytes : bytesOnTheAir nodes (fresh settings payload) receptions
-        ≡ bytesBound (length nodes) (settings .«hop_limit») (length (fresh settings payload))
+        ≡ bytesBound (length (others address (settings .source) nodes)) (settings .«hop_limit») (length (fresh settings payload))
     reached-bytes =
-        begun-reached-bytes nodes all sent begins free roomy-sent other-sent fits-sent receptions once complete
-        ∙ ap (λ (h : ℕ). bytesBound (length nodes) h (length sent)) hop
+        begun-reached-bytes nodes all sent begins free-sent roomy-sent other-sent fits-sent receptions once complete
+        ∙ (λ i. bytesBound (length (same i)) (hop i) (length sent))
 
   pub attained : (receptions : List Reception) × List·Nodup receptions
-      × (length (onTheAir nodes (fresh settings payload) receptions) ≡ bound (length nodes) (settings .«hop_limit»))
+      × (length (onTheAir nodes (fresh settings payload) receptions) ≡ bound (length (others address (settings .source) nodes)) (settings .«hop_limit»))
       × (bytesOnTheAir nodes (fresh settings payload) receptions
-      ≡ bytesBound (length nodes) (settings .«hop_limit») (length (fresh settings payload)))
+      ≡ bytesBound (length (others address (settings .source) nodes)) (settings .«hop_limit») (length (fresh settings payload)))
   attained =
       let (receptions, once, complete) = schedule nodes all settings payload room message in
       (receptions, once, reached receptions once complete, reached-bytes receptions once complete)

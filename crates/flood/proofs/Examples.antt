@@ -1,7 +1,9 @@
 -- Demand 3 in runs that are computed, byte by byte: the bound is met, and no condition can be left out. Assumes nothing.
 use mathlib.Core.Path.{_≡_, refl, ap, sym, subst}
 use mathlib.Core.Bool.{Bool, true, false}
-use mathlib.Core.List.{List, [], _∷_, map, List·Memᴰ, Memᴰ·of-map, List·Nodup}
+use mathlib.Core.Logic.{⊎-elim}
+use mathlib.Core.List.{List, [], _∷_, map, List·Memᴰ, List·Memᴰ·cases-cons, List·Memᴰ·not-nil, List·Memᴰ·eq-of-singleton, Memᴰ·of-map}
+use mathlib.Core.List.{List·Nodup, nodup-nil}
 use Prim.Native.Nat.{ℕ, zero, suc, _≤_, _<_}
 use native.Mathlib.Omega.{arith}
 use borrow.Author.Tests.{le-ltb}
@@ -20,8 +22,10 @@ use Rattle.origin.specs.Origination.{freshHeader, fresh, settingsFault, origina
 use Rattle.decision.specs.Decision.{nodeOf, echoFault, passFault, dropFault, repeatFault}
 use Rattle.node.specs.Repeat.{repeated}
 use Rattle.node.specs.Answers.{listOrReadingFault, stopFault, repeatNumber}
-use Rattle.flood.specs.Air.{Repeater, address, sends, pathOf, onTheAir, Nodes, Open, Originated}
-use Rattle.flood.specs.Flood.{flood, answer, total}
+use Rattle.flood.specs.Air.{Repeater, address, sends, sourceOf, pathOf, onTheAir, Nodes, Open, Originated}
+use Rattle.flood.specs.Flood.{Reception, flood, answer, total, others}
+use Rattle.flood.proofs.Demand.{demand-3}
+use Rattle.flood.proofs.Lists.{nodup-more}
 use Rattle.flood.proofs.Rounds.{round, rounds}
 
 -- a node that repeats, with its lists off and empty and an output of 100 bytes
@@ -109,6 +113,13 @@ asked-taken hop small =
     one zero = omega arith
     one (suc place) = omega arith
 
+-- the originator of that message, echo on or off, and one node that counts; that one hears the message, then the originator hears the repeat
+abbrev pub pair : Bool → List Repeater
+pair echo = plain echo 1000 ∷ plain true 1 ∷ []
+
+abbrev pub heardBack : List Reception
+heardBack = record { node = 1; transmission = 0 } ∷ record { node = 0; transmission = 1 } ∷ []
+
 pub record Computed : Type 0 where
   -- three nodes that hear all there is to hear: as many transmissions as document 01 says (Checked by hand, last line), and as many bytes
   pub hop-0 : length (air three true 0 1) ≡ 1
@@ -124,6 +135,13 @@ pub record Computed : Type 0 where
   pub no-path-bit : length (air (plain true 1 ∷ []) false 7 3) ≡ 4
   pub two : bound 2 7 ≡ 5
   pub one-address : map pathOf (air (plain true 1 ∷ plain true 1 ∷ []) true 7 5) ≡ [] ∷ (1 ∷ []) ∷ (1 ∷ []) ∷ []
+  -- document 02, W-203: one node counts, so that the bound at hop limit 2 is 2. With the originator hearing the repeat, or all there is to hear, that
+  -- many go out; with echo off at the originator one more
+  pub counted : others address (sourceOf (begun true 2)) (pair true) ≡ plain true 1 ∷ []
+  pub pair-bound : bound 1 2 ≡ 2
+  pub pair-heard-back : length (onTheAir (pair true) (begun true 2) heardBack) ≡ 2
+  pub pair-heard-all : length (air (pair true) true 2 2) ≡ 2
+  pub pair-echo-off : length (onTheAir (pair false) (begun true 2) heardBack) ≡ 3
   -- the bytes themselves, from hop limit 2: node 1's repeat, then node 2's of that, and none of node 3, since the hop limit is 0 by then
   pub in-a-row : onTheAir three (begun true 2)
       (record { node = 0; transmission = 0 } ∷ record { node = 1; transmission = 1 } ∷ record { node = 2; transmission = 2 } ∷ [])
@@ -132,7 +150,7 @@ pub record Computed : Type 0 where
       ∷ (0x02 ∷ 0x00 ∷ 0x00 ∷ 0x01 ∷ 0x03 ∷ 0xE8 ∷ 0x02 ∷ 0x00 ∷ 0x01 ∷ 0x00 ∷ 0x02 ∷ 0x70 ∷ []) ∷ []
 
 pub computed : Computed
-unfolding bound bytesBound series product terms total air rounds round flood answer sends fresh freshHeader encode headerBytes pathBytes
+unfolding bound bytesBound series product terms total others air rounds round flood answer sends fresh freshHeader encode headerBytes pathBytes
     repeated repeatNumber stopFault listOrReadingFault firstFault faultOf lowAboveHigh readOf headerOf dropFault echoFault passFault
     repeatFault addressesAt inPath _gives_ _orElse_
 computed =
@@ -148,5 +166,29 @@ computed =
       no-path-bit = refl;
       two = refl;
       one-address = refl;
+      counted = refl;
+      pair-bound = refl;
+      pair-heard-back = refl;
+      pair-heard-all = refl;
+      pair-echo-off = refl;
       in-a-row = refl;
     }
+
+-- Never more than the bound for the originator and that node, whatever they hear and in whatever order.
+pair-differ : List·Nodup {A = ℕ} (1000 ∷ 1 ∷ [])
+pair-differ =
+    nodup-more (λ m. let same : _≡_ {A = ℕ} 1000 1 = List·Memᴰ·eq-of-singleton m in omega arith) (nodup-more List·Memᴰ·not-nil nodup-nil)
+
+pair-fit : (a : ℕ) → List·Memᴰ {A = ℕ} a (1000 ∷ 1 ∷ []) → a < 65536
+pair-fit a m =
+    ⊎-elim (λ (e : a ≡ 1000). omega arith) (λ k. let e : a ≡ 1 = List·Memᴰ·eq-of-singleton k in omega arith) (List·Memᴰ·cases-cons m)
+
+pair-most : bound (length (others address 1000 (pair true))) 2 ≡ 2
+unfolding bound series product terms others
+pair-most = refl
+
+pub never-three : (receptions : List Reception) → List·Nodup receptions → length (onTheAir (pair true) (begun true 2) receptions) ≤ 2
+never-three receptions once =
+    let nodes = plain-nodes (1000 ∷ 1 ∷ []) pair-differ pair-fit in
+    let few = demand-3 (pair true) nodes (asked true 2) (0x70 ∷ []) 100 (asked-taken 2 (omega arith)) receptions once .few in
+    omega (arith, few, pair-most)

@@ -25,7 +25,7 @@ use Rattle.origin.specs.Origination.{freshHeader, fresh}
 use Rattle.origin.proofs.Deciding.{Accepted, accepted}
 use Rattle.origin.proofs.Fresh.{flag-small}
 use Rattle.origin.proofs.ReadBack.{length-fresh, fresh-back}
-use Rattle.flood.specs.Air.{pathOf, hopOf, Begins, Originated}
+use Rattle.flood.specs.Air.{sourceOf, pathOf, hopOf, Begins, Originated}
 
 -- the parts of a header
 bytes-four : (a b c d : ℕ) (later : List ℕ) → a < 256 → b < 256 → c < 256 → d < 256 → AllBytes later
@@ -97,7 +97,11 @@ module _ (settings : Settings) (payload : List ℕ) (room : ℕ) (message : Orig
       ap (λ (h : Header). pathIn h first) (sym fresh-shows) ∙ ap (pathIn (freshHeader settings (length payload))) (sym (append-nil first))
       ∙ fresh-back settings payload room (message .taken) [] .no-path
 
-  -- the hop limit on the air is the hop setting
+  -- the source and the hop limit on the air are those set
+  pub fresh-source : sourceOf first ≡ settings .source
+  unfolding freshHeader
+  fresh-source = ap (λ (h : Header). h .source) (sym fresh-shows)
+
   pub fresh-hop : hopOf first ≡ settings .«hop_limit»
   unfolding freshHeader
   fresh-hop = ap (λ (h : Header). h .«hop_limit») (sym fresh-shows)

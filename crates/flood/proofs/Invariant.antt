@@ -10,14 +10,15 @@ use native.Mathlib.Omega.{arith}
 use borrow.Author.Tests.{ne-eqb}
 use lib.ListN.{length, getElem?, length-append}
 use Rattle.node.specs.Repeat.{lowered}
-use Rattle.flood.specs.Flood.{Reception, flood, answer}
+use Rattle.flood.specs.Flood.{Reception, flood, answer, others}
 use Rattle.flood.proofs.Lists.{apart, nodup-more, nodup-snoc, snoc-inj, at-append, at-mem, same-place}
 use Rattle.flood.proofs.Network.{Keeps, Network}
+use Rattle.flood.proofs.Others.{are-others}
 
 lowered-below : (x : ℕ) → x < 7 → lowered x ≡ x - 1
 lowered-below x h = rw (ne-eqb x 7 (λ e. omega arith))
 
-module _ {Node Message : Type 0} (repeats : Node → Message → Option Message) (own : Node → ℕ)
+module _ {Node Message : Type 0} (repeats : Node → Message → Option Message) (own : Node → ℕ) (source : ℕ)
     (Sound : Message → Type 0) (path : Message → List ℕ) (hop : Message → ℕ) where
   -- a transmission that was made at a reception
   pub record Origin (nodes : List Node) (heard : List Reception) (log : List Message) (t : Message) : Type 0 where
@@ -32,7 +33,7 @@ module _ {Node Message : Type 0} (repeats : Node → Message → Option Message)
   pub record Fact (nodes : List Node) (first : Message) (heard : List Reception) (log : List Message) (t : Message) : Type 0 where
     pub is-sound : Sound t
     pub differ : List·Nodup (path t)
-    pub known : (a : ℕ) → List·Memᴰ a (path t) → List·Memᴰ a (map own nodes)
+    pub known : (a : ℕ) → List·Memᴰ a (path t) → List·Memᴰ a (map own (others own source nodes))
     pub steps : hop first < 7 → hop t + length (path t) ≡ hop first
     pub origin : (path t ≡ []) ⊎ Origin nodes heard log t
 
@@ -68,7 +69,7 @@ module _ {Node Message : Type 0} (repeats : Node → Message → Option Message)
   module _ (nodes : List Node) (apart-nodes : List·Nodup (map own nodes)) (first : Message) (heard : List Reception) (log : List Message)
       (inv : Invariant nodes first heard log) (r : Reception) (new : ¬ List·Memᴰ r heard)
       (n : Node) (n-at : getElem? nodes (r .node) ≡ some n) (t : Message) (t-at : getElem? log (r .transmission) ≡ some t)
-      (s : Message) (sound : Sound s) (k : Keeps own path hop n t s) where
+      (s : Message) (sound : Sound s) (k : Keeps own source path hop n t s) where
     before : Fact nodes first heard log t
     before = inv .each t (at-mem log (r .transmission) t-at)
 
@@ -78,7 +79,7 @@ module _ {Node Message : Type 0} (repeats : Node → Message → Option Message)
           is-sound = sound;
           differ = rw (k .grown) (nodup-snoc (path t) (before .differ) (k .no-echo));
           known = λ a m. ⊎-elim (before .known a)
-              (λ l. Memᴰ·cast (List·Memᴰ·eq-of-singleton l) (Memᴰ·map own (at-mem nodes (r .node) n-at)))
+              (λ l. Memᴰ·cast (List·Memᴰ·eq-of-singleton l) (Memᴰ·map own (are-others own source nodes (at-mem nodes (r .node) n-at) (k .not-own))))
               (List·Memᴰ·append-cases (path t) (subst (λ (p : List ℕ). List·Memᴰ a p) (k .grown) m));
           steps = λ low.
               let was = before .steps low in
@@ -119,7 +120,7 @@ module _ {Node Message : Type 0} (repeats : Node → Message → Option Message)
               (List·Memᴰ·append-cases log m);
         }
 
-  module _ (nodes : List Node) (first : Message) (net : Network repeats own Sound path hop nodes first) where
+  module _ (nodes : List Node) (first : Message) (net : Network repeats own source Sound path hop nodes first) where
     -- any reception that has not been
     module _ (heard : List Reception) (log : List Message) (inv : Invariant nodes first heard log) (r : Reception) (new : ¬ List·Memᴰ r heard) where
       silent : Invariant nodes first (r ∷ heard) log

@@ -7,6 +7,7 @@ pub mod Fresh
 pub mod Invariant
 pub mod Lists
 pub mod Network
+pub mod Others
 pub mod Reached
 pub mod Rounds
 pub mod Runs

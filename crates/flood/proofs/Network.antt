@@ -7,20 +7,21 @@ use Prim.Native.Nat.{ℕ, _≤_, _<_}
 use lib.ListN.{length}
 use Rattle.node.specs.Repeat.{lowered}
 
--- A node has its own address; a message has a path and a hop limit.
-module _ {Node Message : Type 0} (own : Node → ℕ) (path : Message → List ℕ) (hop : Message → ℕ) where
+-- A node has its own address; a message has a path and a hop limit; `source` is the source address of them all.
+module _ {Node Message : Type 0} (own : Node → ℕ) (source : ℕ) (path : Message → List ℕ) (hop : Message → ℕ) where
   -- What the node n keeps to when it repeats the message t as s. When it repeats is otherwise its own affair.
   pub record Keeps (n : Node) (t s : Message) : Type 0 where
     pub no-echo : ¬ List·Memᴰ (own n) (path t)
+    pub not-own : own n ≢ source
     pub hops-left : hop t ≢ 0
     pub grown : path s ≡ path t ++ (own n ∷ [])
     pub lower : hop s ≡ lowered (hop t)
 
 -- `Sound` is what is known of every transmission: it holds of the first, and each repeat of a sound message is sound.
-module _ {Node Message : Type 0} (repeats : Node → Message → Option Message) (own : Node → ℕ)
+module _ {Node Message : Type 0} (repeats : Node → Message → Option Message) (own : Node → ℕ) (source : ℕ)
     (Sound : Message → Type 0) (path : Message → List ℕ) (hop : Message → ℕ) where
   abbrev pub Lawful : Node → Type 0
-  Lawful n = (t s : Message) → Sound t → repeats n t ≡ some s → Sound s × Keeps own path hop n t s
+  Lawful n = (t s : Message) → Sound t → repeats n t ≡ some s → Sound s × Keeps own source path hop n t s
 
   -- Nodes of different addresses, all lawful, and a fresh message.
   pub record Network (nodes : List Node) (first : Message) : Type 0 where

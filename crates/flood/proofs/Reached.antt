@@ -1,4 +1,4 @@
--- THE BOUND IS REACHED: where every node repeats whatever echo suppression and the hop limit let it repeat, each complete schedule
+-- THE BOUND IS REACHED: where every node that counts repeats whatever echo suppression and the hop limit let it repeat, each complete schedule
 -- makes exactly as many transmissions as the bound says, and there is such a schedule. Assumes nothing.
 use mathlib.Core.Path.{_≡_, refl, sym, ap, subst, _∙_}
 use mathlib.Core.Logic.{_≢_, _⊎_, inl, inr, ⊎-elim, by-cases}
@@ -13,11 +13,12 @@ use Rattle.bound.specs.Bound.{bound, bytesBound, series, terms}
 use Rattle.bound.proofs.Series.{terms-below}
 use Rattle.flood.specs.Complete.{Complete}
 use Rattle.node.specs.Repeat.{lowered}
-use Rattle.flood.specs.Flood.{Reception, flood, total}
+use Rattle.flood.specs.Flood.{Reception, flood, total, others}
 use Rattle.flood.proofs.Arrangements.{arrangements, total-arrangements, nodup-arrangements, selected, begun}
 use Rattle.flood.proofs.Bounded.{flood-bounded, flood-weighed, bytes-by-paths}
 use Rattle.flood.proofs.Lists.{no-more, total-map, total-one}
 use Rattle.flood.proofs.Network.{Network, Willing}
+use Rattle.flood.proofs.Others.{others-are, others-differ}
 use Rattle.flood.proofs.Rounds.{rounds, rounds-once}
 use Rattle.flood.proofs.Runs.{stays, Closed, complete-close, rounds-complete}
 
@@ -39,7 +40,7 @@ allows-lowered m h a =
     let less : lowered h ≡ h - 1 = rw (ne-eqb h 7 ne) in
     inr (⊎-elim {C = m ≤ lowered h} (λ e. absurd (ne e)) (λ l. omega arith) a))
 
-module _ {Node Message : Type 0} (repeats : Node → Message → Option Message) (own : Node → ℕ)
+module _ {Node Message : Type 0} (repeats : Node → Message → Option Message) (own : Node → ℕ) (source : ℕ)
     (Sound : Message → Type 0) (path : Message → List ℕ) (hop : Message → ℕ) where
   -- a transmission of the log with that path, that allows m repeats more
   pub record Made (log : List Message) (m : ℕ) (p : List ℕ) : Type 0 where
@@ -49,18 +50,27 @@ module _ {Node Message : Type 0} (repeats : Node → Message → Option Message)
     pub path-is : path sent ≡ p
     pub allows : Allows m (hop sent)
 
-  module _ (nodes : List Node) (first : Message) (net : Network repeats own Sound path hop nodes first)
-      (willing : (n : Node) → List·Memᴰ n nodes → Willing repeats own Sound path hop (terms (length nodes) (hop first)) n) where
+  module _ (nodes : List Node) (first : Message) (net : Network repeats own source Sound path hop nodes first)
+      (willing : (n : Node) → List·Memᴰ n (others own source nodes)
+      → Willing repeats own source Sound path hop (terms (length (others own source nodes)) (hop first)) n) where
+    -- the nodes that count
+    abbrev counting : List Node
+    counting = others own source nodes
+
+    differ : List·Nodup (map own counting)
+    differ = others-differ own source nodes (net .addresses-differ)
+
     module _ (log : List Message) (closed : Closed repeats nodes log) where
       -- one node more
-      longer : (m : ℕ) (p : List ℕ) (a : ℕ) → Made log (suc m) p → List·Memᴰ a (map own nodes) → ¬ List·Memᴰ a p
-          → length p < terms (length nodes) (hop first) → Made log m (p ++ (a ∷ []))
+      longer : (m : ℕ) (p : List ℕ) (a : ℕ) → Made log (suc m) p → List·Memᴰ a (map own counting) → ¬ List·Memᴰ a p
+          → length p < terms (length counting) (hop first) → Made log m (p ++ (a ∷ []))
       longer m p a t known new short =
-          let (n, n-in, own-is) = Memᴰ·of-map own nodes known in
+          let (n, n-counts, own-is) = Memᴰ·of-map own counting known in
+          let n-in = others-are own source nodes n-counts .0 in
           let echo : ¬ List·Memᴰ (own n) (path (t .sent)) =
           λ k. new (Memᴰ·cast (sym own-is) (subst (λ (q : List ℕ). List·Memᴰ (own n) q) (t .path-is) k)) in
           let (s, says) =
-          willing n n-in (t .sent) (t .is-sound) echo (allows-some m (hop (t .sent)) (t .allows)) (omega (arith, ap length (t .path-is))) in
+          willing n n-counts (t .sent) (t .is-sound) echo (allows-some m (hop (t .sent)) (t .allows)) (omega (arith, ap length (t .path-is))) in
           let (sound, keeps) = net .lawful n n-in (t .sent) s (t .is-sound) says in
           record {
             sent = s;
@@ -72,8 +82,8 @@ module _ {Node Message : Type 0} (repeats : Node → Message → Option Message)
 
       -- the path p, and then any arrangement of the addresses l that it leaves
       all-made : (m : ℕ) (l p q : List ℕ) → Made log m p → List·Nodup l
-          → ((a : ℕ) → List·Memᴰ a l → List·Memᴰ a (map own nodes) × (¬ List·Memᴰ a p))
-          → length p + m ≡ terms (length nodes) (hop first) → List·Memᴰ q (arrangements m l) → List·Memᴰ (p ++ q) (map path log)
+          → ((a : ℕ) → List·Memᴰ a l → List·Memᴰ a (map own counting) × (¬ List·Memᴰ a p))
+          → length p + m ≡ terms (length counting) (hop first) → List·Memᴰ q (arrangements m l) → List·Memᴰ (p ++ q) (map path log)
       unfolding arrangements
       all-made zero l p q t d free size k =
           Memᴰ·cast (ap (λ (x : List ℕ). p ++ x) (List·Memᴰ·eq-of-singleton k) ∙ append-nil p ∙ sym (t .path-is)) (Memᴰ·map path (t .in-log))
@@ -86,7 +96,7 @@ module _ {Node Message : Type 0} (repeats : Node → Message → Option Message)
           let sel = selected l d (b .at-first) (b .among) in
           let was = free a (sel .taken) in
           let next = longer m p a t (was .0) (was .1) (omega arith) in
-          let free′ : (c : ℕ) → List·Memᴰ c left → List·Memᴰ c (map own nodes) × (¬ List·Memᴰ c (p ++ (a ∷ []))) =
+          let free′ : (c : ℕ) → List·Memᴰ c left → List·Memᴰ c (map own counting) × (¬ List·Memᴰ c (p ++ (a ∷ []))) =
           λ c h. (
             free c (sel .others c h) .0,
             λ h′. ⊎-elim (free c (sel .others c h) .1) (λ h″. sel .gone (Memᴰ·cast (sym (List·Memᴰ·eq-of-singleton h″)) h))
@@ -98,9 +108,9 @@ module _ {Node Message : Type 0} (repeats : Node → Message → Option Message)
 
       -- a log in which nothing is left to be said has a transmission for each arrangement
       full : List·Memᴰ first log → (weight : ℕ → ℕ)
-          → series weight (length nodes) (terms (length nodes) (hop first)) ≤ total (λ t. weight (length (path t))) log
+          → series weight (length counting) (terms (length counting) (hop first)) ≤ total (λ t. weight (length (path t))) log
       full made weight =
-          let m = terms (length nodes) (hop first) in
+          let m = terms (length counting) (hop first) in
           let begin : Made log m [] =
           record {
             sent = first;
@@ -108,46 +118,46 @@ module _ {Node Message : Type 0} (repeats : Node → Message → Option Message)
             is-sound = net .first-sound;
             path-is = net .fresh;
             allows =
-                allows-terms (length nodes) (hop first);
+                allows-terms (length counting) (hop first);
           } in
-          let inside : (q : List ℕ) → List·Memᴰ q (arrangements m (map own nodes)) → List·Memᴰ q (map path log) =
-          λ q k. all-made m (map own nodes) [] q begin (net .addresses-differ) (λ a h. (h, List·Memᴰ·not-nil)) (omega arith) k in
+          let inside : (q : List ℕ) → List·Memᴰ q (arrangements m (map own counting)) → List·Memᴰ q (map path log) =
+          λ q k. all-made m (map own counting) [] q begin differ (λ a h. (h, List·Memᴰ·not-nil)) (omega arith) k in
           omega (
             arith,
-            no-more (λ p. weight (length p)) (arrangements m (map own nodes)) (map path log)
-                (nodup-arrangements m (map own nodes) (net .addresses-differ)) inside,
+            no-more (λ p. weight (length p)) (arrangements m (map own counting)) (map path log)
+                (nodup-arrangements m (map own counting) differ) inside,
             total-map path (λ p. weight (length p)) log,
-            total-arrangements weight m (map own nodes),
-            ap (λ (n : ℕ). series weight n m) (length-map nodes own),
+            total-arrangements weight m (map own counting),
+            ap (λ (n : ℕ). series weight n m) (length-map counting own),
           )
 
     -- Any complete schedule with no reception twice.
     module _ (receptions : List Reception) (once : List·Nodup receptions) (all : Complete repeats nodes (first ∷ []) receptions) where
       pub reached-weighed : (weight : ℕ → ℕ)
           → total (λ t. weight (length (path t))) (flood repeats nodes (first ∷ []) receptions)
-          ≡ series weight (length nodes) (terms (length nodes) (hop first))
+          ≡ series weight (length (others own source nodes)) (terms (length (others own source nodes)) (hop first))
       reached-weighed weight =
-          let above = flood-weighed repeats own Sound path hop nodes first net receptions once weight in
+          let above = flood-weighed repeats own source Sound path hop nodes first net receptions once weight in
           let below =
           full (flood repeats nodes (first ∷ []) receptions) (complete-close repeats nodes (first ∷ []) receptions all)
           (stays repeats nodes (first ∷ []) receptions (List·Memᴰ·head refl)) weight in
           omega arith
 
-      pub flood-reached : length (flood repeats nodes (first ∷ []) receptions) ≡ bound (length nodes) (hop first)
+      pub flood-reached : length (flood repeats nodes (first ∷ []) receptions) ≡ bound (length (others own source nodes)) (hop first)
       unfolding bound
       flood-reached = sym (total-one _) ∙ reached-weighed (λ k. 1)
 
       pub bytes-reached : (size : Message → ℕ) → ((t : Message) → Sound t → size t ≡ size first + 2 * length (path t))
-          → total size (flood repeats nodes (first ∷ []) receptions) ≡ bytesBound (length nodes) (hop first) (size first)
+          → total size (flood repeats nodes (first ∷ []) receptions) ≡ bytesBound (length (others own source nodes)) (hop first) (size first)
       unfolding bytesBound
       bytes-reached size sized =
-          bytes-by-paths repeats own Sound path hop nodes first net receptions once size sized ∙ reached-weighed (λ k. size first + 2 * k)
+          bytes-by-paths repeats own source Sound path hop nodes first net receptions once size sized ∙ reached-weighed (λ k. size first + 2 * k)
 
   -- There is such a schedule: as many rounds as the bound says.
-  pub complete-exists : (nodes : List Node) (first : Message) → Network repeats own Sound path hop nodes first
+  pub complete-exists : (nodes : List Node) (first : Message) → Network repeats own source Sound path hop nodes first
       → (receptions : List Reception) × List·Nodup receptions × Complete repeats nodes (first ∷ []) receptions
   complete-exists nodes first net =
-      let most = bound (length nodes) (hop first) in
+      let most = bound (length (others own source nodes)) (hop first) in
       let once = rounds-once (length nodes) most in
-      let few = flood-bounded repeats own Sound path hop nodes first net (rounds (length nodes) most) once .few in
+      let few = flood-bounded repeats own source Sound path hop nodes first net (rounds (length nodes) most) once .few in
       (rounds (length nodes) most, once, rounds-complete repeats nodes most (first ∷ []) few)

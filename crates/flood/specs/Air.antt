@@ -32,7 +32,10 @@ unfoldable pub sends : Repeater → List ℕ → Option (List ℕ)
 sends repeater received =
     cond (eqb (repeatNumber (repeater .node) (repeater .room) received) 0) (some (repeated (address repeater) received)) none
 
--- the path and the hop limit that a transmission shows (Header, byte by byte)
+-- the source, the path and the hop limit that a transmission shows (Header, byte by byte)
+abbrev pub sourceOf : List ℕ → ℕ
+sourceOf bytes = headerOf bytes .source
+
 abbrev pub pathOf : List ℕ → List ℕ
 pathOf bytes = pathIn (headerOf bytes) bytes
 
@@ -47,7 +50,8 @@ onTheAir nodes first receptions = flood sends nodes (first ∷ []) receptions
 abbrev pub bytesOnTheAir : List Repeater → List ℕ → List Reception → ℕ
 bytesOnTheAir nodes first receptions = total length (onTheAir nodes first receptions)
 
--- Demand 3's nodes: different addresses, echo on; any address from 0 to 65,535 is allowed. Lists, repeating and room are as they may be.
+-- Demand 3's nodes: different addresses, echo on; any address from 0 to 65,535 is allowed. Lists, repeating and room are as they may be. The originator,
+-- the node at the source address, may be one of them (document 02, W-203).
 pub record Nodes (nodes : List Repeater) : Type 0 where
   pub addresses-differ : List·Nodup (map address nodes)
   pub addresses-fit : (each : Repeater) → List·Memᴰ each nodes → address each < 65536

@@ -1,7 +1,9 @@
 -- What happens to one message among nodes that repeat it, and demand 3's bounds. Over any type of node and of message. Assumes nothing.
+use mathlib.Core.Bool.{cond}
 use mathlib.Core.Option.{Option, none, some}
 use mathlib.Core.List.{List, [], _∷_, _++_, map, List·Memᴰ, List·Nodup}
 use Prim.Native.Nat.{ℕ, _+_, _≤_, _<_}
+use lib.Dec.{eqb}
 use lib.ListN.{length, getElem?}
 use Rattle.bound.specs.Bound.{bound}
 
@@ -32,7 +34,13 @@ unfoldable pub total : {A : Type 0} → (A → ℕ) → List A → ℕ
 total weight [] = 0
 total weight (x ∷ l) = weight x + total weight l
 
--- Demand 3, of the log that a fresh message with the hop limit h began among these nodes.
+-- Document 02, W-203: the nodes that count, which are those whose address is not the message's source. The one at that address is the originator.
+module _ {Node : Type 0} (own : Node → ℕ) where
+  unfoldable pub others : ℕ → List Node → List Node
+  others source [] = []
+  others source (node ∷ nodes) = cond (eqb (own node) source) (others source nodes) (node ∷ others source nodes)
+
+-- Demand 3, of the log that a fresh message with the hop limit h began; `nodes` are those that count.
 module _ {Node Message : Type 0} (own : Node → ℕ) (path : Message → List ℕ) where
   pub record Bounded (nodes : List Node) (h : ℕ) (log : List Message) : Type 0 where
     -- no two transmissions carry the same path

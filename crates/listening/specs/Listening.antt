@@ -1,6 +1,6 @@
 -- Document 02, W-201: which of the PDUs that a node hears are counted, and as what.
 use Prim.Native.Nat.{ℕ}
-use mathlib.Core.Bool.{Bool, not, cond}
+use mathlib.Core.Bool.{Bool, not, cond, _||_}
 use mathlib.Core.List.{List}
 use mathlib.Core.Path.{_≡_}
 use lib.Dec.{eqb}
@@ -17,12 +17,16 @@ use Rattle.listening.specs.declared.Listened.{Listened}
 abbrev pub wasRead : Answer → Bool
 wasRead answer = not (eqb (answer .taken) 0)
 
--- what the table sees of a PDU and of the node's answer for it: 30 is an echo
+-- dropped by echo: number 30, and 42 (document 02, W-203)
+abbrev pub isEchoNumber : ℕ → Bool
+isEchoNumber number = eqb number 30 || eqb number 42
+
+-- what the table sees of a PDU and of the node's answer for it
 abbrev pub heardOf : Answer → List ℕ → Heard
 heardOf answer received =
     record {
       source = headerOf received .source;
-      echo = eqb (answer .delivery) 30;
+      echo = isEchoNumber (answer .delivery);
       «path_bit» = headerOf received .«path_bit»;
       «path_count» = headerOf received .«path_count»;
     }

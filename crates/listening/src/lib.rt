@@ -2,7 +2,7 @@
 ghost use mathlib.Core.Path.{_≡_};
 ghost use Rattle.lists.specs.Lists.{listsOf};
 ghost use Rattle.decision.specs.Decision.{nodeOf};
-ghost use Rattle.listening.specs.Listening.{heardOf, answerNumber, memoryAfterAnswer, Listens};
+ghost use Rattle.listening.specs.Listening.{isEchoNumber, heardOf, answerNumber, memoryAfterAnswer, Listens};
 use counting::Heard;
 use decision::Settings;
 use node::Answer;
@@ -14,13 +14,19 @@ pub struct Listened {
     pub table_number: u8,
 }
 
+fn is_echo_number(number: u8) -> bool
+    ensures { λ r. ⌜ r ≡ isEchoNumber number ⌝ }
+{
+    if number == 30 { true } else { number == 42 }
+}
+
 fn heard_of(received: &[u8], answer: Answer) -> Heard
     ensures { λ r. ⌜ r ≡ heardOf answer (now (received .entry)) ⌝ }
 {
     let header = pdu::header_of(received);
     Heard {
         source: header.source,
-        echo: answer.delivery == 30,
+        echo: is_echo_number(answer.delivery),
         path_bit: header.path_bit,
         path_count: header.path_count,
     }

@@ -121,7 +121,7 @@ pub extern "C" fn mant_list_holds(list: &[u16], address: u16) -> bool
     lists::holds(list, address)
 }
 
-// What a node answers for the PDU at the start of the received bytes. Faults of the lists (20 to 22) and of reading (1 to 6), 30 to 34 and 40 are
+// What a node answers for the PDU at the start of the received bytes. Faults of the lists (20 to 22) and of reading (1 to 6), 30 to 34, 40 and 42 are
 // answered as both numbers, and nothing is delivered then. The repeated PDU is written at the start of the output where the repeat number is 0, and
 // the output keeps its bytes past it; with any other repeat number the output is left as it was. Document 01, "One PDU at one node".
 #[no_mangle]
@@ -181,9 +181,10 @@ pub extern "C" fn mant_step<'a>(
     boundary::step_in_c(cursor, stepped)
 }
 
-// The most transmissions that one fresh message with that hop limit can cause among so many repeating nodes, its own counted. That holds where
-// the message was originated with a path, echo is on at every node, and no two nodes have the same address. Any numbers are answered: number 10 for a
-// hop limit above 7, else `too_large` where 64 bits do not hold the value. Document 01, "Checked by hand", the bound of demand 3.
+// The most transmissions that one fresh message with that hop limit can cause among so many repeating nodes, its own counted. The node that originated
+// it does not count among them, also if it repeats. That holds where the message was originated with a path, echo is on at every node, the originator too,
+// and no two nodes have the same address. Any numbers are answered: number 10 for a hop limit above 7, else `too_large` where 64 bits do not hold the
+// value. Document 01, "Checked by hand", the bound of demand 3; document 02, W-203.
 #[no_mangle]
 pub extern "C" fn mant_most_transmissions(nodes: u64, hop_limit: u64) -> MantBound
     ensures { λ r. ⌜ r ≡ boundInC (answer «hop_limit» (bound nodes «hop_limit»)) ⌝ }

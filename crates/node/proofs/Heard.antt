@@ -9,7 +9,7 @@ use lib.Dec.{eqb, ltb}
 use lib.ListN.{take, drop}
 use borrow.Author.Tests.{eq-eqb, ne-eqb, eqb-false, le-ltb, ltb-false}
 use Rattle.octets.specs.Octets.{AllBytes}
-use Rattle.octets.proofs.Numbering.{orElse-zero, gives-zero, gives-here, gives-none, orElse-first, orElse-later}
+use Rattle.octets.proofs.Numbering.{orElse-zero, gives-zero, gives-none, orElse-first, orElse-later}
 use Rattle.pdu.specs.declared.Header.{Header}
 use Rattle.pdu.specs.declared.Reading.{Reading}
 use Rattle.pdu.specs.declared.Reading.the-variants.{Pdu, Refused}
@@ -19,7 +19,8 @@ use Rattle.pdu.specs.Reading.{readOf, readingNumber}
 use Rattle.pdu.specs.Parts.{pathIn, inPath, payloadIn}
 use Rattle.pdu.proofs.Inversion.{shown}
 use Rattle.lists.specs.Lists.{listFault}
-use Rattle.decision.specs.Decision.{Node, isEcho, echoFault, dropFault, repeatFault}
+use Rattle.decision.specs.Decision.{Node, dropFault, repeatFault}
+use Rattle.decision.proofs.Dropping.{drops-30, passed}
 use Rattle.node.specs.Repeat.{repeated, repeatedLength, repeatedHeader}
 use Rattle.node.specs.Answers.{listOrReadingFault, stopFault, deliveryNumber, repeatNumber, delivered, answerOf}
 use Rattle.node.proofs.Repeating.{Ready, ready}
@@ -58,6 +59,7 @@ pub record Repeats (node : Node) (room : ℕ) (received : List ℕ) : Type 0 whe
   pub read : readOf received ≡ Pdu header
   pub ready : Ready received header
   pub no-echo : node .settings .echo ≡ true → header .«path_bit» ≡ true → inPath (node .settings .own) (pathIn header received) ≡ false
+  pub not-own : node .settings .echo ≡ true → header .source ≡ node .settings .own → ⊥
   pub repeats : repeatFault (node .settings) header ≡ 0
   pub passes : dropFault node header received ≡ 0
   pub clean : listFault (node .lists) ≡ 0
@@ -67,6 +69,10 @@ not-echo : (echo bit found : Bool) → (echo && (bit && found)) ≡ false → ec
 not-echo true true found e on has = e
 not-echo true false found e on has = let z : _≡_ {A = ℕ} 0 1 = cc in absurd (omega arith)
 not-echo false bit found e on has = let z : _≡_ {A = ℕ} 0 1 = cc in absurd (omega arith)
+
+not-both : (echo same : Bool) → (echo && same) ≡ false → echo ≡ true → same ≡ false
+not-both true same e on = e
+not-both false same e on = let z : _≡_ {A = ℕ} 0 1 = cc in absurd (omega arith)
 
 all-true : (echo bit found : Bool) → echo ≡ true → bit ≡ true → found ≡ true → (echo && (bit && found)) ≡ true
 all-true echo bit found e1 e2 e3 = rw (e1, e2, e3)
@@ -79,9 +85,11 @@ module _ (node : Node) where
   passing-no-echo : (header : Header) (received : List ℕ) → dropFault node header received ≡ 0 → node .settings .echo ≡ true
       → header .«path_bit» ≡ true
       → inPath (node .settings .own) (pathIn header received) ≡ false
-  unfolding dropFault echoFault
-  passing-no-echo header received zero =
-      not-echo _ _ _ (gives-zero (isEcho (node .settings) header received) 30 (omega arith) (orElse-zero _ _ zero .0))
+  passing-no-echo header received zero = not-echo _ _ _ (passed node header received zero .0)
+
+  passing-not-own : (header : Header) (received : List ℕ) → dropFault node header received ≡ 0 → node .settings .echo ≡ true
+      → header .source ≡ node .settings .own → ⊥
+  passing-not-own header received zero on = eqb-false _ _ (not-both _ _ (passed node header received zero .1) on)
 
   module _ (room : ℕ) (received : List ℕ) where
     pub repeats : repeatNumber node room received ≡ 0 → Repeats node room received
@@ -107,6 +115,7 @@ module _ (node : Node) where
               read = e;
               ready = ready (node .settings) received header e repeats;
               no-echo = passing-no-echo header received passes;
+              not-own = passing-not-own header received passes;
               repeats = repeats;
               passes = passes;
               clean = clean;
@@ -137,23 +146,20 @@ module _ (node : Node) where
         go true = refl
         go false = refl
 
-    -- a PDU that was read and is an echo: 30, twice
-    module _ (header : Header) (clean : listFault (node .lists) ≡ 0) (e : readOf received ≡ Pdu header)
-        (echo : dropFault node header received ≡ 30) where
-      echo-twice : stopFault node room received ≡ 30
+    -- a PDU that was read and is dropped: its number, twice
+    module _ (read : listOrReadingFault node received ≡ 0) (n : ℕ) (some : n ≡ 0 → ⊥)
+        (drops : dropFault node (headerOf received) received ≡ n) where
+      pub dropped-stop : stopFault node room received ≡ n
       unfolding stopFault
-      echo-twice =
-          let pass : dropFault node (headerOf received) received ≡ 30 =
-          ap (λ (x : Header). dropFault node x received) (sym (shown received header e .is)) ∙ echo in
-          orElse-later _ _ (is-readable node received [] clean header e) ∙ rw pass (orElse-first 30 _ (omega arith))
+      dropped-stop = orElse-later _ _ read ∙ rw drops (orElse-first n _ some)
 
-      echo-delivery : deliveryNumber node room received ≡ 30
+      pub dropped-delivery : deliveryNumber node room received ≡ n
       unfolding deliveryNumber
-      echo-delivery = rw echo-twice (orElse-first 30 _ (omega arith))
+      dropped-delivery = rw dropped-stop (orElse-first n _ some)
 
-      echo-repeat : repeatNumber node room received ≡ 30
+      pub dropped-repeat : repeatNumber node room received ≡ n
       unfolding repeatNumber
-      echo-repeat = rw echo-twice (orElse-first 30 _ (omega arith))
+      dropped-repeat = rw dropped-stop (orElse-first n _ some)
 
 -- a node that hears its own repeat
 module _ (received : List ℕ) (header : Header) (small : AllBytes received) (read : readOf received ≡ Pdu header) (is-ready : Ready received header)
@@ -166,16 +172,27 @@ module _ (received : List ℕ) (header : Header) (small : AllBytes received) (re
 
   module _ (node : Node) (same : node .settings .own ≡ own) (on : node .settings .echo ≡ true) where
     pub echo-again : dropFault node (repeatedHeader header) (repeated own received) ≡ 30
-    unfolding dropFault echoFault repeatedHeader
+    unfolding repeatedHeader
     echo-again =
-        gives-here _ 30 _ (omega arith)
+        drops-30 _ _ _
         (all-true (node .settings .echo) (header .«path_bit») _ on bit
         (ap (λ (address : ℕ). inPath address (pathIn (repeatedHeader header) (repeated own received))) same ∙ own-in-path))
 
-    pub echo-delivers-30 : listFault (node .lists) ≡ 0 → (room : ℕ) → deliveryNumber node room (repeated own received) ≡ 30
-    echo-delivers-30 clean room =
-        echo-delivery node room (repeated own received) (repeatedHeader header) clean (alone-reads received header small read is-ready own) echo-again
+    module _ (clean : listFault (node .lists) ≡ 0) where
+      abbrev again : List ℕ
+      again = repeated own received
 
-    pub echo-repeats-30 : listFault (node .lists) ≡ 0 → (room : ℕ) → repeatNumber node room (repeated own received) ≡ 30
-    echo-repeats-30 clean room =
-        echo-repeat node room (repeated own received) (repeatedHeader header) clean (alone-reads received header small read is-ready own) echo-again
+      again-reads : readOf again ≡ Pdu (repeatedHeader header)
+      again-reads = alone-reads received header small read is-ready own
+
+      again-read : listOrReadingFault node again ≡ 0
+      again-read = is-readable node again [] clean (repeatedHeader header) again-reads
+
+      again-dropped : dropFault node (headerOf again) again ≡ 30
+      again-dropped = ap (λ (x : Header). dropFault node x again) (sym (shown again (repeatedHeader header) again-reads .is)) ∙ echo-again
+
+      pub echo-delivers-30 : (room : ℕ) → deliveryNumber node room (repeated own received) ≡ 30
+      echo-delivers-30 room = dropped-delivery node room again again-read 30 (omega arith) again-dropped
+
+      pub echo-repeats-30 : (room : ℕ) → repeatNumber node room (repeated own received) ≡ 30
+      echo-repeats-30 room = dropped-repeat node room again again-read 30 (omega arith) again-dropped

@@ -1,5 +1,6 @@
 pub mod Repeating
 pub mod Answering
+pub mod Chain
 pub mod Encoded
 pub mod Heard
 pub mod ShutOut

@@ -1,5 +1,5 @@
 -- Programs and outcomes that document 01 asks to try against the promise of `hear` and of `delivered` ("What the contracts must say", "Slips to rule
--- out"): none of them keeps it.
+-- out"), and some against document 02, W-203: none of them keeps it.
 use Prim.Native.Nat.{ℕ, zero, suc, _<_}
 use native.Mathlib.Omega.{arith}
 use native.Mathlib.Nat.{min-le-left}
@@ -20,21 +20,25 @@ use Rattle.decision.specs.Decision.{Node, echoFault, passFault, dropFault, deli
 use Rattle.node.specs.Repeat.{repeated}
 use Rattle.node.specs.Answers.{listOrReadingFault, stopFault, deliveryNumber, repeatNumber, taken, answerOf, twice, outputAfter, Hears}
 
--- a node of an address, repeating, echo on, with no list on
-abbrev nodeAt : ℕ → Node
-nodeAt own =
+-- a node of an address, repeating, echo on or off, its source pass list on or off, no other list on, and all of them empty
+abbrev nodeWith : ℕ → Bool → Bool → Node
+nodeWith own echo pass =
     record {
       settings = record {
         own = own;
-        echo = true;
+        echo = echo;
         repeating = true;
-        «source_pass» = false;
+        «source_pass» = pass;
         «source_reject» = false;
         «destination_pass» = false;
         «destination_reject» = false;
       };
       lists = listsOf [] [] [] [];
     }
+
+-- one with echo on and no list on
+abbrev nodeAt : ℕ → Node
+nodeAt own = nodeWith own true false
 
 -- an output of 100 bytes, all 0
 abbrev zeros : List ℕ
@@ -56,6 +60,20 @@ exampleRepeated =
 abbrev addedHeader : List ℕ
 addedHeader = 0x01 ∷ 0x00 ∷ 0x90 ∷ 0x00 ∷ 0x00 ∷ 0x05 ∷ 0x06 ∷ 0x40 ∷ []
 
+-- PDUs of source 2000: without the path bit, with it and 5 in the path, and with 2000 in the path
+abbrev ownReport : List ℕ
+ownReport = 0x00 ∷ 0x00 ∷ 0x10 ∷ 0x00 ∷ 0x07 ∷ 0xD0 ∷ []
+
+abbrev ownReportWithPath : List ℕ
+ownReportWithPath = 0x02 ∷ 0x00 ∷ 0x10 ∷ 0x00 ∷ 0x07 ∷ 0xD0 ∷ 0x01 ∷ 0x00 ∷ 0x05 ∷ []
+
+abbrev ownReportEchoed : List ℕ
+ownReportEchoed = 0x02 ∷ 0x00 ∷ 0x10 ∷ 0x00 ∷ 0x07 ∷ 0xD0 ∷ 0x01 ∷ 0x07 ∷ 0xD0 ∷ []
+
+-- a PDU of source 1000 for address 2000
+abbrev forOwn : List ℕ
+forOwn = 0x01 ∷ 0x00 ∷ 0x10 ∷ 0x00 ∷ 0x03 ∷ 0xE8 ∷ 0x07 ∷ 0xD0 ∷ []
+
 -- what the definitions give for these
 record Given : Type 0 where
   is-repeated : answerOf (nodeAt 2000) 100 example
@@ -64,11 +82,30 @@ record Given : Type 0 where
   is-echo : answerOf (nodeAt 2000) 100 exampleRepeated ≡ twice 30 22
   is-unread : answerOf (nodeAt 2000) 100 [] ≡ twice 1 0
   is-another's : answerOf (nodeAt 2000) 100 addedHeader .delivery ≡ 39
+  is-own : answerOf (nodeAt 2000) 100 ownReport ≡ twice 42 6
+  is-own-with-path : answerOf (nodeAt 2000) 100 ownReportWithPath ≡ twice 42 9
+  is-echo-and-own : answerOf (nodeAt 2000) 100 ownReportEchoed ≡ twice 30 9
+  is-own-and-listed : answerOf (nodeWith 2000 true true) 100 ownReport ≡ twice 42 6
+  is-own-with-echo-off : answerOf (nodeWith 2000 false false) 100 ownReport .repeat ≡ 0
+  is-for-own : answerOf (nodeAt 2000) 100 forOwn .repeat ≡ 41
 
 given : Given
 unfolding answerOf outputAfter deliveryNumber repeatNumber stopFault listOrReadingFault dropFault echoFault passFault deliveryFault
     repeatFault taken repeated over readOf headerOf addressesAt inPath firstFault faultOf lowAboveHigh _gives_ _orElse_
-given = record { is-repeated = refl; is-copied = refl; is-echo = refl; is-unread = refl; is-another's = refl }
+given =
+    record {
+      is-repeated = refl;
+      is-copied = refl;
+      is-echo = refl;
+      is-unread = refl;
+      is-another's = refl;
+      is-own = refl;
+      is-own-with-path = refl;
+      is-echo-and-own = refl;
+      is-own-and-listed = refl;
+      is-own-with-echo-off = refl;
+      is-for-own = refl;
+    }
 
 -- a program for any node, received bytes and output: what it answers and what it leaves in the output
 abbrev pub Program : Type 0
@@ -125,6 +162,44 @@ read-and-not-taken answer now none right =
 pub added-header-first : (answer : Answer) (now : List ℕ) → answer .delivery ≡ 35 → Hears (nodeAt 2000) addedHeader zeros answer now → ⊥
 added-header-first answer now added right =
     let another's : answer .delivery ≡ 39 = ap (λ (answer : Answer). answer .delivery) (right .0) ∙ given .is-another's in
+    omega arith
+
+-- W-203: 42 before 30, for the own report with the own address in its path
+pub own-before-echo : (answer : Answer) (now : List ℕ) → answer .repeat ≡ 42 → Hears (nodeAt 2000) ownReportEchoed zeros answer now → ⊥
+own-before-echo answer now own right =
+    let echo : answer .repeat ≡ 30 = ap (λ (answer : Answer). answer .repeat) (right .0 ∙ given .is-echo-and-own) in
+    omega arith
+
+-- 42 after the lists, for the own report at a source pass list that is on and empty
+pub lists-before-own : (answer : Answer) (now : List ℕ) → answer .repeat ≡ 31 → Hears (nodeWith 2000 true true) ownReport zeros answer now → ⊥
+lists-before-own answer now listed right =
+    let own : answer .repeat ≡ 42 = ap (λ (answer : Answer). answer .repeat) (right .0 ∙ given .is-own-and-listed) in
+    omega arith
+
+-- 42 only with the path bit, and only without it
+pub own-with-path-alone : (answer : Answer) (now : List ℕ) → (answer .repeat ≡ 42 → ⊥) → Hears (nodeAt 2000) ownReport zeros answer now → ⊥
+own-with-path-alone answer now other right = other (ap (λ (answer : Answer). answer .repeat) (right .0 ∙ given .is-own))
+
+pub own-without-path-alone : (answer : Answer) (now : List ℕ) → (answer .repeat ≡ 42 → ⊥) → Hears (nodeAt 2000) ownReportWithPath zeros answer now
+    → ⊥
+own-without-path-alone answer now other right = other (ap (λ (answer : Answer). answer .repeat) (right .0 ∙ given .is-own-with-path))
+
+-- 42 given once, so that the own report is delivered
+pub own-delivered : (answer : Answer) (now : List ℕ) → answer .delivery ≡ 0 → Hears (nodeAt 2000) ownReport zeros answer now → ⊥
+own-delivered answer now delivers right =
+    let own : answer .delivery ≡ 42 = ap (λ (answer : Answer). answer .delivery) (right .0 ∙ given .is-own) in
+    omega arith
+
+-- 42 with echo off
+pub own-with-echo-off : (answer : Answer) (now : List ℕ) → answer .repeat ≡ 42 → Hears (nodeWith 2000 false false) ownReport zeros answer now → ⊥
+own-with-echo-off answer now own right =
+    let again : answer .repeat ≡ 0 = ap (λ (answer : Answer). answer .repeat) (right .0) ∙ given .is-own-with-echo-off in
+    omega arith
+
+-- 42 where the own address is the destination and not the source
+pub own-as-destination : (answer : Answer) (now : List ℕ) → answer .repeat ≡ 42 → Hears (nodeAt 2000) forOwn zeros answer now → ⊥
+own-as-destination answer now own right =
+    let for-own : answer .repeat ≡ 41 = ap (λ (answer : Answer). answer .repeat) (right .0) ∙ given .is-for-own in
     omega arith
 
 -- none of the numbers that are for repeating alone is 40

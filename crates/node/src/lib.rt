@@ -29,7 +29,7 @@ pub struct Answer {
 }
 
 // What the node answers for the PDU at the start of `received`: document 01's order, lists first, then reading, echo, the lists' tests, delivery and
-// repeating. Faults of the lists (20 to 22) and of reading (1 to 6), 30 to 34 and 40 are answered as both numbers, and nothing is delivered then. Any
+// repeating. Faults of the lists (20 to 22) and of reading (1 to 6), 30 to 34, 40 and 42 are answered as both numbers, and nothing is delivered then. Any
 // settings, lists, bytes and output get an answer. The output changes only where the repeat number is 0, and then only the bytes of the repeated PDU
 // at its start. Document 01, "One PDU at one node", 1 to 6, and its last paragraph for the bytes of the repeat.
 pub fn hear<'a>(

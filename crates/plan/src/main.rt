@@ -1,7 +1,7 @@
 // How many times one report can go out on the air at most.
 //
 // plan             prints a table for up to 12 repeating nodes
-// plan N H         answers for N repeating nodes and hop limit H
+// plan N H         answers for N repeating nodes and hop limit H; the node that originated the report does not count
 // plan N H BYTES   gives the bytes on the air too, for a fresh PDU of that length, 7 to 4,105
 mod argument;
 mod table;
@@ -109,7 +109,7 @@ fn print_bytes(nodes: u64, hop_limit: u64, length: u64) {
 fn say_network(nodes: u64, hop_limit: u64) {
     say(b"Among ");
     say_count(nodes, b" repeating node");
-    say(b", with hop limit ");
+    say(b" besides the originator, with hop limit ");
     io::print_decimal(STDOUT_FILENO, hop_limit);
     say(b", ");
 }
@@ -117,7 +117,7 @@ fn say_network(nodes: u64, hop_limit: u64) {
 fn say_conditions(before: &[u8]) {
     say(before);
     say(
-        b"it was originated with a path, every node has echo suppression on and no two nodes have the same address.\n",
+        b"it was originated with a path, every node has echo suppression on, the originator too, and no two nodes have the same address.\n",
     );
 }
 

@@ -59,36 +59,36 @@ flag-within : (bit : Bool) → flag bit ≤ 1
 flag-within true = omega arith
 flag-within false = omega arith
 
--- no number of a PDU's answer is above 41
-fault-within : (list : List ℕ) → faultOf list ≤ 41
+-- no number of a PDU's answer is above 42
+fault-within : (list : List ℕ) → faultOf list ≤ 42
 unfolding faultOf
 fault-within list =
     orElse-within _ _ (gives-within _ (omega arith)) (orElse-within _ _ (gives-within _ (omega arith)) (gives-within _ (omega arith)))
 
-first-within : (lists : List (List ℕ)) → firstFault lists ≤ 41
+first-within : (lists : List (List ℕ)) → firstFault lists ≤ 42
 unfolding firstFault
 first-within [] = omega arith
 first-within (list ∷ lists) = orElse-within _ _ (fault-within list) (first-within lists)
 
 module _ (node : Node) (received : List ℕ) where
-  drop-within : dropFault node (headerOf received) received ≤ 41
+  drop-within : dropFault node (headerOf received) received ≤ 42
   unfolding dropFault echoFault passFault
   drop-within =
-      orElse-within _ _ (gives-within _ (omega arith))
+      orElse-within _ _ (orElse-within _ _ (gives-within _ (omega arith)) (gives-within _ (omega arith)))
       (orElse-within _ _ (gives-within _ (omega arith))
       (orElse-within _ _ (gives-within _ (omega arith)) (orElse-within _ _ (gives-within _ (omega arith)) (gives-within _ (omega arith)))))
 
-  stop-within : stopFault node roomForOne received ≤ 41
+  stop-within : stopFault node roomForOne received ≤ 42
   unfolding stopFault listOrReadingFault
   stop-within =
-      let read : readingNumber (readOf received) ≤ 41 = omega (arith, reading-within (readOf received)) in
+      let read : readingNumber (readOf received) ≤ 42 = omega (arith, reading-within (readOf received)) in
       orElse-within _ _ (orElse-within _ _ (first-within _) read) (orElse-within _ _ drop-within (gives-within _ (omega arith)))
 
-  delivery-within : deliveryNumber node roomForOne received ≤ 41
+  delivery-within : deliveryNumber node roomForOne received ≤ 42
   unfolding deliveryNumber deliveryFault
   delivery-within = orElse-within _ _ stop-within (orElse-within _ _ (gives-within _ (omega arith)) (gives-within _ (omega arith)))
 
-  repeat-within : repeatNumber node roomForOne received ≤ 41
+  repeat-within : repeatNumber node roomForOne received ≤ 42
   unfolding repeatNumber repeatFault
   repeat-within =
       orElse-within _ _ stop-within

@@ -6,7 +6,7 @@ use crate::table::{answer_for, in_library, in_reference, is_read, Table, NOT_HEL
 use crate::Compared;
 use generator::{any_table, good_four_lists, settings, source_near, Deed, FourLists, Random};
 use mant::raw::{self, Found, Station};
-use reference::{Settings, Stations};
+use reference::{counts_as_echo, Settings, Stations};
 
 /// Compares some deeds on any words, each by what the words held before.
 pub fn compare(random: &mut Random) -> Compared {
@@ -112,7 +112,7 @@ fn compare_answer(
         Ok(header) if is_read(delivery) => {
             let heard = raw::Heard {
                 source: header.source,
-                echo: delivery == 30,
+                echo: counts_as_echo(delivery),
                 path_bit: header.path.is_some(),
                 path_count: header.path.map_or(0, |path| path.len() as u8),
             };

@@ -7,7 +7,7 @@ use crate::table::{answer_for, in_library, in_reference, is_read, Table, NOT_HEL
 use crate::Compared;
 use generator::{address, history, source_near, Deed, FourLists, Random};
 use mant::raw::{self, Found};
-use reference::{hear, hear_and_count, read, Settings, Stations};
+use reference::{counts_as_echo, hear, hear_and_count, read, Settings, Stations};
 
 /// A table in the library and in the reference, and in the wrapper where it
 /// has the wrapper's size.
@@ -176,7 +176,7 @@ impl Tables {
         let number = raw::count_answer(self.library.change(), bytes, answer);
         let is_read = is_read(delivery);
         let wanted = match read(bytes) {
-            Ok(header) if is_read => self.reference.read(&header, delivery == 30),
+            Ok(header) if is_read => self.reference.read(&header, counts_as_echo(delivery)),
             _ => 0,
         };
         input.same("number of an answer", number, wanted)?;

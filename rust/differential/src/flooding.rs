@@ -1,10 +1,11 @@
-//! Floods: one fresh PDU with a path among nodes with echo on (01, "Compared
+//! Floods: one fresh PDU with a path among nodes with echo on (01, "Checked
 //! by hand", last line), run with the library. A node hears a transmission at
-//! most once. Each answer is compared with the reference's.
+//! most once, the node at the source address too, which the bound does not
+//! count (02, W-203). Each answer is compared with the reference's.
 
 use crate::same::{answer, fresh, hex, lists, node as library_node, wrapped};
 use crate::Compared;
-use generator::{address, good_four_lists, settings, FourLists, Random};
+use generator::{address, good_four_lists, origination, settings, FourLists, Random};
 use mant::{most_bytes, most_transmissions};
 use reference::{hear, Origination, Settings, MOST_PDU};
 use std::collections::{HashSet, VecDeque};
@@ -26,6 +27,8 @@ enum Order {
 /// A run of the network.
 struct Flood {
     nodes: Vec<Node>,
+    /// The source address of the fresh PDU.
+    source: u16,
     order: Order,
     /// Some receptions are missed.
     lossy: bool,
@@ -49,21 +52,28 @@ fn hold(condition: bool, words: &str) -> Compared {
 /// all nodes repeat and hear everything it reaches the bound.
 pub fn compare(random: &mut Random) -> Compared {
     let open = random.flag();
-    let count = random.between(0, 6);
-    let nodes = network(random, count, open);
-    let hop = random.below(8) as u64;
-    let fresh = fresh_pdu(random, &nodes, hop, open)?;
-    let shown = format!("fresh PDU {}, {count} nodes, open {open}", hex(&fresh));
-    run(random, nodes, hop, open, fresh).map_err(|words| format!("{words}; {shown}"))
+    let asked = origination(random);
+    let nodes = network(random, asked.source, open);
+    let fresh = fresh_pdu(random, &nodes, asked, open)?;
+    let addresses = nodes.iter().map(|node| node.settings.own_address);
+    let addresses: Vec<u16> = addresses.collect();
+    let shown = format!(
+        "fresh PDU {}, nodes {addresses:?}, open {open}",
+        hex(&fresh)
+    );
+    run(random, nodes, open, fresh).map_err(|words| format!("{words}; {shown}"))
 }
 
 /// Runs one flood and checks what went out.
-fn run(random: &mut Random, nodes: Vec<Node>, hop: u64, open: bool, fresh: Vec<u8>) -> Compared {
-    let (count, length) = (nodes.len() as u64, fresh.len() as u64);
+fn run(random: &mut Random, nodes: Vec<Node>, open: bool, fresh: Vec<u8>) -> Compared {
+    let header = mant::read(&fresh).map_err(|refusal| refusal.to_string())?;
+    let (hop, length) = (u64::from(header.hop_limit), fresh.len() as u64);
+    let count = others(&nodes, header.source) as u64;
     let most = of(most_transmissions(count, hop))?;
     let most_bytes = of(most_bytes(count, hop, length))?;
     let mut flood = Flood {
         nodes,
+        source: header.source,
         order: random.pick(&[Order::Newest, Order::Oldest, Order::Any]),
         lossy: !open && random.flag(),
         sent: vec![],
@@ -87,17 +97,29 @@ fn of(bound: Result<Option<u64>, mant::Refusal>) -> Result<u64, String> {
     bound.ok_or(String::from("no bound"))
 }
 
-/// Nodes with echo on and addresses of their own; in an open network all
-/// repeat and no list is on.
-fn network(random: &mut Random, count: usize, open: bool) -> Vec<Node> {
+/// Up to six nodes with echo on and addresses of their own, and mostly the
+/// node at the source address among them; in an open network all repeat and no
+/// list is on.
+fn network(random: &mut Random, source: u16, open: bool) -> Vec<Node> {
+    let count = random.between(0, 6);
     let mut nodes: Vec<Node> = vec![];
-    while nodes.len() < count {
+    if !random.one_in(4) {
+        nodes.push(node(random, source, open));
+    }
+    while others(&nodes, source) < count {
         let own_address = address(random);
-        if !has(&nodes, own_address) {
-            nodes.push(node(random, own_address, open));
+        if own_address != source && !has(&nodes, own_address) {
+            let place = random.between(0, nodes.len());
+            nodes.insert(place, node(random, own_address, open));
         }
     }
     nodes
+}
+
+/// How many nodes the bound counts: those that are not at the source address.
+fn others(nodes: &[Node], source: u16) -> usize {
+    let counts = |node: &&Node| node.settings.own_address != source;
+    nodes.iter().filter(counts).count()
 }
 
 /// Is one of the nodes at the address?
@@ -126,20 +148,23 @@ fn node(random: &mut Random, own_address: u16, open: bool) -> Node {
     }
 }
 
-/// A fresh PDU with the path bit, from any address, a node's too; in an open
-/// network it is for none of the nodes.
-fn fresh_pdu(random: &mut Random, nodes: &[Node], hop: u64, open: bool) -> Result<Vec<u8>, String> {
-    let wanted = random.flag().then(|| address(random));
+/// A fresh PDU with the path bit; in an open network it is for none of the
+/// nodes.
+fn fresh_pdu(
+    random: &mut Random,
+    nodes: &[Node],
+    asked: Origination,
+    open: bool,
+) -> Result<Vec<u8>, String> {
+    let wanted = asked.destination;
     let destination = wanted.filter(|address| !(open && has(nodes, *address)));
     let asked = Origination {
         reliable: destination.is_some() && random.flag(),
-        time_stamp_request: random.flag(),
         path: true,
         port: random.below(16) as u64,
-        hop,
-        source: address(random),
+        hop: random.below(8) as u64,
         destination,
-        pdu_id: random.byte(),
+        ..asked
     };
     let payload_length = random.below(12);
     let mut out = [0; MOST_PDU];
@@ -158,6 +183,8 @@ impl Flood {
                 continue;
             }
             if let Some(repeated) = self.heard(node, transmission)? {
+                let own_address = self.nodes[node].settings.own_address;
+                hold(own_address != self.source, "it repeated its own report")?;
                 self.send(repeated)?;
             }
         }

@@ -3,9 +3,9 @@
 use crate::output::Output;
 use crate::same::{answer, lists, node, wrapped, Input};
 use crate::Compared;
-use generator::{four_lists, good_four_lists, received, room, settings, Random};
+use generator::{four_lists, good_four_lists, received, room, settings_for, Random};
 use mant::raw;
-use reference::{hear, read, Header, Settings};
+use reference::{hear, read};
 
 /// Compares on any settings, lists, received bytes and rooms.
 pub fn compare(random: &mut Random) -> Compared {
@@ -15,8 +15,7 @@ pub fn compare(random: &mut Random) -> Compared {
     };
     let bytes = received(random);
     let shown = read(&bytes).ok();
-    let drawn = settings(random);
-    let settings = meeting(random, drawn, shown.as_ref());
+    let settings = settings_for(random, &bytes);
     let length = shown.as_ref().map_or(0, |header| {
         header.pdu_length() + 2 * usize::from(header.path.is_some())
     });
@@ -40,24 +39,4 @@ pub fn compare(random: &mut Random) -> Compared {
         input.same_bytes("delivered", delivered, header.payload(&bytes))?;
     }
     input.same("wrapped answer", safe, wrapped(&wanted))
-}
-
-/// The settings with an own address that often meets the PDU's.
-fn meeting(random: &mut Random, settings: Settings, shown: Option<&Header>) -> Settings {
-    let Some(header) = shown else {
-        return settings;
-    };
-    let path = header.path.as_deref().unwrap_or(&[]);
-    let own_address = match random.below(8) {
-        0 => header.source,
-        1 => header.destination.unwrap_or(settings.own_address),
-        2 => path.first().copied().unwrap_or(settings.own_address),
-        3 if !path.is_empty() => path[random.below(path.len())],
-        4 => path.last().copied().unwrap_or(settings.own_address),
-        _ => settings.own_address,
-    };
-    Settings {
-        own_address,
-        ..settings
-    }
 }

@@ -3,7 +3,7 @@
 use crate::output::Output;
 use crate::same::{answer, lists, node, wrapped, Input};
 use crate::Compared;
-use generator::{batch, four_lists, good_four_lists, settings, FourLists, Random};
+use generator::{batch, four_lists, good_four_lists, settings_for, FourLists, Random};
 use mant::{raw, Cursor};
 use reference::numbers::BATCH_SIZE;
 use reference::{hear, walk, Settings, Step, MOST_BATCH, MOST_PDU};
@@ -38,7 +38,7 @@ pub fn compare(random: &mut Random) -> Compared {
     };
     let batch = batch(random);
     let case = Case {
-        settings: settings(random),
+        settings: settings_for(random, &batch),
         four: &four,
         batch: &batch,
     };

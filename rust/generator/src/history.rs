@@ -37,7 +37,7 @@ pub struct History {
 pub fn history(random: &mut Random) -> History {
     let words = rising_table(random);
     let (sources, turns) = match random.one_in(12) {
-        true => (many_sources(random), random.between(180, 340)),
+        true => (many_sources(random), random.between(200, 360)),
         false => (few_sources(random, &words), random.between(1, 30)),
     };
     let node = (settings(random), good_four_lists(random));
@@ -77,7 +77,9 @@ pub fn source_near(random: &mut Random, words: &[u16]) -> u16 {
 
 /// Delivery numbers that tell of a PDU that was read, or was not, and numbers
 /// beside them.
-const DELIVERIES: [u8; 15] = [0, 1, 6, 7, 19, 20, 22, 23, 29, 30, 31, 34, 35, 39, 40];
+const DELIVERIES: [u8; 19] = [
+    0, 1, 6, 7, 19, 20, 22, 23, 29, 30, 30, 31, 34, 35, 39, 40, 42, 42, 43,
+];
 
 /// Something done about the source, mostly hearing it.
 pub fn deed(random: &mut Random, node: &(Settings, FourLists), source: u16) -> Deed {
@@ -132,11 +134,14 @@ fn report(random: &mut Random, own_address: u16, source: u16) -> Vec<u8> {
     bytes
 }
 
-/// A short valid PDU from the source, with the node's address often in its
-/// path.
+/// A short valid PDU from the source, at times from the node itself, with the
+/// node's address often in its path.
 fn valid_report(random: &mut Random, own_address: u16, source: u16) -> Vec<u8> {
     let mut pdu = shape(random);
-    pdu.source = source;
+    pdu.source = match random.one_in(8) {
+        true => own_address,
+        false => source,
+    };
     pdu.payload.truncate(random.below(12));
     if let Some(path) = &mut pdu.path {
         if !random.one_in(8) {
@@ -193,6 +198,7 @@ mod tests {
         for number in [0, 1, 2, 3, 5, 6, 20, 21, 22, 30, 31, 32, 33, 34, 35, 39, 40] {
             assert!(node[number] > 0, "{number}: {node:?}");
         }
+        assert!(node[30] > 100 && node[42] > 100, "{node:?}");
         assert!(
             table[0] > 1000 && table[55] > 100 && table[56] > 100,
             "{table:?}"

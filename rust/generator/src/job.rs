@@ -3,7 +3,7 @@
 use crate::batch::batch;
 use crate::lists::{good_four_lists, FourLists};
 use crate::random::Random;
-use crate::settings::settings;
+use crate::settings::settings_for;
 use reference::numbers::{
     BATCH_SIZE, JOB_FLAGS, JOB_LEFT_OVER, JOB_LIST_COUNT, JOB_SHORT, LOW_ABOVE_HIGH,
 };
@@ -71,7 +71,7 @@ pub fn job(random: &mut Random) -> JobParts {
     let mut batch = batch(random);
     batch.truncate(MOST_BATCH);
     JobParts {
-        settings: settings(random),
+        settings: settings_for(random, &batch),
         lists: good_four_lists(random),
         batch,
     }

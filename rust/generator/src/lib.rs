@@ -26,6 +26,6 @@ pub use lists::{bad_list, four_lists, good_four_lists, good_list, FourLists};
 pub use output::{output, room};
 pub use random::{splitmix64, Random};
 pub use received::{cut, damaged, random_bytes, received};
-pub use settings::{origination, payload_to_send, settings};
+pub use settings::{origination, payload_to_send, settings, settings_for};
 pub use shape::{address, shape, Shape};
 pub use table::{any_table, rising_table};

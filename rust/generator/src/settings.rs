@@ -2,7 +2,7 @@
 
 use crate::random::Random;
 use crate::shape::address;
-use reference::{Origination, Settings};
+use reference::{read, Header, Origination, Settings};
 
 /// Settings of a node; repeating is mostly on and each list mostly off, so
 /// that many PDUs come through.
@@ -15,6 +15,34 @@ pub fn settings(random: &mut Random) -> Settings {
         source_reject_on: random.one_in(4),
         destination_pass_on: random.one_in(4),
         destination_reject_on: random.one_in(4),
+    }
+}
+
+/// Settings of a node that hears these bytes: its own address is often one of
+/// the PDU at their start, mostly the source.
+pub fn settings_for(random: &mut Random, received: &[u8]) -> Settings {
+    let settings = settings(random);
+    let met = match read(received) {
+        Ok(header) => address_of(random, &header),
+        Err(_) => None,
+    };
+    Settings {
+        own_address: met.unwrap_or(settings.own_address),
+        ..settings
+    }
+}
+
+/// An address of a PDU: source, destination, or one of the path's, if it has
+/// such a one; now and then none.
+fn address_of(random: &mut Random, header: &Header) -> Option<u16> {
+    let path = header.path.as_deref().unwrap_or(&[]);
+    match random.below(8) {
+        0..=1 => Some(header.source),
+        2 => header.destination,
+        3 => path.first().copied(),
+        4 if !path.is_empty() => Some(random.pick(path)),
+        5 => path.last().copied(),
+        _ => None,
     }
 }
 
@@ -59,4 +87,61 @@ pub fn payload_to_send(random: &mut Random) -> Vec<u8> {
         _ => random.between(4_090, 5_000),
     };
     random.bytes(length)
+}
+
+#[cfg(test)]
+mod tests {
+    use super::*;
+    use crate::lists::good_four_lists;
+    use crate::received::received;
+    use reference::hear;
+
+    /// Reports of the node itself, with its settings and what was received.
+    fn own_reports(random: &mut Random) -> Vec<(Settings, Header, Vec<u8>)> {
+        let mut reports = vec![];
+        for _ in 0..20_000 {
+            let bytes = received(random);
+            let settings = settings_for(random, &bytes);
+            let Ok(header) = read(&bytes) else {
+                continue;
+            };
+            if header.source == settings.own_address {
+                reports.push((settings, header, bytes));
+            }
+        }
+        reports
+    }
+
+    #[test]
+    fn own_reports_of_every_kind_arise() {
+        let mut counts = [[[0; 8]; 3]; 2];
+        for (settings, header, _) in own_reports(&mut Random::from_seed(1)) {
+            let path = match &header.path {
+                None => 0,
+                Some(path) if !path.contains(&header.source) => 1,
+                Some(_) => 2,
+            };
+            let hop_limit = usize::from(header.hop_limit);
+            counts[usize::from(settings.echo)][path][hop_limit] += 1;
+        }
+        let least = counts.iter().flatten().flatten().min();
+        assert!(least.is_some_and(|least| *least > 5), "{counts:?}");
+    }
+
+    #[test]
+    fn lists_would_drop_own_reports() {
+        let mut random = Random::from_seed(1);
+        let mut counts = [0; 256];
+        for (settings, _, bytes) in own_reports(&mut random) {
+            let lists = good_four_lists(&mut random);
+            let [off, on] = [false, true].map(|echo| {
+                let settings = Settings { echo, ..settings };
+                hear(&settings, &lists.lists(), &bytes, &mut []).delivery
+            });
+            counts[usize::from(off)] += usize::from(on == 42);
+        }
+        for number in [31, 32, 33, 34] {
+            assert!(counts[number] > 50, "{number}: {counts:?}");
+        }
+    }
 }

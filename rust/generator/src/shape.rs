@@ -94,6 +94,7 @@ pub fn shape(random: &mut Random) -> Shape {
     let reliable = random.one_in(3);
     let with_destination = reliable || random.flag();
     let payload_length = payload_length(random);
+    let source = address(random);
     Shape {
         reliable,
         time_stamp_request: random.flag(),
@@ -103,10 +104,10 @@ pub fn shape(random: &mut Random) -> Shape {
         ack: random.flag(),
         added_header: random.one_in(4),
         hop_limit: random.below(8) as u8,
-        source: address(random),
+        source,
         destination: with_destination.then(|| address(random)),
         pdu_id: random.byte(),
-        path: random.flag().then(|| path(random)),
+        path: random.flag().then(|| path(random, source)),
         payload: random.bytes(payload_length),
     }
 }
@@ -122,16 +123,21 @@ pub fn address(random: &mut Random) -> u16 {
     }
 }
 
-/// A path; long ones are mostly of any addresses, lest all be echoes.
-fn path(random: &mut Random) -> Vec<u16> {
+/// A path, at times with the source in it; long ones are mostly of any
+/// addresses, lest all be echoes.
+fn path(random: &mut Random, source: u16) -> Vec<u16> {
     let count = path_count(random);
     let often = count < 4 || random.one_in(4);
-    (0..count)
+    let mut path: Vec<u16> = (0..count)
         .map(|_| match often {
             true => address(random),
             false => random.word(),
         })
-        .collect()
+        .collect();
+    if count > 0 && random.one_in(8) {
+        path[random.below(count)] = source;
+    }
+    path
 }
 
 /// 0 to 255, biased to small and to the most.

@@ -201,7 +201,8 @@ pub fn step(node: &Node, lists: &Lists, batch: &[u8], cursor: Cursor, output: &m
 }
 
 /// The most transmissions that one fresh PDU with a path and this hop limit
-/// can cause among so many repeating nodes. None: 64 bits do not hold it.
+/// can cause among so many repeating nodes, all with echo on; the node at its
+/// source address is not one of them. None: 64 bits do not hold it.
 pub fn most_transmissions(nodes: u64, hop_limit: u64) -> Result<Option<u64>, Refusal> {
     bound(raw::most_transmissions(nodes, hop_limit))
 }

@@ -64,6 +64,7 @@ refusals! {
     ForAnother = 39, "not delivered: it is for another node";
     RepeatOutputTooShort = 40, "the output has no room for the repeated PDU";
     ForThisNode = 41, "not repeated: it is for this node";
+    OwnReport = 42, "echo: this node is the source";
     BatchTooLong = 54, "the batch has more than 16,384 bytes";
     TableFull = 55, "a new station, and the table holds as many as it has room for";
     NotHeld = 56, "no such station is held";

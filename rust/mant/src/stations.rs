@@ -23,7 +23,7 @@ pub struct Station {
 pub struct Heard {
     /// Source address.
     pub source: u16,
-    /// The node dropped it by echo.
+    /// The node dropped it by echo: it answered 30 or 42.
     pub echo: bool,
     /// How many addresses its path has, if there is a path.
     pub path_count: Option<u8>,

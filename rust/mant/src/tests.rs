@@ -84,6 +84,30 @@ fn the_example_at_node_2000() {
 }
 
 #[test]
+fn a_node_drops_its_own_report() {
+    let mut stations = Stations::new();
+    let mut output = [0xAA; 30];
+    let (lists, originator) = (Lists::default(), node(1000));
+    let own = Some(Refusal::OwnReport);
+    for report in [example(), repeated(), vec![0, 0, 0x70, 0, 0x03, 0xE8]] {
+        let answer = stations
+            .hear(&originator, &lists, &report, &mut output)
+            .answer;
+        assert_eq!((answer.delivery.err(), answer.repeat.err()), (own, own));
+        assert_eq!((answer.taken, output), (report.len(), [0xAA; 30]));
+    }
+    let station = stations.get(1000).unwrap();
+    assert_eq!((station.reads, station.echoes), (3, 3));
+    let off = Node {
+        echo: false,
+        ..originator
+    };
+    let answer = hear(&off, &lists, &example(), &mut output);
+    assert_eq!(answer.delivery, Err(Refusal::ForAnother));
+    assert_eq!(answer.repeat, Ok(22));
+}
+
+#[test]
 fn the_example_at_its_destination() {
     let answer = hear(&node(1600), &Lists::default(), &example(), &mut []);
     assert_eq!(answer.delivery, Ok(9..20));

@@ -1,5 +1,7 @@
 //! 01, "Checked by hand", last line: how often one fresh PDU with a path can
-//! go out among N nodes with echo on, and how many bytes that is.
+//! go out among N nodes with echo on, and how many bytes that is. The node at
+//! its source address hears too, and is not one of the N (02, W-203): it drops
+//! what it hears, so no path has its address.
 //!
 //! Each transmission is told apart by its path. With echo on a path never
 //! holds an address twice, and each repeat adds one address, so a path of k

@@ -27,5 +27,5 @@ pub use lists::{holds, list_fault, Lists, MOST_RANGES, MOST_VALUES};
 pub use node::{hear, Answer, Settings};
 pub use numbers::{described, meaning};
 pub use origin::{originate, Origination};
-pub use stations::{hear_and_count, Station, Stations, MOST_STATIONS};
+pub use stations::{counts_as_echo, hear_and_count, Station, Stations, MOST_STATIONS};
 pub use writing::{write, write_again};

@@ -1,10 +1,10 @@
-//! 01, "One PDU at one node"; numbers 30 to 41.
+//! 01, "One PDU at one node"; numbers 30 to 41. 02, W-203; number 42.
 
 use crate::header::{read, Header, MOST_PATH};
 use crate::lists::{holds, list_fault, Lists};
 use crate::numbers::{
     ADDED_HEADER, DESTINATION_PASS, DESTINATION_REJECT, DONE, ECHO, FOR_ANOTHER, HOP_LIMIT_0,
-    IS_DESTINATION, PATH_FULL, REPEATING_OFF, REPEAT_SHORT, SOURCE_PASS, SOURCE_REJECT,
+    IS_DESTINATION, OWN_SOURCE, PATH_FULL, REPEATING_OFF, REPEAT_SHORT, SOURCE_PASS, SOURCE_REJECT,
 };
 use crate::writing::write;
 
@@ -72,6 +72,9 @@ pub fn hear(settings: &Settings, lists: &Lists, received: &[u8], out: &mut [u8])
     if is_echo(settings, &header) {
         return Answer::twice(ECHO, taken);
     }
+    if is_own(settings, &header) {
+        return Answer::twice(OWN_SOURCE, taken);
+    }
     let refusal = refused_by_lists(settings, lists, &header);
     if refusal != DONE {
         return Answer::twice(refusal, taken);
@@ -83,6 +86,11 @@ pub fn hear(settings: &Settings, lists: &Lists, received: &[u8], out: &mut [u8])
 fn is_echo(settings: &Settings, header: &Header) -> bool {
     let in_path = |path: &Vec<u16>| path.contains(&settings.own_address);
     settings.echo && header.path.as_ref().is_some_and(in_path)
+}
+
+/// 02, W-203: echo on and the own address the source, with a path or without.
+fn is_own(settings: &Settings, header: &Header) -> bool {
+    settings.echo && header.source == settings.own_address
 }
 
 /// Step 4: the PDU's source, never the node's own address, in the source

@@ -40,6 +40,7 @@ numbers! {
     FOR_ANOTHER = 39, "not delivered: it is for another node";
     REPEAT_SHORT = 40, "the output has no room for the repeated PDU";
     IS_DESTINATION = 41, "not repeated: it is for this node";
+    OWN_SOURCE = 42, "echo: this node is the source";
     JOB_SHORT = 50, "the job ends too early";
     JOB_FLAGS = 51, "bit 6 or 7 of the job's flags is set";
     JOB_LIST_COUNT = 52, "a list of the job has more than 64 ranges";

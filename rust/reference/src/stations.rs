@@ -3,7 +3,7 @@
 use crate::header::{read, Header};
 use crate::lists::{list_fault, Lists};
 use crate::node::{hear, Answer, Settings};
-use crate::numbers::{DONE, ECHO, NOT_HELD, TABLE_FULL};
+use crate::numbers::{DONE, ECHO, NOT_HELD, OWN_SOURCE, TABLE_FULL};
 use std::collections::BTreeMap;
 
 /// So many stations a table holds.
@@ -119,6 +119,12 @@ fn shown(address: u16, entry: &Entry) -> Station {
     }
 }
 
+/// Does a PDU that was answered so count as dropped by echo? 42 does too (02,
+/// W-203).
+pub fn counts_as_echo(delivery: u8) -> bool {
+    [ECHO, OWN_SOURCE].contains(&delivery)
+}
+
 /// One PDU at one node, and then in its table. It counts if it was read; a
 /// list's fault comes before reading, a list's refusal after it. Gives the
 /// node's answer and the table's number.
@@ -134,7 +140,7 @@ pub fn hear_and_count(
         return (answer, DONE);
     }
     let number = match read(received) {
-        Ok(header) => stations.read(&header, answer.delivery == ECHO),
+        Ok(header) => stations.read(&header, counts_as_echo(answer.delivery)),
         Err(_) => DONE,
     };
     (answer, number)
