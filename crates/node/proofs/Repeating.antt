@@ -11,7 +11,7 @@ use borrow.Author.Tests.{eqb-true, eqb-false}
 use Rattle.octets.specs.Numbers.{flag}
 use Rattle.octets.specs.Octets.{at, AllBytes, wordBytes, over, placed, placeAfter}
 use Rattle.octets.proofs.Numbering.{orElse-zero, gives-zero}
-use Rattle.octets.proofs.Placing.{Begins, more, over-set, take-over, placed-start}
+use Rattle.octets.proofs.Placing.{Begins, more, over-set, placed-start}
 use Rattle.pdu.specs.declared.Header.{Header}
 use Rattle.pdu.specs.declared.Reading.the-variants.{Pdu}
 use Rattle.pdu.specs.Header.{isSet, hopLimit, pathBit, pathCountPlace, pathCountIn, headerOf}
@@ -173,11 +173,11 @@ module _ (received output : List ℕ) (own : ℕ) (h : Header) (is : h ≡ heade
         let g = more (payloadIn h received) o1 o3 _ begun (omega (arith, long-payload)) refl e3 in
         g .is ∙ ap (λ (r : List ℕ). over r output) (is-repeated false bit)
 
-    pub fill-is : (o1 o2 o3 payload : List ℕ) (p1 p2 : ℕ) → p1 ≡ headerLength h → o1 ≡ over (loweredHeader received) output
+    pub put-is : (o1 o2 o3 payload : List ℕ) (p1 p2 : ℕ) → p1 ≡ headerLength h → o1 ≡ over (loweredHeader received) output
         → (p2 ≡ cond (h .«path_bit») (placeAfter (set o1 (pathStart h - 1) (h .«path_count» + 1)) p1 (wordBytes own)) p1)
         × (o2 ≡ cond (h .«path_bit») (placed (set o1 (pathStart h - 1) (h .«path_count» + 1)) p1 (wordBytes own)) o1)
         → payload ≡ payloadIn h received → o3 ≡ placed o2 p2 payload → o3 ≡ over (repeated own received) output
-    fill-is o1 o2 o3 payload p1 p2 ep e1 e2 el e3 = go (h .«path_bit») refl (e2 .0) (e2 .1)
+    put-is o1 o2 o3 payload p1 p2 ep e1 e2 el e3 = go (h .«path_bit») refl (e2 .0) (e2 .1)
       where
         go : (t : Bool) → h .«path_bit» ≡ t → p2 ≡ cond t (placeAfter (set o1 (pathStart h - 1) (h .«path_count» + 1)) p1 (wordBytes own)) p1
             → o2 ≡ cond t (placed (set o1 (pathStart h - 1) (h .«path_count» + 1)) p1 (wordBytes own)) o1 → o3 ≡ over (repeated own received) output
@@ -215,12 +215,3 @@ module _ {received : List ℕ} {header : Header} (r : Ready received header) whe
             start-small header,
             ap (λ (t : Bool). cond t (header .«path_count») 0) bit,
           )
-
--- the repeat copied from the scratch array to the output
-pub copied-out : (received output scratch empty out part : List ℕ) (own n : ℕ) (header : Header) → Shown received header
-    → repeatedLength header ≤ length output
-    → n ≡ repeatedLength header → scratch ≡ over (repeated own received) empty → part ≡ take n scratch → out ≡ placed output 0 part
-    → out ≡ over (repeated own received) output
-copied-out received output scratch empty out part own n header s room en es ep eo =
-    let long = length-repeated received output own header (s .is) (s .ends) in
-    eo ∙ rw (ep, es, take-over (repeated own received) empty n (long ∙ sym en)) (placed-start (repeated own received) output (omega (arith, long)))

@@ -1,4 +1,4 @@
-// The repeated PDU, put together in a scratch array and copied to the output.
+// The repeated PDU, each part written straight to its place in the output.
 use decision::Settings;
 use pdu::Header;
 ghost use mathlib.Core.Path.{_≡_};
@@ -19,10 +19,9 @@ pub(crate) fn put_repeat(settings: Settings, received: &[u8], header: Header, ou
     requires { ⌜ (readOf (now received) ≡ Pdu header) × (repeatFault settings header ≡ 0) × (repeatedLength header ≤ length (now output)) ⌝ }
     ensures { λ _. ⌜ now (output .exit) ≡ over (repeated (settings .own) (now (received .entry))) (now (output .entry)) ⌝ }
 {
-    let mut scratch = [0u8; Header::PDU_LIMIT];
-    fill(&mut scratch, settings, received, header);
-    let size = repeated_length(header);
-    octets::put(output, 0, &scratch[..size]);
+    let own_place = put_lowered(output, received, header);
+    let payload_place = put_own(output, own_place, settings.own, header);
+    octets::put(output, payload_place, pdu::parts::payload(received, header));
 }
 
 pub(crate) fn repeated_length(header: Header) -> usize
@@ -30,15 +29,6 @@ pub(crate) fn repeated_length(header: Header) -> usize
 {
     let size = header.pdu_length();
     if header.path_bit { size + 2 } else { size }
-}
-
-fn fill(output: &mut [u8], settings: Settings, received: &[u8], header: Header)
-    requires { ⌜ (readOf (now received) ≡ Pdu header) × (repeatFault settings header ≡ 0) × (repeatedLength header ≤ length (now output)) ⌝ }
-    ensures { λ _. ⌜ now (output .exit) ≡ over (repeated (settings .own) (now (received .entry))) (now (output .entry)) ⌝ }
-{
-    let own_place = put_lowered(output, received, header);
-    let payload_place = put_own(output, own_place, settings.own, header);
-    octets::put(output, payload_place, pdu::parts::payload(received, header));
 }
 
 // The received header with its hop limit lowered.

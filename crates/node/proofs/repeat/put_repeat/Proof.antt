@@ -1,42 +1,28 @@
-use mathlib.Core.Path.{refl, sym}
 use denote.Ref.{now}
-use lib.Seq.{length-take-le}
 use Rattle.pdu.proofs.Inversion.{shown}
-use Rattle.node.proofs.Repeating.{ready, ready-small, copied-out}
+use Rattle.node.proofs.Repeating.{ready, ready-count, put-is}
 use native.Mathlib.Omega.{arith}
 use borrow.Author.Needs.{needs}
 use Rattle.node.proofs.repeat.put_repeat.Statement.{statement}
 use Rattle.node.proofs.repeat.put_repeat.Tie as tie
 
-slice-aggregate-fill : tie.Need-slice-aggregate-fill
-slice-aggregate-fill c = search needs
+put-lowered-requires : tie.Need-put-lowered-requires
+put-lowered-requires c κs =
+    let p = c .before .before .before .pre in
+    let r = ready _ _ _ (p .0) (p .1) in
+    (p .0, r .hop, omega (arith, p .2))
 
-fill-requires : tie.Need-fill-requires
-fill-requires c κs =
-    let bytes = c .before .before in
+put-own-requires : tie.Need-put-own-requires
+put-own-requires c κs =
+    λ bit.
+    let lowered = c .before .before .before in
+    let bytes = lowered .before .before .before in
     let p = bytes .before .pre in
-    (p .0, p .1, ready-small (ready _ _ _ (p .0) (p .1)) (λ i. bytes .shared-slice-known .given i .fits))
+    let r = ready _ _ _ (p .0) (p .1) in
+    (ready-count r (λ i. bytes .shared-slice-known .given i .fits) bit, omega (arith, p .2, lowered .put-lowered .kept .0))
 
-repeated-length-requires : tie.Need-repeated-length-requires
-repeated-length-requires c κs = search needs
-
-array-share-prefix-scratch : tie.Need-array-share-prefix-scratch
-array-share-prefix-scratch c =
-    let long = c .before in
-    let filled = long .before .before in
-    let bytes = filled .before .before .before in
-    let p = bytes .before .pre in
-    let small = ready-small (ready _ _ _ (p .0) (p .1)) (λ i. bytes .shared-slice-known .given i .fits) in
-    omega (arith, filled .fill .kept .0, long .repeated-length .ensures, small)
-
-slice-aggregate-put : tie.Need-slice-aggregate-put
-slice-aggregate-put c =
-    let long = c .before .before in
-    let filled = long .before .before in
-    let bytes = filled .before .before .before in
-    let p = bytes .before .pre in
-    let small = ready-small (ready _ _ _ (p .0) (p .1)) (λ i. bytes .shared-slice-known .given i .fits) in
-    sym (length-take-le _ _ (omega (arith, filled .fill .kept .0, long .repeated-length .ensures, small)))
+payload-requires : tie.Need-payload-requires
+payload-requires c κs = search needs
 
 put-requires : tie.Need-put-requires
 put-requires c κs = search needs
@@ -47,24 +33,23 @@ same-length c = search needs
 returns : tie.Need-returns
 returns c =
     let put = c .before .before in
-    let long = put .before .before .before in
-    let filled = long .before .before in
-    let start = filled .before .before .before .before in
+    let payload = put .before in
+    let own = payload .before .before .before .before in
+    let lowered = own .before .before .before .before in
+    let start = lowered .before .before .before .before in
     let a = start .args in
-    let p = start .pre in
-    copied-out (now (a .received)) (now (a .output)) _ _ _ _ (a .settings .own) _ (a .header) (shown _ _ (p .0)) (p .2)
-    (long .repeated-length .ensures)
-    (filled .fill .ensures) refl (put .put .ensures .1)
+    let s = shown (now (a .received)) (a .header) (start .pre .0) in
+    put-is (now (a .received)) (now (a .output)) (a .settings .own) (a .header) (s .is) (s .ends) (start .pre .2) _ _ _ _ _ _
+    (lowered .put-lowered .ensures .0) (lowered .put-lowered .ensures .1) (own .put-own .ensures) (payload .payload .ensures .bytes)
+    (put .put .ensures .1)
 
 pub put-repeat-spec : {M : Type 1} → statement M
 put-repeat-spec =
     tie.close
     (tie.spec
-    slice-aggregate-fill
-    fill-requires
-    repeated-length-requires
-    array-share-prefix-scratch
-    slice-aggregate-put
+    put-lowered-requires
+    put-own-requires
+    payload-requires
     put-requires
     same-length
     returns)
