@@ -1,0 +1,144 @@
+/* How deep each call goes on the stack. Before a call the stack below it is painted, after it the lowest byte that has lost its paint is looked for; what
+   lies between that and the caller's stack pointer is the call's, its return address and what the C library's functions take included. From the
+   repository's root, after rt staticlib mant:
+
+       gcc -std=c11 -Wall -Wextra -pedantic tests/stack.c -Iinclude target/staticlib/libmant.a -o /tmp/stack && /tmp/stack
+
+   prints the bytes of each function, the most of the calls tried, and fails where they are more than 512 for mant_hear, 640 for another. */
+#include <stdio.h>
+#include <string.h>
+
+#include "mant.h"
+
+#define HEAR_LIMIT 512
+#define LIMIT 640
+#define PAINTED 16384
+#define STACK_POINTER "mov %%rsp, %0"
+#define NO_LISTS NULL, 0, NULL, 0, NULL, 0, NULL, 0
+#define LISTS list, 128, list, 128, list, 128, list, 128
+#define LENT pdu, sizeof pdu, output, sizeof output
+
+static const MantNode node = {.own = 2000, .echo = true, .repeating = true};
+static const MantNode listing = {.own = 2000, .echo = true, .repeating = true, .source_pass = true, .destination_pass = true};
+static const MantFresh fresh = {.source = 1000, .has_destination = true, .destination = 1600, .hop_limit = 1, .with_path = true, .reliable = true};
+static const uint8_t deep[12] = {20, 8, 10, 6, 11, 4, 20, 2, 0, 9, 0, 9};
+static const MantHeard heard = {.source = 1000, .path_bit = true};
+static const MantCursor start = {0, false};
+static uint16_t list[MANT_LIST_LIMIT], table[MANT_STATION_WORDS];
+static uint8_t pdu[MANT_PDU_LIMIT], output[MANT_PDU_LIMIT + 2], exchange[MANT_EXCHANGE_LIMIT];
+static MantAnswer answer;
+static volatile uintptr_t top;
+static bool meant = true;
+
+/* A call that keeps the stack pointer from which it is made, and whether the answer is the one meant, so that the long way was gone. */
+#define CALL(name, fact)                               \
+    static void name(void)                             \
+    {                                                  \
+        __asm__ volatile(STACK_POINTER : "=m"(top));   \
+        meant = (fact) && meant;                       \
+    }
+
+CALL(read_call, mant_read(pdu, sizeof pdu).path_count == 254)
+CALL(path_address_call, mant_path_address(pdu, sizeof pdu, 253) == 1799)
+CALL(path_has_call, !mant_path_has(pdu, sizeof pdu, 1))
+CALL(write_again_call, mant_write_again(LENT).length == 4613)
+CALL(originate_call, mant_originate(fresh, pdu, MANT_PAYLOAD_LIMIT, output, sizeof output).length == 4105)
+CALL(list_fault_call, mant_list_fault(LISTS) == 0)
+CALL(list_holds_call, !mant_list_holds(list, MANT_LIST_LIMIT, 1))
+CALL(hear_cut_call, mant_hear(node, NO_LISTS, pdu, 20, output, sizeof output).repeat == MANT_HEADER_CUT)
+CALL(hear_call, mant_hear(node, NO_LISTS, LENT).repeated_length == MANT_PDU_LIMIT)
+CALL(hear_listed_call, (answer = mant_hear(listing, LISTS, LENT)).repeated_length == MANT_PDU_LIMIT)
+CALL(step_call, mant_step(node, NO_LISTS, pdu, sizeof pdu, start, output, sizeof output).answer.repeat == 0)
+CALL(step_listed_call, mant_step(listing, LISTS, pdu, sizeof pdu, start, output, sizeof output).answer.repeat == 0)
+CALL(most_transmissions_call, mant_most_transmissions(8, 7).value == 109601)
+CALL(most_bytes_call, mant_most_bytes(3, 1, 10).value == 46)
+CALL(limits_call, mant_limits().pdu == MANT_PDU_LIMIT)
+CALL(capacity_call, mant_stations_capacity(table, MANT_STATION_WORDS) == MANT_STATION_LIMIT)
+CALL(held_call, mant_stations_held(table, MANT_STATION_WORDS) == 0)
+CALL(count_heard_call, mant_count_heard(table, MANT_STATION_WORDS, heard) == 0)
+CALL(count_answer_call, mant_count_answer(table, MANT_STATION_WORDS, pdu, sizeof pdu, answer) == 0)
+CALL(hear_and_count_call, mant_hear_and_count(node, NO_LISTS, LENT, table, MANT_STATION_WORDS).answer.repeat == 0)
+CALL(hear_and_count_listed_call, mant_hear_and_count(listing, LISTS, LENT, table, MANT_STATION_WORDS).answer.repeat == 0)
+CALL(station_at_call, mant_station_at(table, MANT_STATION_WORDS, 0).station.reads == 4)
+CALL(station_of_call, mant_station_of(table, MANT_STATION_WORDS, 1000).station.reads == 4)
+CALL(remove_station_call, mant_remove_station(table, MANT_STATION_WORDS, 1000) == 0)
+CALL(write_exchange_call, mant_write_exchange(pdu, sizeof pdu, exchange, sizeof exchange).length == MANT_EXCHANGE_LIMIT - 2)
+CALL(read_exchange_call, mant_read_exchange(exchange, MANT_EXCHANGE_LIMIT - 2).payload_length == MANT_PAYLOAD_LIMIT)
+CALL(read_deep_exchange_call, mant_read_exchange(deep, sizeof deep).number == MANT_ELEMENT_TOO_DEEP)
+
+/* Each function, and calls of it: the longest way, and others that may be deeper. */
+static const struct {
+    const char *name;
+    void (*calls[3])(void);
+} functions[] = {
+    {"mant_read", {read_call}},
+    {"mant_path_address", {path_address_call}},
+    {"mant_path_has", {path_has_call}},
+    {"mant_write_again", {write_again_call}},
+    {"mant_originate", {originate_call}},
+    {"mant_list_fault", {list_fault_call}},
+    {"mant_list_holds", {list_holds_call}},
+    {"mant_hear", {hear_cut_call, hear_call, hear_listed_call}},
+    {"mant_step", {step_call, step_listed_call}},
+    {"mant_stations_capacity", {capacity_call}},
+    {"mant_stations_held", {held_call}},
+    {"mant_count_heard", {count_heard_call}},
+    {"mant_count_answer", {count_answer_call}},
+    {"mant_hear_and_count", {hear_and_count_call, hear_and_count_listed_call}},
+    {"mant_station_at", {station_at_call}},
+    {"mant_station_of", {station_of_call}},
+    {"mant_remove_station", {remove_station_call}},
+    {"mant_write_exchange", {write_exchange_call}},
+    {"mant_read_exchange", {read_exchange_call, read_deep_exchange_call}},
+    {"mant_most_transmissions", {most_transmissions_call}},
+    {"mant_most_bytes", {most_bytes_call}},
+    {"mant_limits", {limits_call}},
+};
+
+/* The bytes that a call takes below the stack pointer from which it is made, in whole words. */
+static size_t depth_of(void (*call)(void))
+{
+    volatile uint8_t *own;
+    __asm__ volatile(STACK_POINTER : "=m"(own));
+    for (size_t i = 1; i <= PAINTED; i++) {
+        own[-(ptrdiff_t)i] = 0xA5;
+    }
+    call();
+    volatile uint8_t *low = own - PAINTED;
+    while (*low == 0xA5) {
+        low++;
+    }
+    return (size_t)(top - (uintptr_t)low + 7) / 8 * 8;
+}
+
+/* A PDU of every part: reliable, for another node, a path of 254 addresses, the longest payload. It is delivered to none and repeated. */
+static void fill(void)
+{
+    const uint8_t header[10] = {0x0B, 0, 0x1F, 0xFF, 0x03, 0xE8, 0x06, 0x40, 0, 254};
+    memset(pdu, 7, sizeof pdu);
+    memcpy(pdu, header, sizeof header);
+    for (size_t i = 0; i < MANT_LIST_LIMIT; i++) {
+        list[i] = i % 2 == 0 ? 1000 : 1600;
+    }
+}
+
+int main(void)
+{
+    int status = 0;
+    fill();
+    for (size_t i = 0; i < sizeof functions / sizeof functions[0]; i++) {
+        size_t most = 0;
+        for (size_t k = 0; k < 3 && functions[i].calls[k] != NULL; k++) {
+            size_t depth = depth_of(functions[i].calls[k]);
+            most = depth > most ? depth : most;
+        }
+        bool too_many = most > (strcmp(functions[i].name, "mant_hear") == 0 ? HEAR_LIMIT : LIMIT);
+        status = too_many ? 1 : status;
+        printf("%s %zu%s\n", functions[i].name, most, too_many ? ", too many" : "");
+    }
+    if (!meant) {
+        printf("a call did not go the long way\n");
+        status = 1;
+    }
+    return status;
+}
