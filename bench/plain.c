@@ -15,6 +15,8 @@ typedef struct {
     uint8_t hop_limit;
     uint16_t payload_length, source, destination;
     uint8_t pdu_id, path_count;
+    bool has_last_sender;
+    uint16_t last_sender;
     size_t header_length, pdu_length;
 } Header;
 
@@ -44,6 +46,8 @@ typedef struct {
 
 typedef struct {
     uint8_t delivery, repeat;
+    bool has_last_sender;
+    uint16_t last_sender;
     size_t delivered_place, delivered_length, repeated_length, taken;
 } Answer;
 
@@ -153,6 +157,10 @@ Header plain_read(const uint8_t *bytes, size_t length)
         header.number = 6;
         return header;
     }
+    if (header.path_bit) {
+        header.has_last_sender = true;
+        header.last_sender = header.path_count == 0 ? header.source : word(bytes + at - 2);
+    }
     header.header_length = at;
     header.pdu_length = at + header.payload_length;
     return header;
@@ -229,9 +237,9 @@ static bool list_holds(List list, uint16_t address)
     return false;
 }
 
-static Answer twice(uint8_t number, size_t taken)
+static Answer twice(uint8_t number, Header header)
 {
-    return (Answer){number, number, 0, 0, 0, taken};
+    return (Answer){number, number, header.has_last_sender, header.last_sender, 0, 0, 0, header.pdu_length};
 }
 
 Answer plain_hear(Node node, const List lists[4], const uint8_t *received, size_t length, uint8_t *output, size_t output_length)
@@ -239,39 +247,39 @@ Answer plain_hear(Node node, const List lists[4], const uint8_t *received, size_
     for (int i = 0; i < 4; i++) {
         uint8_t fault = list_fault(lists[i]);
         if (fault != 0) {
-            return twice(fault, 0);
+            return twice(fault, (Header){0});
         }
     }
     Header header = plain_read(received, length);
     if (header.number != 0) {
-        return twice(header.number, 0);
+        return twice(header.number, header);
     }
     size_t path_end = header.header_length;
     if (node.echo) {
         for (size_t at = path_end - 2 * (size_t)header.path_count; at < path_end; at += 2) {
             if (word(received + at) == node.own) {
-                return twice(30, header.pdu_length);
+                return twice(30, header);
             }
         }
         if (header.source == node.own) {
-            return twice(42, header.pdu_length);
+            return twice(42, header);
         }
     }
     if (node.source_pass && !list_holds(lists[0], header.source)) {
-        return twice(31, header.pdu_length);
+        return twice(31, header);
     }
     if (node.source_reject && list_holds(lists[1], header.source)) {
-        return twice(32, header.pdu_length);
+        return twice(32, header);
     }
     if (header.has_destination) {
         if (node.destination_pass && !list_holds(lists[2], header.destination)) {
-            return twice(33, header.pdu_length);
+            return twice(33, header);
         }
         if (node.destination_reject && list_holds(lists[3], header.destination)) {
-            return twice(34, header.pdu_length);
+            return twice(34, header);
         }
     }
-    Answer answer = {0, 0, 0, 0, 0, header.pdu_length};
+    Answer answer = twice(0, header);
     if (header.has_destination && header.destination != node.own) {
         answer.delivery = 39;
     } else if (header.added_header) {
@@ -291,7 +299,7 @@ Answer plain_hear(Node node, const List lists[4], const uint8_t *received, size_
     } else {
         size_t added = header.path_bit ? 2 : 0;
         if (output_length < header.pdu_length + added) {
-            return twice(40, header.pdu_length);
+            return twice(40, header);
         }
         memcpy(output, received, header.header_length);
         if (header.hop_limit < 7) {

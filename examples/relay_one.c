@@ -22,6 +22,16 @@ static void print_number(const char *name, uint8_t number)
     printf("%s: %u, %s\n", name, number, mant_meaning(number));
 }
 
+/* Without the path bit it would be unknown; address 0 is an address like any other. */
+static void print_sender(const char *name, bool known, uint16_t address)
+{
+    if (known) {
+        printf("%s from %u\n", name, address);
+    } else {
+        printf("%s from an unknown sender\n", name);
+    }
+}
+
 int main(void)
 {
     const uint8_t payload[] = {0x70, 0x01, 0x08, 0x12, 0x12, 0x03, 0x24, 0x13, 0x22, 0x02, 0x76};
@@ -42,11 +52,13 @@ int main(void)
     MantAnswer answer = mant_hear(node, NULL, 0, NULL, 0, NULL, 0, NULL, 0, fresh, written.length, repeated, sizeof repeated);
     print_number("delivery at node 2000", answer.delivery);
     print_number("repeat at node 2000", answer.repeat);
+    print_sender("node 2000 heard it", answer.has_last_sender, answer.last_sender);
     print_hex("repeated", repeated, answer.repeated_length);
 
     MantHeader header = mant_read(repeated, answer.repeated_length);
     printf("its hop limit is %u, its path has %u address: %u\n", header.hop_limit, header.path_count,
            mant_path_address(repeated, answer.repeated_length, 0));
+    print_sender("the repeat is heard", header.has_last_sender, header.last_sender);
 
     /* The node hears its own repeat. */
     answer = mant_hear(node, NULL, 0, NULL, 0, NULL, 0, NULL, 0, repeated, answer.repeated_length, fresh, sizeof fresh);

@@ -178,6 +178,8 @@ typedef struct MantHeader {
     uint16_t destination;
     uint8_t pdu_id;
     uint8_t path_count;
+    bool has_last_sender;     /* false: the PDU has no path bit, so who sent it last is unknown */
+    uint16_t last_sender;     /* who it was heard from: the last path address, or the source if the path is empty; 0 where it is unknown */
     size_t header_length;     /* the payload begins here */
     size_t pdu_length;        /* header and payload; the next PDU of a batch begins here */
 } MantHeader;
@@ -225,6 +227,8 @@ typedef struct MantNode {
 typedef struct MantAnswer {
     uint8_t delivery;         /* 0: delivered; else why not */
     uint8_t repeat;           /* 0: repeated; else why not */
+    bool has_last_sender;     /* false: who sent it last is unknown: no path bit, a list at fault, or no PDU can be read */
+    uint16_t last_sender;     /* who the PDU was heard from: the last path address, or the source if the path is empty; 0 where it is unknown */
     size_t delivered_place;   /* where the payload lies in the received bytes; 0 where nothing is delivered */
     size_t delivered_length;  /* 0 where nothing is delivered, and for an empty payload */
     size_t repeated_length;   /* how many bytes were written to the output; 0 where nothing is repeated */
@@ -318,7 +322,8 @@ MANT_SIZE(MantBound, 16);
 MANT_SIZE(MantLimits, 56);
 #undef MANT_SIZE
 
-/* The header of the PDU at the start of the bytes, or the number, 1 to 6, of why there is none there. Bytes after the PDU are not looked at. */
+/* The header of the PDU at the start of the bytes and its last sender, or the number, 1 to 6, of why there is none there. Bytes after the PDU are not
+   looked at. */
 MantHeader mant_read(const uint8_t *bytes, size_t bytes_length);
 
 /* The address at a place of the path of the PDU at the start of the bytes, the first at 0. Answers 0 past the last one and where there is no PDU;
@@ -360,7 +365,8 @@ bool mant_list_holds(const uint16_t *list, size_t list_length, uint16_t address)
    checked even where they are off. With echo on, 30 is given where the path holds the own address, and 42 where the source is the own address, with
    the path bit or without (document 02, W-203); with echo off, neither. The delivered payload is the delivered_length bytes from received +
    delivered_place on. With length 0 there are none, and that place may be the end of the received bytes. The repeated PDU is written to the output
-   where the repeat number is 0; with any other the output is left alone. */
+   where the repeat number is 0; with any other the output is left alone. The last sender is told with every number but those of the lists and of
+   reading, so also where the PDU is dropped (document 02, W-205). */
 MantAnswer mant_hear(MantNode settings, const uint16_t *source_pass, size_t source_pass_length, const uint16_t *source_reject,
                      size_t source_reject_length, const uint16_t *destination_pass, size_t destination_pass_length,
                      const uint16_t *destination_reject, size_t destination_reject_length, const uint8_t *received, size_t received_length,

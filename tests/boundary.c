@@ -70,6 +70,7 @@ static void reading_and_writing(void)
     CHECK(h.number == 0 && h.protocol == 1 && h.time_stamp_request && h.path_bit && h.has_destination && h.port == 11);
     CHECK(h.encrypted && h.reserved == 3 && h.ack && h.added_header && h.hop_limit == 7 && h.payload_length == 1);
     CHECK(h.source == 258 && h.destination == 772 && h.pdu_id == 5 && h.path_count == 2 && h.header_length == 14 && h.pdu_length == 15);
+    CHECK(h.has_last_sender && h.last_sender == 2057);
     CHECK(mant_path_address(every, 15, 1) == 2057 && mant_path_address(every, 15, 2) == 0);
     CHECK(mant_path_has(every, 15, 1543) && !mant_path_has(every, 15, 2570));
     memset(output, 77, 16);
@@ -78,6 +79,46 @@ static void reading_and_writing(void)
     h = mant_read(every, 14);
     CHECK(h.number == MANT_PAYLOAD_CUT && h.protocol == 0 && !h.path_bit && !h.has_destination && h.port == 0);
     CHECK(h.source == 0 && h.destination == 0 && h.path_count == 0 && h.header_length == 0 && h.pdu_length == 0);
+    CHECK(!h.has_last_sender && h.last_sender == 0);
+}
+
+/* The last sender: a path's last address, the source of an empty path, unknown without one; address 0 is known where it is the one. */
+static void last_senders(void)
+{
+    const uint8_t fresh[7] = {0x02, 0, 0, 0, 0x03, 0xE8, 0};
+    const uint8_t from_zero[7] = {0x02, 0, 0, 0, 0, 0, 0};
+    const uint8_t by_zero[11] = {0x02, 0, 0, 0, 0x03, 0xE8, 2, 0x07, 0xD0, 0, 0};
+    const uint8_t without[6] = {0, 0, 0, 0, 0x03, 0xE8};
+    MantHeader h = mant_read(fresh, 7);
+    CHECK(h.has_last_sender && h.last_sender == 1000);
+    h = mant_read(from_zero, 7);
+    CHECK(h.has_last_sender && h.last_sender == 0);
+    h = mant_read(by_zero, 11);
+    CHECK(h.has_last_sender && h.last_sender == 0 && h.path_count == 2);
+    h = mant_read(without, 6);
+    CHECK(h.number == 0 && !h.has_last_sender && h.last_sender == 0);
+}
+
+static bool is_heard_from(MantAnswer a, uint8_t delivery, uint16_t address)
+{
+    return a.delivery == delivery && a.has_last_sender && a.last_sender == address;
+}
+
+/* A node's answer tells the last sender with every number but those of the lists and of reading. */
+static void answers_tell_senders(void)
+{
+    const uint16_t wrong[2] = {2, 1};
+    const MantNode passing = {.own = 2000, .repeating = true, .source_pass = true};
+    uint8_t repeated[22], output[30];
+    MantAnswer a = mant_hear(node, NO_LISTS, example, 20, repeated, sizeof repeated);
+    CHECK(is_heard_from(a, MANT_FOR_ANOTHER, 1000) && a.repeated_length == 22);
+    CHECK(is_heard_from(mant_hear(node, NO_LISTS, repeated, 22, output, sizeof output), MANT_ECHO, 2000));
+    CHECK(is_heard_from(mant_hear(passing, NO_LISTS, example, 20, output, sizeof output), MANT_SOURCE_NOT_PASSED, 1000));
+    CHECK(is_heard_from(mant_hear(node, NO_LISTS, example, 20, output, 21), MANT_REPEAT_OUTPUT_TOO_SHORT, 1000));
+    a = mant_hear(node, NO_LISTS, example, 19, output, sizeof output);
+    CHECK(a.delivery == MANT_PAYLOAD_CUT && !a.has_last_sender && a.last_sender == 0);
+    a = mant_hear(node, wrong, 2, NULL, 0, NULL, 0, NULL, 0, example, 20, output, sizeof output);
+    CHECK(a.delivery == MANT_LOW_ABOVE_HIGH && !a.has_last_sender && a.last_sender == 0);
 }
 
 /* The MANT PDU of document 003, appendix D: header and payload, a time stamp and its quality beside them. */
@@ -173,11 +214,13 @@ static void lists_and_walk(void)
     MantStep s = mant_step(node, NO_LISTS, batch, 26, (MantCursor){0, false}, output, sizeof output);
     CHECK(s.kind == MANT_ANSWERED && s.answer.delivery == 39 && s.answer.repeat == 0 && s.answer.repeated_length == 22);
     CHECK(s.answer.delivered_place == 0 && s.answer.delivered_length == 0 && s.answer.taken == 20 && s.next.place == 20 && !s.next.ended);
+    CHECK(s.answer.has_last_sender && s.answer.last_sender == 1000);
     s = mant_step(node, NO_LISTS, batch, 26, s.next, output, sizeof output);
     CHECK(s.answer.delivery == 0 && s.answer.repeat == 37 && s.answer.delivered_place == 6 && s.answer.delivered_length == 0 && s.next.place == 26);
+    CHECK(!s.answer.has_last_sender && s.answer.last_sender == 0);
     s = mant_step(node, NO_LISTS, batch, 26, s.next, output, sizeof output);
     CHECK(s.kind == MANT_ENDED && s.answer.delivery == MANT_NO_NUMBER && s.answer.repeat == 255 && s.answer.taken == 0);
-    CHECK(s.next.place == 26 && s.next.ended);
+    CHECK(!s.answer.has_last_sender && s.answer.last_sender == 0 && s.next.place == 26 && s.next.ended);
     s = mant_step(node, NO_LISTS, batch, sizeof batch, (MantCursor){3, false}, output, sizeof output);
     CHECK(s.kind == MANT_REFUSED && s.answer.delivery == MANT_BATCH_TOO_LONG && s.answer.repeat == 54 && s.answer.taken == 0 && s.next.place == 3);
 }
@@ -286,6 +329,8 @@ int main(void)
     null_slices();
     null_table();
     reading_and_writing();
+    last_senders();
+    answers_tell_senders();
     reading_exchanges();
     writing_exchanges();
     origination();

@@ -77,6 +77,8 @@ fn plain_hears_as_the_reference_does() {
         assert_eq!(delivered, wanted.delivered);
         let lengths = (answer.repeated_length, answer.taken);
         assert_eq!(lengths, (wanted.repeated_length, wanted.taken));
+        let sender = answer.has_last_sender.then_some(answer.last_sender);
+        assert_eq!(sender, wanted.last_sender);
         assert_eq!(one, other);
     }
 }

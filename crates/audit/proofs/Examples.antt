@@ -6,17 +6,17 @@ use Rattle.octets.specs.Numbers.{_gives_, _orElse_}
 use Rattle.writing.specs.Writing.{headerBytes, pathBytes, encode}
 use Rattle.origin.specs.Origination.{freshHeader, fresh, settingsFault, originationNumber, originated}
 use Rattle.octets.specs.Octets.{over}
-use Rattle.pdu.specs.Parts.{addressesAt, inPath}
+use Rattle.pdu.specs.Parts.{addressesAt, inPath, lastOr}
 use Rattle.lists.specs.Lists.{lowAboveHigh, faultOf, firstFault, holds}
 use Rattle.decision.specs.Decision.{echoFault, passFault, dropFault, deliveryFault, repeatFault}
 use Rattle.node.specs.Repeat.{repeated}
-use Rattle.node.specs.Answers.{listOrReadingFault, stopFault, deliveryNumber, repeatNumber, delivered, taken, answerOf, outputAfter}
+use Rattle.node.specs.Answers.{listOrReadingFault, stopFault, deliveryNumber, repeatNumber, delivered, taken, heardFrom, answerOf, outputAfter}
 use Rattle.audit.specs.Examples.{CheckedByHand}
 
 pub checked : CheckedByHand
 unfolding readOf headerOf originated settingsFault originationNumber freshHeader fresh encode headerBytes pathBytes _gives_ _orElse_ over
-    addressesAt inPath lowAboveHigh faultOf firstFault holds echoFault passFault dropFault deliveryFault repeatFault listOrReadingFault
-    stopFault deliveryNumber repeatNumber delivered taken repeated answerOf outputAfter
+    addressesAt inPath lastOr lowAboveHigh faultOf firstFault holds echoFault passFault dropFault deliveryFault repeatFault listOrReadingFault
+    stopFault deliveryNumber repeatNumber delivered taken heardFrom repeated answerOf outputAfter
 checked =
     record {
       p1 = (refl, refl);

@@ -25,3 +25,4 @@ pub mod StationsHeard
 pub mod SerialExchange
 pub mod OwnReport
 pub mod Examples
+pub mod LastSender

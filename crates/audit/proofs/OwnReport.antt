@@ -12,15 +12,16 @@ use Rattle.octets.proofs.Numbering.{gives-here, gives-later, gives-none}
 use Rattle.pdu.specs.Header.{headerOf}
 use Rattle.pdu.specs.Sizes.{pduLength}
 use Rattle.pdu.specs.Reading.{readOf}
-use Rattle.pdu.specs.Parts.{addressesAt, inPath}
+use Rattle.pdu.specs.Parts.{addressesAt, inPath, lastOr, lastSender}
 use Rattle.lists.specs.Lists.{lowAboveHigh, faultOf, firstFault, holds}
 use Rattle.writing.specs.Writing.{headerBytes, pathBytes, encode}
 use Rattle.origin.specs.Origination.{freshHeader, fresh}
 use Rattle.decision.specs.Decision.{Node, isEcho, isOwnReport, echoFault, passFault, dropFault, deliveryFault, repeatFault}
 use Rattle.decision.proofs.Dropping.{drops-30, drops-42}
 use Rattle.node.specs.Repeat.{repeated}
-use Rattle.node.specs.Answers.{listOrReadingFault, stopFault, deliveryNumber, repeatNumber, delivered, taken, answerOf, twice, Hears}
-use Rattle.node.proofs.Answering.{given-twice}
+use Rattle.node.specs.Answers.{listOrReadingFault, stopFault, deliveryNumber, repeatNumber, delivered, taken, heardFrom, answerOf, twice}
+use Rattle.node.specs.Answers.{Hears}
+use Rattle.node.proofs.Answering.{read-sender, given-twice}
 use Rattle.node.proofs.Chain.{holds-stop, holds-delivery, holds-repeat, unread-small}
 use Rattle.node.proofs.Heard.{dropped-stop, dropped-delivery}
 use Rattle.bound.specs.Bound.{product, series, terms, bound}
@@ -48,10 +49,11 @@ module _ (node : Node) (received : List ℕ) where
   -- a number that drops the PDU, answered twice
   module _ (output : List ℕ) (read : listOrReadingFault node received ≡ 0) where
     twice-given : (n : ℕ) → (n ≡ 0 → ⊥) → dropFault node (headerOf received) received ≡ n
-        → Hears node received output (twice n (pduLength (headerOf received))) output
+        → Hears node received output (twice n (pduLength (headerOf received)) (lastSender (headerOf received) received)) output
     unfolding taken
     twice-given n some drops =
-        given-twice node received output n _ some (dropped-stop node (length output) received read n some drops) (rw read)
+        given-twice node received output n _ _ some (dropped-stop node (length output) received read n some drops) (rw read)
+        (read-sender node received output read)
 
     own-drops : node .settings .echo ≡ true → headerOf received .source ≡ node .settings .own
         → isEcho (node .settings) (headerOf received) received ≡ false → dropFault node (headerOf received) received ≡ 42
@@ -150,7 +152,8 @@ never-three receptions once =
 
 pub own-report : OwnReport
 unfolding bound series product terms others flood answer sends repeated repeatNumber deliveryNumber stopFault listOrReadingFault firstFault faultOf
-    lowAboveHigh holds readOf headerOf dropFault echoFault passFault deliveryFault repeatFault taken answerOf addressesAt inPath _gives_ _orElse_
+    lowAboveHigh holds readOf headerOf dropFault echoFault passFault deliveryFault repeatFault taken heardFrom answerOf addressesAt inPath
+    lastOr _gives_ _orElse_
 own-report =
     record {
       dropped = λ node received output read on same new.

@@ -26,6 +26,8 @@ use Rattle.pdu.proofs.parts.path_address.Reads as parts-path-address-reads
 use Rattle.pdu.proofs.parts.path_address.Kinds as parts-path-address-kinds
 use Rattle.pdu.proofs.parts.path_has.Reads as parts-path-has-reads
 use Rattle.pdu.proofs.parts.path_has.Kinds as parts-path-has-kinds
+use Rattle.pdu.proofs.parts.last_sender.Reads as parts-last-sender-reads
+use Rattle.pdu.proofs.parts.last_sender.Kinds as parts-last-sender-kinds
 use Rattle.pdu.proofs.parts.payload.Reads as parts-payload-reads
 use Rattle.pdu.proofs.parts.payload.Kinds as parts-payload-kinds
 use Rattle.pdu.proofs.destination_flag.Reads as destination-flag-reads
@@ -71,6 +73,10 @@ parts-path-address = (λ κs a. tt, λ κs a x y s t p q. p ∙ sym q)
 
 pub parts-path-has : Promised 1 parts-path-has-kinds.ps parts-path-has-kinds.r parts-path-has-reads.Asked parts-path-has-reads.Post (λ κs x. x)
 parts-path-has = (λ κs a. tt, λ κs a x y s t p q. p ∙ sym q)
+
+pub parts-last-sender : Promised 1 parts-last-sender-kinds.ps parts-last-sender-kinds.r parts-last-sender-reads.Asked
+    parts-last-sender-reads.Post (λ κs x. x)
+parts-last-sender = (λ κs a. tt, λ κs a x y s t p q. p ∙ sym q)
 
 pub parts-payload : Promised 1 parts-payload-kinds.ps parts-payload-kinds.r parts-payload-reads.Asked parts-payload-reads.Post (λ κs x. slice x)
 parts-payload = (λ κs a. tt, λ κs a x y s t p q. one-part _ _ _ x y p q)

@@ -34,6 +34,7 @@ use Rattle.view.proofs.pdu_id as pdu-id-contract
 use Rattle.view.proofs.path_count as path-count-contract
 use Rattle.view.proofs.path_address as path-address-contract
 use Rattle.view.proofs.path_has as path-has-contract
+use Rattle.view.proofs.last_sender as last-sender-contract
 use Rattle.view.proofs.payload as payload-contract
 
 -- two facts give a third that follows from them
@@ -188,6 +189,13 @@ path-address =
 
 pub path-has : PromisedInLogic path-has-contract.ended (λ M 𝓤. path-has-contract.clauses 𝓤) (λ κs x. x)
 path-has =
+    record {
+      unconditional = λ M 𝓤 H A mem run κs a g. id⊢ 𝓤 (emp 𝓤);
+      determined = λ M 𝓤 H A mem run κs a g h x y s t. both 𝓤 (λ p q. p ∙ sym q);
+    }
+
+pub last-sender : PromisedInLogic last-sender-contract.ended (λ M 𝓤. last-sender-contract.clauses 𝓤) (λ κs x. x)
+last-sender =
     record {
       unconditional = λ M 𝓤 H A mem run κs a g. id⊢ 𝓤 (emp 𝓤);
       determined = λ M 𝓤 H A mem run κs a g h x y s t. both 𝓤 (λ p q. p ∙ sym q);

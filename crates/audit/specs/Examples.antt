@@ -1,4 +1,5 @@
--- Document 01, "Checked by hand": the cases marked P, in one table. `proofs/Examples.antt` computes every line of it.
+-- Document 01, "Checked by hand": the cases marked P, in one table; their answers carry the last sender too (document 02, W-205).
+-- `proofs/Examples.antt` computes every line of it.
 use Prim.Native.Nat.{ℕ}
 use mathlib.Core.Bool.{Bool, true, false}
 use mathlib.Core.List.{List, [], _∷_, _++_}
@@ -7,6 +8,7 @@ use lib.ListN.{length, set, replicate}
 use Rattle.pdu.specs.declared.Destination.the-variants.{Everyone, Address}
 use Rattle.pdu.specs.declared.Refusal.the-variants.{TooShort, WrongVersion, UnknownProtocol, NoDestination, HeaderCut, PayloadCut}
 use Rattle.pdu.specs.declared.Reading.the-variants.{Pdu, Refused}
+use Rattle.pdu.specs.declared.Sender.the-variants.{Known}
 use Rattle.pdu.specs.Reading.{readOf, refusalNumber}
 use Rattle.pdu.specs.Parts.{payloadIn}
 use Rattle.pdu.specs.Header.{headerOf}
@@ -124,20 +126,20 @@ pub record CheckedByHand : Type 0 where
       ≡ 0x70 ∷ 0x01 ∷ 0x08 ∷ 0x12 ∷ 0x12 ∷ 0x03 ∷ 0x24 ∷ 0x13 ∷ 0x22 ∷ 0x02 ∷ 0x76 ∷ []
   -- the example at node 2000: 39 and 0, nothing delivered, repeated as printed, and the output past the repeat kept
   pub p8 : answers (nodeAt 2000 true false) example
-      ≡ record { delivery = 39; repeat = 0; «delivered_place» = 0; «delivered_length» = 0; «repeated_length» = 22; taken = 20 }
+      ≡ record { delivery = 39; repeat = 0; «delivered_place» = 0; «delivered_length» = 0; «repeated_length» = 22; taken = 20; «last_sender» = Known 1000 }
   pub p8-output : outputAfter (nodeAt 2000 true false) example blank ≡ exampleRepeated ++ replicate 8 0xFF
   -- the same at node 1600: 0 and 41, the payload delivered, the output as it was
   pub p9 : answers (nodeAt 1600 true false) example
-      ≡ record { delivery = 0; repeat = 41; «delivered_place» = 9; «delivered_length» = 11; «repeated_length» = 0; taken = 20 }
+      ≡ record { delivery = 0; repeat = 41; «delivered_place» = 9; «delivered_length» = 11; «repeated_length» = 0; taken = 20; «last_sender» = Known 1000 }
   pub p9-delivered : delivered (nodeAt 1600 true false) (length blank) example
       ≡ 0x70 ∷ 0x01 ∷ 0x08 ∷ 0x12 ∷ 0x12 ∷ 0x03 ∷ 0x24 ∷ 0x13 ∷ 0x22 ∷ 0x02 ∷ 0x76 ∷ []
   pub p9-output : outputAfter (nodeAt 1600 true false) example blank ≡ blank
   -- P8's output at node 2000, echo on: 30 twice, although its hop limit is 0
-  pub p10 : answers (nodeAt 2000 true false) exampleRepeated ≡ twice 30 22
+  pub p10 : answers (nodeAt 2000 true false) exampleRepeated ≡ twice 30 22 (Known 2000)
   pub p10-output : outputAfter (nodeAt 2000 true false) exampleRepeated blank ≡ blank
   -- the same, echo off: 39 and 37
   pub p11 : answers (nodeAt 2000 false false) exampleRepeated
-      ≡ record { delivery = 39; repeat = 37; «delivered_place» = 0; «delivered_length» = 0; «repeated_length» = 0; taken = 22 }
+      ≡ record { delivery = 39; repeat = 37; «delivered_place» = 0; «delivered_length» = 0; «repeated_length» = 0; taken = 22; «last_sender» = Known 2000 }
   pub p11-output : outputAfter (nodeAt 2000 false false) exampleRepeated blank ≡ blank
   -- hop 7, otherwise the example: repeated with 7
   pub p12 : answers (nodeAt 2000 true false) (set example 2 0x70) ≡ answers (nodeAt 2000 true false) example
@@ -149,4 +151,4 @@ pub record CheckedByHand : Type 0 where
   pub p13-taken : originated (asking 7) [] 100 ≡ record { number = 0; length = 6 }
   pub p13-written : fresh (asking 7) [] ≡ 0x00 ∷ 0x00 ∷ 0x70 ∷ 0x00 ∷ 0x00 ∷ 0x05 ∷ []
   -- a source pass list on and empty: 31
-  pub p14 : answers (nodeAt 2000 true true) example ≡ twice 31 20
+  pub p14 : answers (nodeAt 2000 true true) example ≡ twice 31 20 (Known 1000)

@@ -4,3 +4,4 @@ pub mod StationsHeard
 pub mod SerialExchange
 pub mod OwnReport
 pub mod Examples
+pub mod LastSender

@@ -8,8 +8,10 @@ use mathlib.Core.Option.{none}
 use mathlib.Core.Path.{_≡_}
 use lib.ListN.{length, drop}
 use Rattle.octets.specs.Numbers.{_gives_, _orElse_}
+use Rattle.pdu.specs.declared.Sender.the-variants.{Unknown, Known}
 use Rattle.pdu.specs.Header.{headerOf}
 use Rattle.pdu.specs.Sizes.{pduLength}
+use Rattle.pdu.specs.Parts.{lastSender}
 use Rattle.lists.specs.Lists.{listsOf}
 use Rattle.decision.specs.Decision.{Node, isEcho, passFault, dropFault}
 use Rattle.node.specs.Answers.{listOrReadingFault, deliveryNumber, repeatNumber, delivered, answerOf, twice, Hears}
@@ -65,10 +67,12 @@ pub record OwnReport : Type 0 where
   -- with the path bit or without, and whatever the lists say
   pub dropped : (node : Node) (received output : List ℕ) → listOrReadingFault node received ≡ 0 → node .settings .echo ≡ true
       → headerOf received .source ≡ node .settings .own → isEcho (node .settings) (headerOf received) received ≡ false
-      → Hears node received output (twice 42 (pduLength (headerOf received))) output × (delivered node (length output) received ≡ [])
+      → Hears node received output (twice 42 (pduLength (headerOf received)) (lastSender (headerOf received) received)) output
+      × (delivered node (length output) received ≡ [])
   -- with both, 30
   pub echo-first : (node : Node) (received output : List ℕ) → listOrReadingFault node received ≡ 0
-      → isEcho (node .settings) (headerOf received) received ≡ true → Hears node received output (twice 30 (pduLength (headerOf received))) output
+      → isEcho (node .settings) (headerOf received) received ≡ true
+      → Hears node received output (twice 30 (pduLength (headerOf received)) (lastSender (headerOf received) received)) output
   -- 42 is answered nowhere else
   pub dropped-only : (node : Node) (room : ℕ) (received : List ℕ)
       → (deliveryNumber node room received ≡ 42) ⊎ (repeatNumber node room received ≡ 42)
@@ -99,13 +103,13 @@ pub record OwnReport : Type 0 where
   pub never-three : (receptions : List Reception) → List·Nodup receptions → length (onTheAir (two true) report receptions) ≤ 2
   pub three-with-echo-off : length (onTheAir (two false) report heardBack) ≡ 3
   -- at node 2000, without the path bit and with it; with its own address in the path too; before the lists, and with echo off not; cut to 5 bytes
-  pub without-path : answerOf (nodeAt 2000 true false) 100 ownReport ≡ twice 42 6
-  pub with-path : answerOf (nodeAt 2000 true false) 100 (ownReportBy 0 5) ≡ twice 42 9
-  pub with-both : answerOf (nodeAt 2000 true false) 100 (ownReportBy 0x07 0xD0) ≡ twice 30 9
-  pub before-lists : (answerOf (strict true) 100 ownReportTo5 ≡ twice 42 8) × (answerOf (strict false) 100 ownReportTo5 ≡ twice 31 8)
-  pub cut-short : answerOf (nodeAt 2000 true false) 100 (drop 1 ownReport) ≡ twice 1 0
+  pub without-path : answerOf (nodeAt 2000 true false) 100 ownReport ≡ twice 42 6 Unknown
+  pub with-path : answerOf (nodeAt 2000 true false) 100 (ownReportBy 0 5) ≡ twice 42 9 (Known 5)
+  pub with-both : answerOf (nodeAt 2000 true false) 100 (ownReportBy 0x07 0xD0) ≡ twice 30 9 (Known 2000)
+  pub before-lists : (answerOf (strict true) 100 ownReportTo5 ≡ twice 42 8 Unknown) × (answerOf (strict false) 100 ownReportTo5 ≡ twice 31 8 Unknown)
+  pub cut-short : answerOf (nodeAt 2000 true false) 100 (drop 1 ownReport) ≡ twice 1 0 Unknown
   -- echo off: delivered and repeated; for the own address and of another source: 41
   pub off : answerOf (nodeAt 2000 false false) 100 ownReport
-      ≡ record { delivery = 0; repeat = 0; «delivered_place» = 6; «delivered_length» = 0; «repeated_length» = 6; taken = 6 }
+      ≡ record { delivery = 0; repeat = 0; «delivered_place» = 6; «delivered_length» = 0; «repeated_length» = 6; taken = 6; «last_sender» = Unknown }
   pub for-own : answerOf (nodeAt 2000 true false) 100 forOwn
-      ≡ record { delivery = 0; repeat = 41; «delivered_place» = 8; «delivered_length» = 0; «repeated_length» = 0; taken = 8 }
+      ≡ record { delivery = 0; repeat = 41; «delivered_place» = 8; «delivered_length» = 0; «repeated_length» = 0; taken = 8; «last_sender» = Unknown }

@@ -1,5 +1,5 @@
--- The answers of the layer as the values that C sees where the layer has an enum, and what C gives for one. `Written`, a node's `Settings` and
--- `Answer` and a walk's `Cursor` go through as they are. What the values mean is defined below this crate.
+-- The answers of the layer as the values that C sees where the layer has an enum, and what C gives for one. `Written`, a node's `Settings` and a walk's
+-- `Cursor` go through as they are. What the values mean is defined below this crate.
 use Prim.Native.Nat.{ℕ}
 use mathlib.Core.Bool.{Bool, true, false, cond}
 use mathlib.Core.List.{List, []}
@@ -8,24 +8,31 @@ use lib.ListN.{length}
 use Rattle.pdu.specs.declared.Destination.{Destination}
 use Rattle.pdu.specs.declared.Destination.the-variants.{Everyone, Address}
 use Rattle.pdu.specs.declared.Header.{Header}
+use Rattle.pdu.specs.declared.Sender.{Sender}
+use Rattle.pdu.specs.declared.Sender.the-variants.{Unknown, Known}
 use Rattle.pdu.specs.declared.Reading.{Reading}
 use Rattle.pdu.specs.declared.Reading.the-variants.{Pdu, Refused}
 use Rattle.pdu.specs.Header.{headerOf}
 use Rattle.pdu.specs.Sizes.{fixedLength, payloadLimit, pathLimit, headerLimit, pduLimit, headerLength, pduLength}
 use Rattle.pdu.specs.Reading.{refusalNumber}
-use Rattle.pdu.specs.Parts.{pathIn, pathAddress, inPath}
+use Rattle.pdu.specs.Parts.{pathIn, pathAddress, inPath, lastSender}
 use Rattle.lists.specs.Lists.{valueLimit}
 use Rattle.origin.specs.declared.Settings as origin
 use Rattle.decision.specs.Decision.{Node}
-use Rattle.node.specs.Answers.{twice}
+use Rattle.node.specs.declared.Answer.{Answer}
+use Rattle.node.specs.Answers.{answerOf, twice, outputAfter}
 use Rattle.batch.specs.declared.Cursor.{Cursor}
 use Rattle.batch.specs.declared.Stepped.{Stepped}
 use Rattle.batch.specs.declared.Stepped.the-variants.{TooLong, Ended, Answered}
 use Rattle.batch.specs.Walk.{batchLimit, stepOf, stepOutput}
+use Rattle.listening.specs.declared.Listened.{Listened}
+use Rattle.listening.specs.Listening.{answerNumber, memoryAfterAnswer}
 use Rattle.bound.specs.declared.Bound.{Bound}
 use Rattle.bound.specs.declared.Bound.the-variants.{Exactly, TooLarge, HopRefused}
 use Rattle.boundary.specs.declared.MantHeader.{MantHeader}
 use Rattle.boundary.specs.declared.MantFresh.{MantFresh}
+use Rattle.boundary.specs.declared.MantAnswer.{MantAnswer}
+use Rattle.boundary.specs.declared.MantListened.{MantListened}
 use Rattle.boundary.specs.declared.MantStep.{MantStep}
 use Rattle.boundary.specs.declared.MantBound.{MantBound}
 use Rattle.boundary.specs.declared.MantLimits.{MantLimits}
@@ -43,9 +50,22 @@ destinationAddress (Address address) = address
 abbrev pub destinationFromC : Bool → ℕ → Destination
 destinationFromC present address = cond present (Address address) Everyone
 
--- the fields of a header, with a number and two lengths ("Header, byte by byte")
-abbrev pub fieldsInC : ℕ → Header → ℕ → ℕ → MantHeader
-fieldsInC number header ofHeader ofPdu =
+-- a last sender as a flag and an address, the address 0 where it is unknown (document 02, W-205)
+abbrev pub hasSender : Sender → Bool
+hasSender Unknown = false
+hasSender (Known address) = true
+
+abbrev pub senderAddress : Sender → ℕ
+senderAddress Unknown = 0
+senderAddress (Known address) = address
+
+-- and back; an address without the flag does not count
+abbrev pub senderFromC : Bool → ℕ → Sender
+senderFromC known address = cond known (Known address) Unknown
+
+-- the fields of a header, with a number, the last sender and two lengths ("Header, byte by byte")
+abbrev pub fieldsInC : ℕ → Header → Sender → ℕ → ℕ → MantHeader
+fieldsInC number header sender ofHeader ofPdu =
     record {
       number = number;
       protocol = header .protocol;
@@ -63,22 +83,24 @@ fieldsInC number header ofHeader ofPdu =
       destination = destinationAddress (header .destination);
       «pdu_id» = header .«pdu_id»;
       «path_count» = header .«path_count»;
+      «has_last_sender» = hasSender sender;
+      «last_sender» = senderAddress sender;
       «header_length» = ofHeader;
       «pdu_length» = ofPdu;
     }
 
 -- of a header that was read: number 0, and the lengths that follow from its fields ("Sizes")
-abbrev pub shownHeader : Header → MantHeader
-shownHeader header = fieldsInC 0 header (headerLength header) (pduLength header)
+abbrev pub shownHeader : Header → Sender → MantHeader
+shownHeader header sender = fieldsInC 0 header sender (headerLength header) (pduLength header)
 
--- a refusal: its number, the fields of no bytes, lengths 0 ("Numbers answered": a length given with a refusal is 0)
+-- a refusal: its number, the fields of no bytes, no sender, lengths 0 ("Numbers answered": a length given with a refusal is 0)
 abbrev pub refusedHeader : ℕ → MantHeader
-refusedHeader number = fieldsInC number (headerOf []) 0 0
+refusedHeader number = fieldsInC number (headerOf []) Unknown 0 0
 
--- what reading answers ("Numbers answered", 1 to 6)
-abbrev pub headerInC : Reading → MantHeader
-headerInC (Pdu header) = shownHeader header
-headerInC (Refused refusal) = refusedHeader (refusalNumber refusal)
+-- what reading answers for bytes ("Numbers answered", 1 to 6), and the last sender of what was read
+abbrev pub headerInC : Reading → List ℕ → MantHeader
+headerInC (Pdu header) bytes = shownHeader header (lastSender header bytes)
+headerInC (Refused refusal) bytes = refusedHeader (refusalNumber refusal)
 
 -- the path's address at a place, and whether an address is in the path, of what was read; a refusal shows no path
 abbrev pub pathAddressIn : Reading → List ℕ → ℕ → ℕ
@@ -103,15 +125,56 @@ freshFromC settings =
       «pdu_id» = settings .«pdu_id»;
     }
 
+-- a node's answer ("One PDU at one node"), its last sender so, and back
+abbrev pub answerInC : Answer → MantAnswer
+answerInC answer =
+    record {
+      delivery = answer .delivery;
+      repeat = answer .repeat;
+      «has_last_sender» = hasSender (answer .«last_sender»);
+      «last_sender» = senderAddress (answer .«last_sender»);
+      «delivered_place» = answer .«delivered_place»;
+      «delivered_length» = answer .«delivered_length»;
+      «repeated_length» = answer .«repeated_length»;
+      taken = answer .taken;
+    }
+
+abbrev pub answerFromC : MantAnswer → Answer
+answerFromC answer =
+    record {
+      delivery = answer .delivery;
+      repeat = answer .repeat;
+      «delivered_place» = answer .«delivered_place»;
+      «delivered_length» = answer .«delivered_length»;
+      «repeated_length» = answer .«repeated_length»;
+      taken = answer .taken;
+      «last_sender» = senderFromC (answer .«has_last_sender») (answer .«last_sender»);
+    }
+
+-- what hearing a PDU answers and leaves in the output
+abbrev pub HearsInC : Node → List ℕ → List ℕ → MantAnswer → List ℕ → Type 0
+HearsInC node received output answer left =
+    (answer ≡ answerInC (answerOf node (length output) received)) × (left ≡ outputAfter node received output)
+
+-- and where it is counted too (document 02, W-201)
+abbrev pub ListensInC : Node → List ℕ → List ℕ → List ℕ → MantListened → List ℕ → List ℕ → Type 0
+ListensInC node received output memory listened left after =
+    HearsInC node received output (listened .answer) left
+    × (listened .«table_number» ≡ answerNumber (answerOf node (length output) received) received memory)
+    × (after ≡ memoryAfterAnswer (answerOf node (length output) received) received memory)
+
+abbrev pub listenedInC : Listened → MantListened
+listenedInC listened = record { answer = answerInC (listened .answer); «table_number» = listened .«table_number» }
+
 -- a walk that ends has no answer and so no number; C's two fields for numbers are there all the same, and hold 255, which 01 gives to nothing
 abbrev pub noNumber : ℕ
 noNumber = 255
 
 -- a step ("A batch"): kind 0 with an answer; 1 where the walk ends with no answer; 2 with 54 alone. After 1 and 2 the cursor stays and has ended
 abbrev pub stepInC : Cursor → Stepped → MantStep
-stepInC cursor (Answered answer next) = record { kind = 0; answer = answer; next = next }
-stepInC cursor Ended = record { kind = 1; answer = twice noNumber 0; next = record { place = cursor .place; ended = true } }
-stepInC cursor TooLong = record { kind = 2; answer = twice 54 0; next = record { place = cursor .place; ended = true } }
+stepInC cursor (Answered answer next) = record { kind = 0; answer = answerInC answer; next = next }
+stepInC cursor Ended = record { kind = 1; answer = answerInC (twice noNumber 0 Unknown); next = record { place = cursor .place; ended = true } }
+stepInC cursor TooLong = record { kind = 2; answer = answerInC (twice 54 0 Unknown); next = record { place = cursor .place; ended = true } }
 
 -- what a step answers and leaves in the output
 abbrev pub StepsInC : Node → List ℕ → Cursor → List ℕ → MantStep → List ℕ → Type 0

@@ -2,19 +2,23 @@
 use batch::Cursor;
 use batch::Stepped;
 use bound::Bound;
+use listening::Listened;
 use node::Answer;
 use pdu::Destination;
 use pdu::Header;
+use pdu::Sender;
 ghost use mathlib.Core.Path.{_≡_};
+ghost use Rattle.pdu.specs.declared.Sender.the-variants.{Unknown};
 ghost use Rattle.node.specs.Answers.{twice};
 ghost use Rattle.boundary.specs.Boundary.{hasDestination, destinationAddress, refusedHeader, shownHeader, destinationFromC, freshFromC};
-ghost use Rattle.boundary.specs.Boundary.{stepInC, boundInC, limitsInC};
+ghost use Rattle.boundary.specs.Boundary.{hasSender, senderAddress, senderFromC, answerInC, answerFromC};
+ghost use Rattle.boundary.specs.Boundary.{listenedInC, stepInC, boundInC, limitsInC};
 
 // What the fields for numbers hold where there is no answer.
 const NO_NUMBER: u8 = 255;
 
-// What `mant_read` answers: 0 or 1 to 6, and of a PDU every field of its header in document 01's order, the header's length and the PDU's.
-// With a refusal all fields after the number are 0 and false.
+// What `mant_read` answers: 0 or 1 to 6, and of a PDU every field of its header in document 01's order, its last sender, the header's length and the
+// PDU's. `last_sender` counts where `has_last_sender` is set, and is 0 where not. With a refusal all fields after the number are 0 and false.
 #[repr(C)]
 pub struct MantHeader {
     pub number: u8,
@@ -33,6 +37,8 @@ pub struct MantHeader {
     pub destination: u16,
     pub pdu_id: u8,
     pub path_count: u8,
+    pub has_last_sender: bool,
+    pub last_sender: u16,
     pub header_length: usize,
     pub pdu_length: usize,
 }
@@ -52,13 +58,35 @@ pub struct MantFresh {
     pub pdu_id: u8,
 }
 
+// What a node answers for one PDU. `last_sender` counts where `has_last_sender` is set, and is 0 where not. The delivered payload lies at
+// `delivered_place` in the received bytes; place and length are 0 where nothing is delivered. `repeated_length` is 0 where nothing is repeated. `taken`
+// is where the next PDU begins in the received bytes, and 0 where a list is at fault or no PDU can be read.
+#[repr(C)]
+pub struct MantAnswer {
+    pub delivery: u8,
+    pub repeat: u8,
+    pub has_last_sender: bool,
+    pub last_sender: u16,
+    pub delivered_place: usize,
+    pub delivered_length: usize,
+    pub repeated_length: usize,
+    pub taken: usize,
+}
+
+// The node's answer for a PDU, and the table's number for it: 0, or 55 where its source is new while there is no room for another.
+#[repr(C)]
+pub struct MantListened {
+    pub answer: MantAnswer,
+    pub table_number: u8,
+}
+
 // What one step of a walk finds. Kind 0: a PDU's answer and the cursor of the next. Kind 1: no more PDU, so no answer; its fields for numbers hold
 // 255, which is no number. Kind 2: the batch is too long, both numbers are 54. With kinds 1 and 2 the rest of the answer is 0 and the next cursor
 // is the one given, ended.
 #[repr(C)]
 pub struct MantStep {
     pub kind: u8,
-    pub answer: Answer,
+    pub answer: MantAnswer,
     pub next: Cursor,
 }
 
@@ -82,10 +110,10 @@ pub struct MantLimits {
     pub batch: usize,
 }
 
-// The header of a PDU that was read, as C sees it: number 0, every field, and the lengths of the header and the PDU.
-// Document 01, "Header, byte by byte", and "Sizes".
-pub fn shown_header(header: Header) -> MantHeader
-    ensures { λ r. ⌜ r ≡ shownHeader header ⌝ }
+// The header of a PDU that was read, as C sees it: number 0, every field, the last sender, and the lengths of the header and the PDU.
+// Document 01, "Header, byte by byte", and "Sizes"; document 02, W-205.
+pub fn shown_header(header: Header, sender: Sender) -> MantHeader
+    ensures { λ r. ⌜ r ≡ shownHeader header sender ⌝ }
 {
     let destination = header.destination;
     MantHeader {
@@ -105,6 +133,8 @@ pub fn shown_header(header: Header) -> MantHeader
         destination: destination_address(destination),
         pdu_id: header.pdu_id,
         path_count: header.path_count,
+        has_last_sender: has_sender(sender),
+        last_sender: sender_address(sender),
         header_length: header.header_length(),
         pdu_length: header.pdu_length(),
     }
@@ -131,6 +161,8 @@ pub fn refused_header(number: u8) -> MantHeader
         destination: 0,
         pdu_id: 0,
         path_count: 0,
+        has_last_sender: false,
+        last_sender: 0,
         header_length: 0,
         pdu_length: 0,
     }
@@ -151,6 +183,24 @@ fn destination_address(destination: Destination) -> u16
     match destination {
         Destination::Everyone => 0,
         Destination::Address(address) => address,
+    }
+}
+
+fn has_sender(sender: Sender) -> bool
+    ensures { λ r. ⌜ r ≡ hasSender sender ⌝ }
+{
+    match sender {
+        Sender::Unknown => false,
+        Sender::Known(_) => true,
+    }
+}
+
+fn sender_address(sender: Sender) -> u16
+    ensures { λ r. ⌜ r ≡ senderAddress sender ⌝ }
+{
+    match sender {
+        Sender::Unknown => 0,
+        Sender::Known(address) => address,
     }
 }
 
@@ -180,12 +230,67 @@ pub fn fresh_from_c(settings: MantFresh) -> origin::Settings
     }
 }
 
-fn number_alone(number: u8) -> Answer
-    ensures { λ r. ⌜ r ≡ twice number 0 ⌝ }
+fn sender_from_c(known: bool, address: u16) -> Sender
+    ensures { λ r. ⌜ r ≡ senderFromC known address ⌝ }
+{
+    if known {
+        Sender::Known(address)
+    } else {
+        Sender::Unknown
+    }
+}
+
+// A node's answer, as C sees it. Document 01, "One PDU at one node"; document 02, W-205.
+pub fn answer_in_c(answer: Answer) -> MantAnswer
+    ensures { λ r. ⌜ r ≡ answerInC answer ⌝ }
+{
+    let sender = answer.last_sender;
+    MantAnswer {
+        delivery: answer.delivery,
+        repeat: answer.repeat,
+        has_last_sender: has_sender(sender),
+        last_sender: sender_address(sender),
+        delivered_place: answer.delivered_place,
+        delivered_length: answer.delivered_length,
+        repeated_length: answer.repeated_length,
+        taken: answer.taken,
+    }
+}
+
+// An answer that C gives back, as the layer has it. An address without its flag does not count. Document 01, "One PDU at one node"; document 02, W-205.
+pub fn answer_from_c(answer: MantAnswer) -> Answer
+    ensures { λ r. ⌜ r ≡ answerFromC answer ⌝ }
 {
     Answer {
+        delivery: answer.delivery,
+        repeat: answer.repeat,
+        delivered_place: answer.delivered_place,
+        delivered_length: answer.delivered_length,
+        repeated_length: answer.repeated_length,
+        taken: answer.taken,
+        last_sender: sender_from_c(answer.has_last_sender, answer.last_sender),
+    }
+}
+
+// The answer of a node that counted what it heard, and the table's number, as C sees them. Document 02, W-201 and W-205.
+pub fn listened_in_c(listened: Listened) -> MantListened
+    ensures { λ r. ⌜ r ≡ listenedInC listened ⌝ }
+{
+    let answer = listened.answer;
+    MantListened {
+        answer: answer_in_c(answer),
+        table_number: listened.table_number,
+    }
+}
+
+fn number_alone(number: u8) -> MantAnswer
+    ensures { λ r. ⌜ r ≡ answerInC (twice number 0 Unknown) ⌝ }
+{
+    MantAnswer {
         delivery: number,
         repeat: number,
+        has_last_sender: false,
+        last_sender: 0,
         delivered_place: 0,
         delivered_length: 0,
         repeated_length: 0,
@@ -205,7 +310,7 @@ pub fn step_in_c(cursor: Cursor, stepped: Stepped) -> MantStep
     match stepped {
         Stepped::Answered(answer, next) => MantStep {
             kind: 0,
-            answer,
+            answer: answer_in_c(answer),
             next,
         },
         Stepped::Ended => MantStep {

@@ -12,7 +12,8 @@
 // | pack      | [PDU] [output]                                                                           | number, length of the exchange           |
 // | read      | [PDU]                                                                                    | number                                   |
 // | write     | [PDU] [output]                                                                           | number, length                           |
-// | view      | [PDU]                                                                                    | number, size, source, PDU ID, path count |
+// | view      | [PDU]                                                                                    | number, size, source, PDU ID, path count,|
+// |           |                                                                                          | last sender known, last sender           |
 // | originate | source, hop limit, port, time stamp request, with path, reliable, PDU ID, and the        | number, length                           |
 // |           | destination if it is not everyone [payload] [output]                                     |                                          |
 // | lists     | (first list) (last list), those between being empty                                      | number                                   |

@@ -6,6 +6,7 @@ use crate::telling::tell;
 use crate::telling::wide;
 use crate::verb;
 use bound::Bound;
+use pdu::Sender;
 
 pub(crate) fn ask(line: Line, input: &[u8], values: &[u16]) -> bool {
     let verb = line.verb;
@@ -48,11 +49,23 @@ fn views(line: Line, input: &[u8]) -> bool {
     let header = said.header;
     let source = header.source as u64;
     let pdu_id = header.pdu_id as u64;
-    tell(line, 0o22222, 0, said.number as u64)
-        & tell(line, 0o22222, 1, said.size as u64)
-        & tell(line, 0o22222, 2, source)
-        & tell(line, 0o22222, 3, pdu_id)
-        & tell(line, 0o22222, 4, wide(header.path_count))
+    let sender = said.last_sender;
+    tell(line, 0o2222222, 0, said.number as u64)
+        & tell(line, 0o2222222, 1, said.size as u64)
+        & tell(line, 0o2222222, 2, source)
+        & tell(line, 0o2222222, 3, pdu_id)
+        & tell(line, 0o2222222, 4, wide(header.path_count))
+        & tells_sender(line, sender)
+}
+
+// 1 and the last sender, or 0 and 0 where it is unknown.
+fn tells_sender(line: Line, sender: Sender) -> bool {
+    match sender {
+        Sender::Known(address) => {
+            tell(line, 0o2222222, 5, 1) & tell(line, 0o2222222, 6, address as u64)
+        }
+        Sender::Unknown => tell(line, 0o2222222, 5, 0) & tell(line, 0o2222222, 6, 0),
+    }
 }
 
 // The bound is never 0, so that 0 stands for an answer without one.

@@ -10,8 +10,9 @@ use borrow.Author.Tests.{leb-true, leb-false, not-true, not-false}
 use Rattle.text.proofs.Decimal.{length-decimal, decimal-of-64-bits, decimal-of-16-bits, decimal-of-8-bits}
 use Rattle.text.proofs.Parts.{Promised, Put, begin, then}
 use Rattle.lines.proofs.Shown.{length-shown}
+use Rattle.pdu.specs.declared.Sender.{Sender}
 use Rattle.text.specs.Text.{text, decimal}
-use Rattle.lines.specs.Lines.{shown, firstLine, pduLine, lastLine, refusedLine}
+use Rattle.lines.specs.Lines.{shown, senderShown, firstLine, pduLine, lastLine, refusedLine}
 
 length-ended : (start : List ℕ) (n end : ℕ) → length (start ++ decimal n ++ end ∷ []) ≡ length start + length (decimal n) + 1
 length-ended start n end = length-append (start ++ decimal n) (end ∷ []) ∙ ap (λ (l : ℕ). l + 1) (length-append start (decimal n))
@@ -54,31 +55,52 @@ pdu-started blank now₁ now₂ now₃ now₄ number offset delivery repeat next
     let four = then three (text " " ++ decimal repeat ++ text " ") now₄ next₄ (omega arith) p₄ in
     simp (append-assoc) (simp (append-assoc) at four)
 
--- what the test for room says of the rest of a PDU line
-module _ (output start repeated : List ℕ) (place : ℕ) (answer : Bool)
-    (tested : answer ≡ leb (place + length start + cond (eqb (length repeated) 0) 1 (2 * length repeated) + 1) (length output)) where
-  length-rest : length (start ++ shown repeated ++ text "\n") ≡ length start + cond (eqb (length repeated) 0) 1 (2 * length repeated) + 1
-  length-rest =
-      length-append (start ++ shown repeated) (text "\n")
-      ∙ ap (λ (l : ℕ). l + 1) (length-append start (shown repeated) ∙ ap (λ (l : ℕ). length start + l) (length-shown repeated))
+-- the end of a PDU line in 8 places
+pub length-sender : (sender : Sender) → length (text " " ++ senderShown sender ++ text "\n") ≡ length (senderShown sender) + 2
+length-sender sender =
+    length-append (text " " ++ senderShown sender) (text "\n") ∙ omega (arith, length-append (text " ") (senderShown sender))
 
-  pub no-rest : not answer ≡ true → length output < place + length (start ++ shown repeated ++ text "\n")
-  no-rest e = omega (arith, length-rest, leb-false _ (length output) (sym tested ∙ not-true answer e))
+pub sender-ended : (blank now : List ℕ) (sender : Sender) (next : ℕ) → length blank ≡ 8 → length (senderShown sender) ≤ 5
+    → Promised blank 0 (text " " ++ senderShown sender ++ text "\n") now next → Put blank 0 (text " " ++ senderShown sender ++ text "\n") now next
+sender-ended blank now sender next size short p = begin blank 0 _ now next (omega (arith, length-sender sender)) p
 
-  pub all-rest : not answer ≡ false → place + length (start ++ shown repeated ++ text "\n") ≤ length output
-  all-rest e = omega (arith, length-rest, leb-true _ (length output) (sym tested ∙ not-false answer e))
+-- a PDU line from its start, the repeated PDU and its end
+joined : (front x y z : List ℕ) → front ++ (x ++ y ++ z) ≡ front ++ x ++ y ++ z
+joined front x y z = simp append-assoc
 
-pub rest : (output start repeated now₁ now₂ now₃ : List ℕ) (place next₁ next₂ next₃ : ℕ)
-    → place + length (start ++ shown repeated ++ text "\n") ≤ length output
+pub pdu-line-is : (number offset delivery repeat : ℕ) (repeated : List ℕ) (sender : Sender)
+    → (decimal number ++ text " " ++ decimal offset ++ text " " ++ decimal delivery ++ text " " ++ decimal repeat ++ text " ") ++ shown
+    repeated ++ (text " " ++ senderShown sender ++ text "\n") ≡ pduLine number offset delivery repeat repeated sender
+unfolding pduLine
+pdu-line-is number offset delivery repeat repeated sender =
+    joined (decimal number ++ text " " ++ decimal offset ++ text " " ++ decimal delivery ++ text " " ++ decimal repeat ++ text " " ++ shown repeated)
+    (text " ") (senderShown sender) (text "\n")
+
+-- what the test for room says of a PDU line
+module _ (output start repeated end : List ℕ) (place : ℕ) (answer : Bool)
+    (tested : answer ≡ leb (place + (length start + length end) + cond (eqb (length repeated) 0) 1 (2 * length repeated)) (length output)) where
+  length-between : length (start ++ shown repeated ++ end) ≡ length start + cond (eqb (length repeated) 0) 1 (2 * length repeated) + length end
+  length-between =
+      length-append (start ++ shown repeated) end
+      ∙ ap (λ (l : ℕ). l + length end) (length-append start (shown repeated) ∙ ap (λ (l : ℕ). length start + l) (length-shown repeated))
+
+  pub no-line : not answer ≡ true → length output < place + length (start ++ shown repeated ++ end)
+  no-line e = omega (arith, length-between, leb-false _ (length output) (sym tested ∙ not-true answer e))
+
+  pub all-line : not answer ≡ false → place + length (start ++ shown repeated ++ end) ≤ length output
+  all-line e = omega (arith, length-between, leb-true _ (length output) (sym tested ∙ not-false answer e))
+
+pub between : (output start repeated end now₁ now₂ now₃ : List ℕ) (place next₁ next₂ next₃ : ℕ)
+    → place + length (start ++ shown repeated ++ end) ≤ length output
     → Promised output place start now₁ next₁ → Promised now₁ next₁ (shown repeated) now₂ next₂
-    → Promised now₂ next₂ (text "\n") now₃ next₃
-    → Put output place (start ++ shown repeated ++ text "\n") now₃ next₃
-rest output start repeated now₁ now₂ now₃ place next₁ next₂ next₃ h p₁ p₂ p₃ =
+    → Promised now₂ next₂ end now₃ next₃
+    → Put output place (start ++ shown repeated ++ end) now₃ next₃
+between output start repeated end now₁ now₂ now₃ place next₁ next₂ next₃ h p₁ p₂ p₃ =
     let front = length-append start (shown repeated) in
-    let all = length-append (start ++ shown repeated) (text "\n") in
+    let all = length-append (start ++ shown repeated) end in
     let one = begin output place start now₁ next₁ (omega arith) p₁ in
     let two = then one (shown repeated) now₂ next₂ (omega (arith, one .ends)) p₂ in
-    then two (text "\n") now₃ next₃ (omega (arith, two .ends)) p₃
+    then two end now₃ next₃ (omega (arith, two .ends)) p₃
 
 -- how long the lines are at most
 pub first-line-at-most : (own : ℕ) → own < 65536 → length (firstLine own) ≤ 12
@@ -100,8 +122,10 @@ last-line-at-most lines taken h k =
       length-decimal 4 taken k,
     )
 
-pub pdu-line-at-most : (number offset delivery repeat : ℕ) (repeated : List ℕ) → number < 10000 → offset < 100000 → delivery < 100
-    → length (pduLine number offset delivery repeat repeated) ≤ 16 + length (decimal repeat) + length (shown repeated)
+pub pdu-line-at-most : (number offset delivery repeat : ℕ) (repeated : List ℕ) (sender : Sender) → number < 10000 → offset < 100000
+    → delivery < 100
+    → length (pduLine number offset delivery repeat repeated sender)
+    ≤ 17 + length (decimal repeat) + length (shown repeated) + length (senderShown sender)
 unfolding pduLine
-pdu-line-at-most number offset delivery repeat repeated k₁ k₂ k₃ =
+pdu-line-at-most number offset delivery repeat repeated sender k₁ k₂ k₃ =
     simp (length-append) (omega (arith, length-decimal 3 number k₁, length-decimal 4 offset k₂, length-decimal 1 delivery k₃))

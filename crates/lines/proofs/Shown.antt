@@ -1,5 +1,5 @@
 -- The repeated PDU as it is shown, and the room for it.
-use Prim.Native.Nat.{ℕ, zero, suc, _+_, _*_, _-_, _/_, _≤_, _<_}
+use Prim.Native.Nat.{ℕ, zero, suc, _+_, _*_, _/_, _≤_, _<_}
 use native.Mathlib.Omega.{arith}
 use mathlib.Core.Bool.{Bool, true, false, cond}
 use mathlib.Core.List.{List, [], _∷_}
@@ -16,11 +16,11 @@ unfolding shown
 length-shown [] = refl
 length-shown (byte ∷ repeated) = simp (eqb·suc-zero (length repeated)) (length-hex (byte ∷ repeated))
 
--- what is shown takes a place at least, and the line's end one more
-pub too-small : (output place start repeated : ℕ) → output < place + start + 2
-    → false ≡ leb (place + start + cond (eqb repeated 0) 1 (2 * repeated) + 1) output
-too-small output place start zero h = sym (lt-leb (place + start + 1 + 1) output (omega arith))
-too-small output place start (suc repeated) h = rw (eqb·suc-zero repeated) (sym (lt-leb (place + start + 2 * suc repeated + 1) output (omega arith)))
+-- what is shown takes a place at least
+pub too-small : (output place beside repeated : ℕ) → output < place + beside + 1
+    → false ≡ leb (place + beside + cond (eqb repeated 0) 1 (2 * repeated)) output
+too-small output place beside zero h = sym (lt-leb (place + beside + 1) output (omega arith))
+too-small output place beside (suc repeated) h = rw (eqb·suc-zero repeated) (sym (lt-leb (place + beside + 2 * suc repeated) output (omega arith)))
 
 same-tests : (a b c d : ℕ) → (a ≤ b → c ≤ d) → (b < a → d < c) → leb a b ≡ leb c d
 same-tests a b c d within without = go (leb a b) refl
@@ -30,13 +30,12 @@ same-tests a b c d within without = go (leb a b) refl
     go false e = sym (lt-leb c d (without (leb-false a b e)))
 
 -- half of the room that is left, against the whole of what is wanted
-pub same-room : (output place start repeated : ℕ) → place ≤ output → start ≤ output - place → 2 ≤ output - place - start
-    → leb repeated ((output - place - start - 1) / 2) ≡ leb (place + start + cond (eqb repeated 0) 1 (2 * repeated) + 1) output
-same-room output place start zero h k l = leb·zero ((output - place - start - 1) / 2) ∙ sym (le-leb (place + start + 1 + 1) output (omega arith))
-same-room output place start (suc repeated) h k l =
+pub same-room : (output place beside repeated room : ℕ) → room + place + beside ≡ output → 1 ≤ room
+    → leb repeated (room / 2) ≡ leb (place + beside + cond (eqb repeated 0) 1 (2 * repeated)) output
+same-room output place beside zero room h k = leb·zero (room / 2) ∙ sym (le-leb (place + beside + 1) output (omega arith))
+same-room output place beside (suc repeated) room h k =
     rw (eqb·suc-zero repeated)
-    (same-tests (suc repeated) ((output - place - start - 1) / 2) (place + start + 2 * suc repeated + 1) output (λ fits. omega arith)
-    (λ fits. omega arith))
+    (same-tests (suc repeated) (room / 2) (place + beside + 2 * suc repeated) output (λ fits. omega arith) (λ fits. omega arith))
 
 -- two characters a byte are room for `-` too
 pub shown-within : (repeated : List ℕ) (n : ℕ) → length repeated ≤ n → 0 < n → length (shown repeated) ≤ 2 * n

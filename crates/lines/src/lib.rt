@@ -7,8 +7,9 @@ ghost use lib.Dec.{leb, eqb};
 ghost use lib.ListN.{length};
 ghost use Rattle.octets.specs.Octets.{Puts};
 ghost use Rattle.text.specs.Text.{text, decimal};
-ghost use Rattle.lines.specs.Lines.{shown, firstLine, pduLine, lastLine, refusedLine};
+ghost use Rattle.lines.specs.Lines.{shown, senderShown, firstLine, pduLine, lastLine, refusedLine};
 use octets::put;
+use pdu::Sender;
 use text::put_decimal;
 use text::put_hex;
 
@@ -61,22 +62,34 @@ fn put_shown(output: &mut [u8], place: usize, repeated: &[u8]) -> usize
     put_hex(output, place, repeated)
 }
 
-// Puts the start of a PDU line, the repeated PDU and the line's end; nothing where they do not all fit.
-fn put_rest(output: &mut [u8], place: usize, start: &[u8], repeated: &[u8]) -> usize
-    ensures { λ r. ⌜ Puts (now (output .entry)) place (now (start .entry) ++ shown (now (repeated .entry)) ++ text "\n") r (now (output .exit)) ⌝ }
+// Puts the end of a PDU line: the last sender, or `-` where it is unknown, between a space and the line's end; nothing where they do not all fit.
+fn put_sender(output: &mut [u8], place: usize, sender: Sender) -> usize
+    ensures { λ r. ⌜ (length (senderShown sender) ≤ 5)
+        × Puts (now (output .entry)) place (text " " ++ senderShown sender ++ text "\n") r (now (output .exit)) ⌝ }
 {
-    if !has_room(output.len(), place, start.len(), repeated.len()) {
+    match sender {
+        Sender::Unknown => put(output, place, b" -\n"),
+        Sender::Known(address) => put_ended(output, place, b" ", address as u64, b'\n'),
+    }
+}
+
+// Puts the start of a PDU line, the repeated PDU and the line's end; nothing where they do not all fit.
+fn put_between(output: &mut [u8], place: usize, start: &[u8], repeated: &[u8], end: &[u8]) -> usize
+    ensures { λ r. ⌜ Puts (now (output .entry)) place (now (start .entry) ++ shown (now (repeated .entry)) ++ now (end .entry))
+        r (now (output .exit)) ⌝ }
+{
+    if !has_room(output.len(), place, start.len(), repeated.len(), end.len()) {
         return place;
     }
     let next = put(output, place, start);
     let next = put_shown(output, next, repeated);
-    put(output, next, b"\n")
+    put(output, next, end)
 }
 
-// Whether `start` characters, the hex of `repeated` bytes or `-`, and one character more fit behind `place`.
+// Whether `start` characters, the hex of `repeated` bytes or `-`, and `end` characters fit behind `place`.
 // Differences and a half, since a sum or a double could be more than a `usize` holds.
-fn has_room(output: usize, place: usize, start: usize, repeated: usize) -> bool
-    ensures { λ r. ⌜ r ≡ leb (place + start + cond (eqb repeated 0) 1 (2 * repeated) + 1) output ⌝ }
+fn has_room(output: usize, place: usize, start: usize, repeated: usize, end: usize) -> bool
+    ensures { λ r. ⌜ r ≡ leb (place + (start + end) + cond (eqb repeated 0) 1 (2 * repeated)) output ⌝ }
 {
     if output < place {
         return false;
@@ -84,16 +97,16 @@ fn has_room(output: usize, place: usize, start: usize, repeated: usize) -> bool
     if output - place < start {
         return false;
     }
-    let room = output - place - start;
-    if room < 2 {
+    let behind = output - place - start;
+    if behind <= end {
         return false;
     }
-    repeated <= (room - 1) / 2
+    repeated <= (behind - end) / 2
 }
 
-// Puts the line of one PDU and answers the place after it: which PDU it is, where it begins, what was answered for delivery and for repeating, and
-// the bytes of the repeat in hex; with no such bytes `-`. Where the line does not fit, nothing is written and the place stays.
-// Document 01, "The program `relay`", a PDU line.
+// Puts the line of one PDU and answers the place after it: which PDU it is, where it begins, what was answered for delivery and for repeating, the
+// bytes of the repeat in hex, with no such bytes `-`, and the last sender, `-` where it is unknown. Where the line does not fit, nothing is written and
+// the place stays. Document 01, "The program `relay`", a PDU line; document 02, W-205.
 pub fn put_pdu_line(
     output: &mut [u8],
     place: usize,
@@ -102,13 +115,17 @@ pub fn put_pdu_line(
     delivery: u8,
     repeat: u8,
     repeated: &[u8],
+    sender: Sender,
 ) -> usize
-    ensures { λ r. ⌜ Puts (now (output .entry)) place (pduLine number offset delivery repeat (now (repeated .entry))) r (now (output .exit)) ⌝ }
+    ensures { λ r. ⌜ Puts (now (output .entry)) place (pduLine number offset delivery repeat (now (repeated .entry)) sender)
+        r (now (output .exit)) ⌝ }
 {
     let mut start = [0u8; 64];
     let next = put_decimal(&mut start, 0, number);
     let next = put_ended(&mut start, next, b" ", offset, b' ');
     let next = put_decimal(&mut start, next, delivery as u64);
     let next = put_ended(&mut start, next, b" ", repeat as u64, b' ');
-    put_rest(output, place, &start[0..next], repeated)
+    let mut end = [0u8; 8];
+    let size = put_sender(&mut end, 0, sender);
+    put_between(output, place, &start[0..next], repeated, &end[0..size])
 }

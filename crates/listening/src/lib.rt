@@ -8,7 +8,6 @@ use decision::Settings;
 use node::Answer;
 
 // The node's answer for a PDU, and the table's number for it: 0, or 55 where its source is new while there is no room for another.
-#[repr(C)]
 pub struct Listened {
     pub answer: Answer,
     pub table_number: u8,

@@ -6,43 +6,44 @@ ghost use Rattle.writing.specs.Writing.{writeAgain, writtenAgain};
 ghost use Rattle.origin.specs.Origination.{originated, originatedOutput};
 ghost use Rattle.lists.specs.Lists.{listsOf, listFault, holds};
 ghost use Rattle.decision.specs.Decision.{nodeOf};
-ghost use Rattle.node.specs.Answers.{Hears};
 ghost use Rattle.bound.specs.Bound.{bound, bytesBound};
 ghost use Rattle.bound.specs.Answer.{answer};
 ghost use Rattle.stations.specs.Table.{capacity, tableIn};
 ghost use Rattle.stations.specs.Asking.{stationOf, foundAt};
 ghost use Rattle.counting.specs.Counting.{countNumber, memoryAfterCount};
 ghost use Rattle.counting.specs.Removing.{removalNumber, memoryAfterRemoval};
-ghost use Rattle.listening.specs.Listening.{answerNumber, memoryAfterAnswer, Listens};
+ghost use Rattle.listening.specs.Listening.{answerNumber, memoryAfterAnswer};
 ghost use Rattle.exchange.specs.Exchange.{exchangeOf};
 ghost use Rattle.exchange.specs.Encoding.{writtenExchange, exchangeOutput};
-ghost use Rattle.boundary.specs.Boundary.{headerInC, pathAddressIn, pathHas, freshFromC, StepsInC, boundInC, limitsInC};
+ghost use Rattle.boundary.specs.Boundary.{headerInC, pathAddressIn, pathHas, freshFromC, boundInC, limitsInC};
+ghost use Rattle.boundary.specs.Boundary.{HearsInC, StepsInC, answerFromC, ListensInC};
 use batch::Cursor;
+use boundary::MantAnswer;
 use boundary::MantBound;
 use boundary::MantFresh;
 use boundary::MantHeader;
 use boundary::MantLimits;
+use boundary::MantListened;
 use boundary::MantStep;
 use counting::Heard;
 use decision::Settings;
 use exchange::Exchange;
-use listening::Listened;
-use node::Answer;
 use pdu::Reading;
 use pdu::Written;
 use stations::Found;
 
-// The header of the PDU at the start of `bytes`, or the number, 1 to 6, of why there is none. Bytes after the PDU are not looked at.
-// Document 01, "Header, byte by byte", and "Numbers answered", 1 to 6.
+// The header of the PDU at the start of `bytes` and its last sender, or the number, 1 to 6, of why there is none. Bytes after the PDU are not looked at.
+// Document 01, "Header, byte by byte", and "Numbers answered", 1 to 6; document 02, W-205.
 #[no_mangle]
 pub extern "C" fn mant_read(bytes: &[u8]) -> MantHeader
-    ensures { λ r. ⌜ r ≡ headerInC (readOf (now (bytes .entry))) ⌝ }
+    ensures { λ r. ⌜ r ≡ headerInC (readOf (now (bytes .entry))) (now (bytes .entry)) ⌝ }
 {
     let number = pdu::fault(bytes);
     if number != 0 {
         return boundary::refused_header(number);
     }
-    boundary::shown_header(pdu::header_of(bytes))
+    let header = pdu::header_of(bytes);
+    boundary::shown_header(header, pdu::parts::last_sender(bytes, header))
 }
 
 // The address at place `i` of the path of the PDU at the start of `bytes`, the first at 0. 0 past the last one, and where there is no PDU.
@@ -123,7 +124,8 @@ pub extern "C" fn mant_list_holds(list: &[u16], address: u16) -> bool
 
 // What a node answers for the PDU at the start of the received bytes. Faults of the lists (20 to 22) and of reading (1 to 6), 30 to 34, 40 and 42 are
 // answered as both numbers, and nothing is delivered then. The repeated PDU is written at the start of the output where the repeat number is 0, and
-// the output keeps its bytes past it; with any other repeat number the output is left as it was. Document 01, "One PDU at one node".
+// the output keeps its bytes past it; with any other repeat number the output is left as it was. The last sender is told with every number but those of
+// the lists and of reading. Document 01, "One PDU at one node"; document 02, W-205.
 #[no_mangle]
 pub extern "C" fn mant_hear<'a>(
     settings: Settings,
@@ -133,12 +135,12 @@ pub extern "C" fn mant_hear<'a>(
     destination_reject: &'a [u16],
     received: &[u8],
     output: &mut [u8],
-) -> Answer
-    ensures { λ r. ⌜ Hears (nodeOf settings (listsOf (now («source_pass» .entry)) (now («source_reject» .entry))
+) -> MantAnswer
+    ensures { λ r. ⌜ HearsInC (nodeOf settings (listsOf (now («source_pass» .entry)) (now («source_reject» .entry))
         (now («destination_pass» .entry)) (now («destination_reject» .entry))))
         (now (received .entry)) (now (output .entry)) r (now (output .exit)) ⌝ }
 {
-    node::hear(
+    let answer = node::hear(
         settings,
         source_pass,
         source_reject,
@@ -146,7 +148,8 @@ pub extern "C" fn mant_hear<'a>(
         destination_reject,
         received,
         output,
-    )
+    );
+    boundary::answer_in_c(answer)
 }
 
 // One step of the walk over a batch: the node's answer for the PDU at the cursor, and the cursor of the next. With a number 1 to 6 or a fault of the
@@ -262,11 +265,11 @@ pub extern "C" fn mant_count_heard(table: &mut [u16], heard: Heard) -> u8
 // Counts the PDU at the start of `received` by what a node answered for it, as after a step of a walk; nothing where no PDU was read. Answers the
 // table's number, 0 or 55. Of an answer that is not for these bytes, what they hold is counted. Document 02, W-201.
 #[no_mangle]
-pub extern "C" fn mant_count_answer(table: &mut [u16], received: &[u8], answer: Answer) -> u8
-    ensures { λ r. ⌜ (r ≡ answerNumber answer (now (received .entry)) (now (table .entry)))
-        × (now (table .exit) ≡ memoryAfterAnswer answer (now (received .entry)) (now (table .entry))) ⌝ }
+pub extern "C" fn mant_count_answer(table: &mut [u16], received: &[u8], answer: MantAnswer) -> u8
+    ensures { λ r. ⌜ (r ≡ answerNumber (answerFromC answer) (now (received .entry)) (now (table .entry)))
+        × (now (table .exit) ≡ memoryAfterAnswer (answerFromC answer) (now (received .entry)) (now (table .entry))) ⌝ }
 {
-    listening::count_answer(table, received, answer)
+    listening::count_answer(table, received, boundary::answer_from_c(answer))
 }
 
 // What `mant_hear` answers and leaves, whatever the table holds; and the PDU counted in the table, if it could be read. The table's number stands beside
@@ -281,12 +284,12 @@ pub extern "C" fn mant_hear_and_count<'a>(
     received: &[u8],
     output: &mut [u8],
     table: &mut [u16],
-) -> Listened
-    ensures { λ r. ⌜ Listens (nodeOf settings (listsOf (now («source_pass» .entry)) (now («source_reject» .entry))
+) -> MantListened
+    ensures { λ r. ⌜ ListensInC (nodeOf settings (listsOf (now («source_pass» .entry)) (now («source_reject» .entry))
         (now («destination_pass» .entry)) (now («destination_reject» .entry))))
         (now (received .entry)) (now (output .entry)) (now (table .entry)) r (now (output .exit)) (now (table .exit)) ⌝ }
 {
-    listening::hear(
+    let listened = listening::hear(
         settings,
         source_pass,
         source_reject,
@@ -295,7 +298,8 @@ pub extern "C" fn mant_hear_and_count<'a>(
         received,
         output,
         table,
-    )
+    );
+    boundary::listened_in_c(listened)
 }
 
 // Reads a serial exchange: 0 with place and length of header and payload in `bytes`; or 57 or 58, 59, 1 to 6, 63, with zeros. Document 02, W-202.

@@ -4,3 +4,4 @@ pub mod Chain
 pub mod Encoded
 pub mod Heard
 pub mod ShutOut
+pub mod Neighbour

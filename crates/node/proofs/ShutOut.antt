@@ -11,14 +11,16 @@ use lib.ListN.{length, take, drop, replicate, length-take}
 use borrow.Author.Tests.{ne-eqb}
 use Rattle.octets.specs.Numbers.{_gives_, _orElse_}
 use Rattle.octets.specs.Octets.{at, over}
+use Rattle.pdu.specs.declared.Sender.the-variants.{Unknown, Known}
 use Rattle.pdu.specs.Header.{headerOf}
 use Rattle.pdu.specs.Reading.{readOf}
-use Rattle.pdu.specs.Parts.{addressesAt, inPath}
+use Rattle.pdu.specs.Parts.{addressesAt, inPath, lastOr}
 use Rattle.lists.specs.Lists.{listsOf, lowAboveHigh, faultOf, firstFault}
 use Rattle.node.specs.declared.Answer.{Answer}
 use Rattle.decision.specs.Decision.{Node, echoFault, passFault, dropFault, deliveryFault, repeatFault}
 use Rattle.node.specs.Repeat.{repeated}
-use Rattle.node.specs.Answers.{listOrReadingFault, stopFault, deliveryNumber, repeatNumber, taken, answerOf, twice, outputAfter, Hears}
+use Rattle.node.specs.Answers.{listOrReadingFault, stopFault, deliveryNumber, repeatNumber, taken, heardFrom, answerOf, twice, outputAfter}
+use Rattle.node.specs.Answers.{Hears}
 
 -- a node of an address, repeating, echo on or off, its source pass list on or off, no other list on, and all of them empty
 abbrev nodeWith : ℕ → Bool → Bool → Node
@@ -77,21 +79,29 @@ forOwn = 0x01 ∷ 0x00 ∷ 0x10 ∷ 0x00 ∷ 0x03 ∷ 0xE8 ∷ 0x07 ∷ 0xD0 ∷
 -- what the definitions give for these
 record Given : Type 0 where
   is-repeated : answerOf (nodeAt 2000) 100 example
-      ≡ record { delivery = 39; repeat = 0; «delivered_place» = 0; «delivered_length» = 0; «repeated_length» = 22; taken = 20 }
+      ≡ record {
+        delivery = 39;
+        repeat = 0;
+        «delivered_place» = 0;
+        «delivered_length» = 0;
+        «repeated_length» = 22;
+        taken = 20;
+        «last_sender» = Known 1000;
+      }
   is-copied : take 22 (outputAfter (nodeAt 2000) example zeros) ≡ exampleRepeated
-  is-echo : answerOf (nodeAt 2000) 100 exampleRepeated ≡ twice 30 22
-  is-unread : answerOf (nodeAt 2000) 100 [] ≡ twice 1 0
+  is-echo : answerOf (nodeAt 2000) 100 exampleRepeated ≡ twice 30 22 (Known 2000)
+  is-unread : answerOf (nodeAt 2000) 100 [] ≡ twice 1 0 Unknown
   is-another's : answerOf (nodeAt 2000) 100 addedHeader .delivery ≡ 39
-  is-own : answerOf (nodeAt 2000) 100 ownReport ≡ twice 42 6
-  is-own-with-path : answerOf (nodeAt 2000) 100 ownReportWithPath ≡ twice 42 9
-  is-echo-and-own : answerOf (nodeAt 2000) 100 ownReportEchoed ≡ twice 30 9
-  is-own-and-listed : answerOf (nodeWith 2000 true true) 100 ownReport ≡ twice 42 6
+  is-own : answerOf (nodeAt 2000) 100 ownReport ≡ twice 42 6 Unknown
+  is-own-with-path : answerOf (nodeAt 2000) 100 ownReportWithPath ≡ twice 42 9 (Known 5)
+  is-echo-and-own : answerOf (nodeAt 2000) 100 ownReportEchoed ≡ twice 30 9 (Known 2000)
+  is-own-and-listed : answerOf (nodeWith 2000 true true) 100 ownReport ≡ twice 42 6 Unknown
   is-own-with-echo-off : answerOf (nodeWith 2000 false false) 100 ownReport .repeat ≡ 0
   is-for-own : answerOf (nodeAt 2000) 100 forOwn .repeat ≡ 41
 
 given : Given
 unfolding answerOf outputAfter deliveryNumber repeatNumber stopFault listOrReadingFault dropFault echoFault passFault deliveryFault
-    repeatFault taken repeated over readOf headerOf addressesAt inPath firstFault faultOf lowAboveHigh _gives_ _orElse_
+    repeatFault taken heardFrom repeated over readOf headerOf addressesAt inPath lastOr firstFault faultOf lowAboveHigh _gives_ _orElse_
 given =
     record {
       is-repeated = refl;

@@ -1,4 +1,5 @@
--- Document 01, "One PDU at one node" and "Numbers answered": what a node answers, as one value, and what it leaves in its output.
+-- Document 01, "One PDU at one node" and "Numbers answered": what a node answers, as one value, and what it leaves in its output. Document 02, W-205: the
+-- answer carries the last sender.
 use Prim.Native.Nat.{ℕ}
 use mathlib.Core.Bool.{cond, _&&_}
 use mathlib.Core.List.{List, []}
@@ -8,10 +9,12 @@ use lib.ListN.{length}
 use Rattle.octets.specs.Numbers.{_gives_, _orElse_}
 use Rattle.octets.specs.Octets.{over}
 use Rattle.pdu.specs.declared.Header.{Header}
+use Rattle.pdu.specs.declared.Sender.{Sender}
+use Rattle.pdu.specs.declared.Sender.the-variants.{Unknown}
 use Rattle.pdu.specs.Header.{headerOf}
 use Rattle.pdu.specs.Sizes.{headerLength, pduLength}
 use Rattle.pdu.specs.Reading.{readOf, readingNumber}
-use Rattle.pdu.specs.Parts.{payloadIn}
+use Rattle.pdu.specs.Parts.{payloadIn, lastSender}
 use Rattle.lists.specs.Lists.{listFault}
 use Rattle.decision.specs.declared.Settings.{Settings}
 use Rattle.decision.specs.Decision.{Node, dropFault, deliveryFault, repeatFault}
@@ -48,8 +51,12 @@ delivered node room received = cond (eqb (deliveryNumber node room received) 0) 
 unfoldable pub taken : Node → List ℕ → ℕ
 taken node received = cond (eqb (listOrReadingFault node received) 0) (pduLength (headerOf received)) 0
 
+-- who the PDU was heard from (document 02, W-205), whenever it was read; unknown where a list is at fault or it can't be read
+unfoldable pub heardFrom : Node → List ℕ → Sender
+heardFrom node received = cond (eqb (listOrReadingFault node received) 0) (lastSender (headerOf received) received) Unknown
+
 -- the two numbers; where the delivered payload lies in the received bytes, 0 and 0 where nothing is delivered; the length of the repeated PDU, 0
--- where nothing is repeated; where the next PDU begins, also where a number from 30 on was given: a walk goes on there
+-- where nothing is repeated; where the next PDU begins, also where a number from 30 on was given: a walk goes on there; and who it was heard from
 unfoldable pub answerOf : Node → ℕ → List ℕ → Answer
 answerOf node room received =
     record {
@@ -59,12 +66,21 @@ answerOf node room received =
       «delivered_length» = cond (eqb (deliveryNumber node room received) 0) (headerOf received .«payload_length») 0;
       «repeated_length» = cond (eqb (repeatNumber node room received) 0) (repeatedLength (headerOf received)) 0;
       taken = taken node received;
+      «last_sender» = heardFrom node received;
     }
 
 -- one number given twice: nothing is delivered and nothing repeated
-abbrev pub twice : ℕ → ℕ → Answer
-twice number next =
-    record { delivery = number; repeat = number; «delivered_place» = 0; «delivered_length» = 0; «repeated_length» = 0; taken = next }
+abbrev pub twice : ℕ → ℕ → Sender → Answer
+twice number next sender =
+    record {
+      delivery = number;
+      repeat = number;
+      «delivered_place» = 0;
+      «delivered_length» = 0;
+      «repeated_length» = 0;
+      taken = next;
+      «last_sender» = sender;
+    }
 
 -- the output changes only where the repeat number is 0
 unfoldable pub outputAfter : Node → List ℕ → List ℕ → List ℕ

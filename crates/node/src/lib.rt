@@ -6,19 +6,20 @@ ghost use Rattle.octets.specs.Octets.{IsPart};
 ghost use Rattle.pdu.specs.declared.Reading.the-variants.{Pdu};
 ghost use Rattle.pdu.specs.Sizes.{headerLength, pduLength};
 ghost use Rattle.pdu.specs.Reading.{readOf};
+ghost use Rattle.pdu.specs.Parts.{lastSender};
 ghost use Rattle.lists.specs.Lists.{Lists, listsOf};
 ghost use Rattle.decision.specs.Decision.{nodeOf, dropFault};
 ghost use Rattle.node.specs.Answers.{listOrReadingFault, twice, Hears};
 use decision::Settings;
 use pdu::Header;
 use pdu::Reading;
+use pdu::Sender;
 
 mod repeat;
 
 // What a node answers for one PDU. The delivered payload lies at `delivered_place` in the received bytes; place and length are 0 where nothing is
 // delivered. `repeated_length` is 0 where nothing is repeated. `taken` is where the next PDU begins in the received bytes, and 0 where a list is at
-// fault or no PDU can be read.
-#[repr(C)]
+// fault or no PDU can be read. `last_sender` is who the PDU was heard from, whenever it was read, and unknown where `taken` is 0.
 pub struct Answer {
     pub delivery: u8,
     pub repeat: u8,
@@ -26,12 +27,14 @@ pub struct Answer {
     pub delivered_length: usize,
     pub repeated_length: usize,
     pub taken: usize,
+    pub last_sender: Sender,
 }
 
 // What the node answers for the PDU at the start of `received`: document 01's order, lists first, then reading, echo, the lists' tests, delivery and
 // repeating. Faults of the lists (20 to 22) and of reading (1 to 6), 30 to 34, 40 and 42 are answered as both numbers, and nothing is delivered then. Any
 // settings, lists, bytes and output get an answer. The output changes only where the repeat number is 0, and then only the bytes of the repeated PDU
-// at its start. Document 01, "One PDU at one node", 1 to 6, and its last paragraph for the bytes of the repeat.
+// at its start. The last sender is told with every number but those of the lists and of reading. Document 01, "One PDU at one node", 1 to 6, and its
+// last paragraph for the bytes of the repeat; document 02, W-205.
 pub fn hear<'a>(
     settings: Settings,
     source_pass: &'a [u16],
@@ -52,12 +55,13 @@ pub fn hear<'a>(
         destination_reject,
     );
     if fault != 0 {
-        return twice(fault, 0);
+        return twice(fault, 0, Sender::Unknown);
     }
     let reading = pdu::read(received);
     let Reading::Pdu(header) = reading else {
-        return twice(pdu::reading_number(reading), 0);
+        return twice(pdu::reading_number(reading), 0, Sender::Unknown);
     };
+    let sender = pdu::parts::last_sender(received, header);
     let number = decision::drop_fault(
         settings,
         source_pass,
@@ -68,14 +72,20 @@ pub fn hear<'a>(
         received,
     );
     if number != 0 {
-        return twice(number, header.pdu_length());
+        return twice(number, header.pdu_length(), sender);
     }
-    decide(settings, received, header, output)
+    decide(settings, received, header, sender, output)
 }
 
 // Delivery and repeating, of a PDU that no earlier number stopped.
-fn decide(settings: Settings, received: &[u8], header: Header, output: &mut [u8]) -> Answer
-    requires { ⌜ readOf (now received) ≡ Pdu header ⌝ }
+fn decide(
+    settings: Settings,
+    received: &[u8],
+    header: Header,
+    sender: Sender,
+    output: &mut [u8],
+) -> Answer
+    requires { ⌜ (readOf (now received) ≡ Pdu header) × (sender ≡ lastSender header (now received)) ⌝ }
     ensures { λ r. ⌜ ((lists : Lists) → listOrReadingFault (nodeOf settings lists) (now (received .entry)) ≡ 0
         → dropFault (nodeOf settings lists) header (now (received .entry)) ≡ 0
         → Hears (nodeOf settings lists) (now (received .entry)) (now (output .entry)) r (now (output .exit))) ⌝ }
@@ -83,19 +93,19 @@ fn decide(settings: Settings, received: &[u8], header: Header, output: &mut [u8]
     let delivery = decision::delivery_fault(settings, header);
     let repeat = decision::repeat_fault(settings, header);
     if repeat != 0 {
-        return answered(header, delivery, repeat, 0);
+        return answered(header, sender, delivery, repeat, 0);
     }
     let size = repeat::repeated_length(header);
     if output.len() < size {
-        return twice(40, header.pdu_length());
+        return twice(40, header.pdu_length(), sender);
     }
     repeat::put_repeat(settings, received, header, output);
-    answered(header, delivery, 0, size)
+    answered(header, sender, delivery, 0, size)
 }
 
 // One number given twice: nothing is delivered and nothing repeated. The next PDU begins at `next`.
-fn twice(number: u8, next: usize) -> Answer
-    ensures { λ r. ⌜ r ≡ twice number next ⌝ }
+fn twice(number: u8, next: usize, sender: Sender) -> Answer
+    ensures { λ r. ⌜ r ≡ twice number next sender ⌝ }
 {
     Answer {
         delivery: number,
@@ -104,10 +114,11 @@ fn twice(number: u8, next: usize) -> Answer
         delivered_length: 0,
         repeated_length: 0,
         taken: next,
+        last_sender: sender,
     }
 }
 
-fn answered(header: Header, delivery: u8, repeat: u8, size: usize) -> Answer
+fn answered(header: Header, sender: Sender, delivery: u8, repeat: u8, size: usize) -> Answer
     ensures { λ r. ⌜ r ≡ record {
       delivery = delivery;
       repeat = repeat;
@@ -115,6 +126,7 @@ fn answered(header: Header, delivery: u8, repeat: u8, size: usize) -> Answer
       «delivered_length» = cond (eqb delivery 0) (header .«payload_length») 0;
       «repeated_length» = size;
       taken = pduLength header;
+      «last_sender» = sender;
     } ⌝ }
 {
     let taken = header.pdu_length();
@@ -126,6 +138,7 @@ fn answered(header: Header, delivery: u8, repeat: u8, size: usize) -> Answer
             delivered_length: header.payload_length as usize,
             repeated_length: size,
             taken,
+            last_sender: sender,
         };
     }
     Answer {
@@ -135,6 +148,7 @@ fn answered(header: Header, delivery: u8, repeat: u8, size: usize) -> Answer
         delivered_length: 0,
         repeated_length: size,
         taken,
+        last_sender: sender,
     }
 }
 

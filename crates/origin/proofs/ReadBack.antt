@@ -9,9 +9,11 @@ use Rattle.octets.specs.Numbers.{flag}
 use Rattle.octets.specs.Octets.{over}
 use Rattle.pdu.specs.declared.Header.{Header}
 use Rattle.pdu.specs.declared.Reading.the-variants.{Pdu}
+use Rattle.pdu.specs.declared.Sender.the-variants.{Known}
 use Rattle.pdu.specs.Sizes.{pduLength}
 use Rattle.pdu.specs.Reading.{readOf}
-use Rattle.pdu.specs.Parts.{pathIn, payloadIn}
+use Rattle.pdu.specs.Parts.{pathIn, payloadIn, lastSender}
+use Rattle.pdu.proofs.Senders.{sender-empty}
 use Rattle.writing.specs.Writing.{WellFormed}
 use Rattle.writing.proofs.Back.{length-encode, read-encode, path-encode, payload-encode}
 use Rattle.origin.specs.declared.Settings.{Settings}
@@ -60,6 +62,12 @@ module _ (settings : Settings) (payload : List ℕ) (room : ℕ) (done : origina
   fresh-back rest =
       let ok = fresh-well-formed (accepted settings payload room done) in
       record { reads = read-encode ok rest; no-path = path-encode ok rest; carries = payload-encode ok rest }
+
+  -- a fresh PDU with a path is heard from its source (document 02, W-205)
+  pub fresh-sender : settings .«with_path» ≡ true → (rest : List ℕ)
+      → lastSender (freshHeader settings (length payload)) (fresh settings payload ++ rest) ≡ Known (settings .source)
+  unfolding freshHeader
+  fresh-sender bit rest = sender-empty (freshHeader settings (length payload)) (fresh settings payload ++ rest) bit (fresh-back rest .no-path)
 
 same-header : (a b : Header) → Pdu a ≡ Pdu b → a ≡ b
 same-header a b e = cc

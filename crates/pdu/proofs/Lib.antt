@@ -4,3 +4,4 @@ pub mod Inversion
 pub mod Faults
 pub mod Number
 pub mod Exact
+pub mod Senders

@@ -19,6 +19,12 @@ pub enum Destination {
     Address(u16),
 }
 
+// Who a PDU was heard from: the last node that sent it, where that is known. Address 0 is an address like any other.
+pub enum Sender {
+    Unknown,
+    Known(u16),
+}
+
 // The fields of a header, in the order of document 01's table. A PDU ID or path count that the PDU does not have is 0.
 pub struct Header {
     pub protocol: u8,

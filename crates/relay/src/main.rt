@@ -7,7 +7,7 @@ ghost use Rattle.run.specs.Run.{inputRoom, textRoom, PrintedForAll};
 const INPUT_ROOM: usize = 17418;
 
 // Room for the lines of every job.
-const TEXT_ROOM: usize = 81966;
+const TEXT_ROOM: usize = 98352;
 
 fn main() {
     let mut bytes = [0u8; INPUT_ROOM];

@@ -17,7 +17,7 @@ use Rattle.pdu.specs.Header.{headerOf}
 use Rattle.node.specs.declared.Answer.{Answer}
 use Rattle.decision.specs.Decision.{Node}
 use Rattle.node.specs.Repeat.{repeated, repeatedLength}
-use Rattle.node.specs.Answers.{listOrReadingFault, deliveryNumber, repeatNumber, taken, answerOf, outputAfter}
+use Rattle.node.specs.Answers.{listOrReadingFault, deliveryNumber, repeatNumber, taken, heardFrom, answerOf, outputAfter}
 use Rattle.node.proofs.Heard.{repeats}
 use Rattle.node.proofs.Repeating.{length-repeated}
 use Rattle.batch.specs.declared.Cursor.{Cursor}
@@ -156,6 +156,7 @@ module _ (node : Node) (batch : List ℕ) where
     pub fits : answer .«repeated_length» ≤ roomForOne
     pub delivery : answer .delivery ≡ deliveryNumber node roomForOne received
     pub repeat : answer .repeat ≡ repeatNumber node roomForOne received
+    pub sender : answer .«last_sender» ≡ heardFrom node received
 
   pub printed : (received output now : List ℕ) (answer : Answer) → length output ≡ roomForOne → answer ≡ answerOf node roomForOne received
       → now ≡ outputAfter node received output → Printed received now answer
@@ -175,6 +176,7 @@ module _ (node : Node) (batch : List ℕ) where
             fits = omega (arith, n, same, r .fits);
             delivery = ap (λ (a : Answer). a .delivery) ea;
             repeat = ap (λ (a : Answer). a .repeat) ea;
+            sender = ap (λ (a : Answer). a .«last_sender») ea;
           }
       pick false e =
           let n : answer .«repeated_length» ≡ 0 = ap (λ (a : Answer). a .«repeated_length») ea ∙ simp e in
@@ -183,6 +185,7 @@ module _ (node : Node) (batch : List ℕ) where
             fits = omega (arith, n);
             delivery = ap (λ (a : Answer). a .delivery) ea;
             repeat = ap (λ (a : Answer). a .repeat) ea;
+            sender = ap (λ (a : Answer). a .«last_sender») ea;
           }
 
   -- what is left to do, for the loop's end
@@ -216,13 +219,13 @@ module _ (node : Node) (batch : List ℕ) where
     pub going-next : (text₀ text repeated now part text′ : List ℕ) (place₀ place place′ lines : ℕ)
         → Going text₀ place₀ text repeated place lines offset ended → Printed (drop offset batch) now answer → length now ≡ roomForOne
         → part ≡ take (answer .«repeated_length») now
-        → (place′ ≡ placeAfter text place (pduLine (lines + 1) offset (answer .delivery) (answer .repeat) part))
-        × (text′ ≡ placed text place (pduLine (lines + 1) offset (answer .delivery) (answer .repeat) part))
+        → (place′ ≡ placeAfter text place (pduLine (lines + 1) offset (answer .delivery) (answer .repeat) part (answer .«last_sender»)))
+        × (text′ ≡ placed text place (pduLine (lines + 1) offset (answer .delivery) (answer .repeat) part (answer .«last_sender»)))
         → Going text₀ place₀ text′ now place′ (lines + 1) (next .place) (next .ended)
     going-next text₀ text repeated now part text′ place₀ place place′ lines g p room ep e =
         let few = g .fewer (w .running) in
-        let line : pduLine (lines + 1) offset (answer .delivery) (answer .repeat) part ≡ lineAt node batch (lines + 1) offset =
-        rw (p .delivery, p .repeat, ep, p .part) in
+        let line : pduLine (lines + 1) offset (answer .delivery) (answer .repeat) part (answer .«last_sender») ≡ lineAt node batch (lines + 1) offset =
+        rw (p .delivery, p .repeat, p .sender, ep, p .part) in
         let run : Went short offset false answer next = record { running = refl; inside = w .inside; answered = w .answered; moves = w .moves } in
         record {
           few = omega (arith, place-next);

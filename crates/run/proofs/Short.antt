@@ -1,4 +1,4 @@
--- How many characters a job prints: at most 5 for each byte of its batch, and 46 more.
+-- How many characters a job prints: at most 6 for each byte of its batch, and 48 more.
 use Prim.Native.Nat.{ℕ, zero, suc, _+_, _*_, _≤_, _<_}
 use native.Mathlib.Omega.{arith}
 use mathlib.Core.Bool.{Bool, true, false, cond}
@@ -10,29 +10,35 @@ use borrow.Author.Tests.{le-ltb, leb-false, eq-eqb, ne-eqb, eqb-true, eqb-false}
 use Rattle.octets.specs.Numbers.{flag}
 use Rattle.octets.proofs.Numbering.{orElse-zero}
 use Rattle.octets.specs.Octets.{AllBytes}
+use Rattle.octets.proofs.Words.{bytes-take, bytes-drop}
+use Rattle.pdu.specs.declared.Sender.{Sender}
+use Rattle.pdu.specs.declared.Sender.the-variants.{Unknown, Known}
 use Rattle.pdu.specs.Header.{headerOf}
 use Rattle.pdu.specs.Sizes.{pduLength}
 use Rattle.pdu.specs.Reading.{readOf, readingNumber}
+use Rattle.pdu.specs.Parts.{pathIn, lastOr, lastSender}
 use Rattle.pdu.proofs.Number.{reading-within}
+use Rattle.pdu.proofs.Senders.{sender-small}
 use Rattle.lists.specs.Lists.{faultOf, firstFault}
 use Rattle.node.specs.declared.Answer.{Answer}
 use Rattle.decision.specs.Decision.{Node, echoFault, passFault, dropFault, deliveryFault, repeatFault}
 use Rattle.node.specs.Repeat.{repeated, repeatedLength}
-use Rattle.node.specs.Answers.{listOrReadingFault, stopFault, deliveryNumber, repeatNumber, taken}
+use Rattle.node.specs.Answers.{listOrReadingFault, stopFault, deliveryNumber, repeatNumber, taken, heardFrom}
+use Rattle.node.proofs.Answering.{read-sender, unread-sender}
 use Rattle.node.proofs.Heard.{repeats}
 use Rattle.node.proofs.Repeating.{length-repeated}
 use Rattle.batch.specs.Walk.{batchLimit, Walk, endingAt, before, walkFrom, walk}
 use Rattle.batch.proofs.Stepping.{taken-within}
 use Rattle.batch.proofs.Walking.{answer, walk-none, walk-end, walk-more}
 use Rattle.text.specs.Text.{decimal}
-use Rattle.lines.specs.Lines.{shown, firstLine, lastLine, refusedLine}
-use Rattle.text.proofs.Decimal.{length-decimal}
+use Rattle.lines.specs.Lines.{shown, senderShown, firstLine, lastLine, refusedLine}
+use Rattle.text.proofs.Decimal.{length-decimal, decimal-of-16-bits}
 use Rattle.lines.proofs.Shown.{length-shown, shown-within}
 use Rattle.lines.proofs.Lines.{first-line-at-most, refused-line-at-most, pdu-line-at-most, last-line-at-most}
 use Rattle.job.specs.declared.Job.{Job}
 use Rattle.job.specs.declared.Reading.{Reading}
 use Rattle.job.specs.declared.Reading.the-variants as reading
-use Rattle.job.specs.Jobs.{readingNumber as jobNumber, jobOf, settingsOf, listsIn, batchIn, nodeIn}
+use Rattle.job.specs.Jobs.{readingNumber as jobNumber, jobOf, batchIn, nodeIn}
 use Rattle.job.proofs.Inversion.{job-in, own-small}
 use Rattle.job.proofs.Within.{gives-within, orElse-within, number-within}
 use Rattle.run.specs.Run.{roomForOne, repeatedOrNone, lineAt, pduLines, walkLines, batchLines, jobLines, runLines, printed, textRoom}
@@ -100,57 +106,76 @@ read-taken : (node : Node) (received : List ℕ) → listOrReadingFault node rec
 unfolding taken
 read-taken node received z = rw (eq-eqb _ 0 z)
 
+-- the last sender has at most 5 digits, and is `-` without the path bit
+sender-within : (bytes : List ℕ) → AllBytes bytes
+    → length (senderShown (lastSender (headerOf bytes) bytes)) ≤ 1 + 4 * flag (headerOf bytes .«path_bit»)
+sender-within bytes small = go (headerOf bytes .«path_bit»)
+  where
+    go : (bit : Bool) → length (senderShown (cond bit (Known (lastOr (headerOf bytes .source) (pathIn (headerOf bytes) bytes))) Unknown))
+        ≤ 1 + 4 * flag bit
+    go true = omega (arith, decimal-of-16-bits (lastOr (headerOf bytes .source) (pathIn (headerOf bytes) bytes)) (sender-small bytes small))
+    go false = omega arith
+
 -- one line
-module _ (node : Node) (batch : List ℕ) (number offset : ℕ) (few : number < 10000) (near : offset < 100000) where
+module _ (node : Node) (batch : List ℕ) (bytes : AllBytes batch) (number offset : ℕ) (few : number < 10000) (near : offset < 100000) where
   abbrev received : List ℕ
   received = drop offset batch
+
+  abbrev sender : Sender
+  sender = heardFrom node received
 
   abbrev repeatOf : ℕ
   repeatOf = repeatNumber node roomForOne received
 
   line-within : length (lineAt node batch number offset)
-      ≤ 16 + length (decimal repeatOf) + length (shown (repeatedOrNone node received))
+      ≤ 17 + length (decimal repeatOf) + length (shown (repeatedOrNone node received)) + length (senderShown sender)
   line-within =
       let d : deliveryNumber node roomForOne received < 100 = omega (arith, delivery-within node received) in
-      pdu-line-at-most number offset _ repeatOf (repeatedOrNone node received) few near d
+      pdu-line-at-most number offset _ repeatOf (repeatedOrNone node received) sender few near d
 
-  line-not-repeated : eqb repeatOf 0 ≡ false → length (lineAt node batch number offset) ≤ 19
+  line-not-repeated : eqb repeatOf 0 ≡ false → length (lineAt node batch number offset) ≤ 20 + length (senderShown sender)
   line-not-repeated e =
       let none : repeatedOrNone node received ≡ [] = rw e in
       let digits = length-decimal 1 repeatOf (omega (arith, repeat-within node received)) in
       omega (arith, line-within, digits, ap length (ap shown none), length-shown [])
 
+  sender-read : listOrReadingFault node received ≡ 0 → length (senderShown sender) ≤ 1 + 4 * flag (headerOf received .«path_bit»)
+  sender-read z = rw (read-sender node received [] z) (sender-within received (bytes-drop offset batch bytes))
+
   -- a repeat is 2 bytes longer than what was received, with the path bit, and that has 7 bytes at least
-  line-repeated : eqb repeatOf 0 ≡ true → length (lineAt node batch number offset) ≤ 5 * pduLength (headerOf received)
-  line-repeated e =
+  line-repeated : listOrReadingFault node received ≡ 0 → eqb repeatOf 0 ≡ true
+      → length (lineAt node batch number offset) ≤ 6 * pduLength (headerOf received)
+  line-repeated read e =
       let z = eqb-true repeatOf 0 e in
       let r = repeats node roomForOne received z in
       let s = r .ready .shown in
       let one : repeatedOrNone node received ≡ repeated (node .settings .own) received = rw e in
       let long = ap length one ∙ length-repeated received [] (node .settings .own) (r .header) (s .is) (s .ends) ∙ ap repeatedLength (s .is) in
       let hex = shown-within (repeatedOrNone node received) (repeatedLength (headerOf received)) (omega (arith, long)) (omega arith) in
-      omega (arith, line-within, hex, length-decimal 0 repeatOf (omega arith), flag-within (headerOf received .«path_bit»))
+      omega (arith, line-within, hex, length-decimal 0 repeatOf (omega arith), sender-read read, flag-within (headerOf received .«path_bit»))
 
-  -- of a PDU that was read: 5 characters a byte
+  -- of a PDU that was read: 6 characters a byte
   line-of-read : listOrReadingFault node received ≡ 0
-      → (length (lineAt node batch number offset) ≤ 5 * taken node received) × (6 ≤ taken node received)
+      → (length (lineAt node batch number offset) ≤ 6 * taken node received) × (6 ≤ taken node received)
   line-of-read z = (go (eqb repeatOf 0) refl, omega (arith, size))
     where
       size : taken node received ≡ pduLength (headerOf received)
       size = read-taken node received z
 
-      go : (yes : Bool) → eqb repeatOf 0 ≡ yes → length (lineAt node batch number offset) ≤ 5 * taken node received
-      go true e = omega (arith, line-repeated e, size)
-      go false e = omega (arith, line-not-repeated e, size)
+      go : (yes : Bool) → eqb repeatOf 0 ≡ yes → length (lineAt node batch number offset) ≤ 6 * taken node received
+      go true e = omega (arith, line-repeated z e, size)
+      go false e = omega (arith, line-not-repeated e, sender-read z, flag-within (headerOf received .«path_bit»), size)
 
-  line-of-fault : (listOrReadingFault node received ≡ 0 → ⊥) → length (lineAt node batch number offset) ≤ 19
+  line-of-fault : (listOrReadingFault node received ≡ 0 → ⊥) → length (lineAt node batch number offset) ≤ 21
   unfolding repeatNumber stopFault
-  line-of-fault h = line-not-repeated (ne-eqb repeatOf 0 (λ z. h (orElse-zero _ _ (orElse-zero _ _ z .0) .0)))
+  line-of-fault h =
+      let unknown : length (senderShown sender) ≡ 1 = ap (λ (s : Sender). length (senderShown s)) (unread-sender node received [] h) in
+      omega (arith, line-not-repeated (ne-eqb repeatOf 0 (λ z. h (orElse-zero _ _ (orElse-zero _ _ z .0) .0))), unknown)
 
 -- the lines of a walk
-module _ (node : Node) (batch : List ℕ) (short : length batch ≤ batchLimit) where
+module _ (node : Node) (batch : List ℕ) (bytes : AllBytes batch) (short : length batch ≤ batchLimit) where
   record Few (printed offset : ℕ) (w : Walk) : Type 0 where
-    all : characters (pduLines node batch (printed + 1) (w .offsets)) + 5 * offset ≤ 5 * w .end + 19
+    all : characters (pduLines node batch (printed + 1) (w .offsets)) + 6 * offset ≤ 6 * w .end + 21
     within : w .end ≤ length batch
     lines : 6 * length (w .offsets) + offset ≤ w .end + 6
 
@@ -164,14 +189,14 @@ module _ (node : Node) (batch : List ℕ) (short : length batch ≤ batchLimit) 
         → Few printed offset (before offset answer w)
     unfolding pduLines
     few-read z w f =
-        let line = line-of-read node batch (printed + 1) offset (omega arith) (omega arith) z in
+        let line = line-of-read node batch bytes (printed + 1) offset (omega arith) (omega arith) z in
         let all = one-more (lineAt node batch (printed + 1) offset) (pduLines node batch (printed + 1 + 1) (w .offsets)) in
         record { all = omega (arith, all, line .0, f .all); within = f .within; lines = omega (arith, line .1, f .lines) }
 
     few-fault : (listOrReadingFault node (drop offset batch) ≡ 0 → ⊥) → Few printed offset (before offset answer (endingAt 0 offset))
     unfolding pduLines flatten
     few-fault h =
-        let line = line-of-fault node batch (printed + 1) offset (omega arith) (omega arith) h in
+        let line = line-of-fault node batch bytes (printed + 1) offset (omega arith) (omega arith) h in
         let all = one-more (lineAt node batch (printed + 1) offset) [] in
         record { all = omega (arith, all, line); within = omega arith; lines = omega arith }
 
@@ -225,6 +250,10 @@ module _ (node : Node) (batch : List ℕ) (short : length batch ≤ batchLimit) 
         last-line-at-most (0 + length (w .offsets)) (w .end) (omega (arith, f .lines, f .within)) (omega (arith, f .within)),
       )
 
+batch-bytes : (bytes : List ℕ) → AllBytes bytes → (job : Job) → AllBytes (batchIn bytes job)
+batch-bytes bytes small job =
+    bytes-take (job .batch .count) (drop (job .batch .place) bytes) (bytes-drop (job .batch .place) bytes small)
+
 -- all that a job prints has room in `textRoom` characters
 pub printed-within : (bytes : List ℕ) → AllBytes bytes → length (printed bytes) ≤ textRoom
 unfolding printed runLines
@@ -235,5 +264,5 @@ printed-within bytes small = go (jobOf bytes) refl
         let known : number < 256 = omega (arith, ap jobNumber e, number-within bytes) in
         omega (arith, one-more (refusedLine number) [], refused-line-at-most number known, none)
     go (reading.Job job) e =
-        batch-within (nodeIn bytes job) (batchIn bytes job) (batch-short bytes job _ e refl)
+        batch-within (nodeIn bytes job) (batchIn bytes job) (batch-bytes bytes small job) (batch-short bytes job _ e refl)
         (omega (arith, own-is job, own-small bytes job small (job-in bytes job e)))

@@ -9,7 +9,7 @@ use Rattle.octets.specs.Octets.{placed, placeAfter}
 use Rattle.pdu.specs.Sizes.{pduLimit}
 use Rattle.decision.specs.Decision.{Node}
 use Rattle.node.specs.Repeat.{repeated}
-use Rattle.node.specs.Answers.{deliveryNumber, repeatNumber}
+use Rattle.node.specs.Answers.{deliveryNumber, repeatNumber, heardFrom}
 use Rattle.batch.specs.Walk.{batchLimit, Walk, walk}
 use Rattle.job.specs.declared.Reading.{Reading}
 use Rattle.job.specs.declared.Reading.the-variants.{Job, Refused}
@@ -28,7 +28,7 @@ repeatedOrNone node received = cond (eqb (repeatNumber node roomForOne received)
 abbrev pub lineAt : Node → List ℕ → ℕ → ℕ → List ℕ
 lineAt node batch number offset =
     pduLine number offset (deliveryNumber node roomForOne (drop offset batch)) (repeatNumber node roomForOne (drop offset batch))
-    (repeatedOrNone node (drop offset batch))
+    (repeatedOrNone node (drop offset batch)) (heardFrom node (drop offset batch))
 
 -- a line for each offset, numbered from a number on
 unfoldable pub pduLines : Node → List ℕ → ℕ → List ℕ → List (List ℕ)
@@ -74,9 +74,9 @@ runLines bytes = jobLines bytes (jobOf bytes)
 unfoldable pub printed : List ℕ → List ℕ
 printed bytes = flatten (runLines bytes)
 
--- room for all that a job prints: 5 characters for each byte of the longest batch, and 46 for own address, a PDU that can't be read, and the end
+-- room for all that a job prints: 6 characters for each byte of the longest batch, and 48 for own address, a PDU that can't be read, and the end
 abbrev pub textRoom : ℕ
-textRoom = 5 * batchLimit + 46
+textRoom = 6 * batchLimit + 48
 
 -- room for the start of the input that decides what is printed: one byte more than the longest job has, so that a longer one is told (53)
 abbrev pub inputRoom : ℕ

@@ -16,8 +16,8 @@ use job::Reading;
 use pdu::Header;
 
 // Writes what `relay` prints for a job's bytes into the text, line after line from its start, and answers where the lines end. Any bytes get an
-// answer. A text of 81,966 bytes has room for the lines of every job, whole; in a shorter one a line that does not fit is left out, and a shorter one
-// after it may still be put. Document 01, "The program `relay`".
+// answer. A text of 98,352 bytes has room for the lines of every job, whole; in a shorter one a line that does not fit is left out, and a shorter one
+// after it may still be put. Document 01, "The program `relay`"; document 02, W-205.
 pub fn relay(bytes: &[u8], text: &mut [u8]) -> usize
     ensures { λ r. ⌜ Ran (now (bytes .entry)) (now (text .entry)) (now (text .exit)) r ⌝ }
 {
@@ -95,6 +95,7 @@ fn put_walk<'a>(
         };
         lines += 1;
         let length = answer.repeated_length;
+        let sender = answer.last_sender;
         next_place = lines::put_pdu_line(
             text,
             next_place,
@@ -103,6 +104,7 @@ fn put_walk<'a>(
             answer.delivery,
             answer.repeat,
             &repeated[..length],
+            sender,
         );
         offset = next.place;
         ended = next.ended;

@@ -6,6 +6,7 @@ use mathlib.Core.List.{List, []}
 use mathlib.Core.Path.{_≡_, refl, ap, _∙_}
 use denote.Ref.{RefT, now}
 use Rattle.pdu.specs.declared.Header.{Header}
+use Rattle.pdu.specs.declared.Sender.the-variants.{Unknown}
 use Rattle.pdu.specs.declared.Refusal.{Refusal}
 use Rattle.pdu.specs.declared.Refusal.the-variants.{TooShort, WrongVersion, UnknownProtocol, NoDestination, HeaderCut, PayloadCut}
 use Rattle.pdu.specs.declared.Reading.{Reading}
@@ -15,8 +16,8 @@ use Rattle.octets.specs.Octets.{IsPart}
 use Rattle.pdu.specs.Header.{headerOf}
 use Rattle.pdu.specs.Sizes.{headerLength, pduLength}
 use Rattle.pdu.specs.Reading.{readOf, readingNumber, refusalNumber}
-use Rattle.pdu.specs.Parts.{addressesAt, pathIn, inPath}
-use Rattle.view.specs.View.{placesOf, shownIn, headerIn}
+use Rattle.pdu.specs.Parts.{addressesAt, pathIn, inPath, lastSender}
+use Rattle.view.specs.View.{placesOf, shownIn, headerIn, lastSenderIn}
 use Rattle.pdu.proofs.Inversion.{shown}
 
 -- what `open` ensures of its view
@@ -37,6 +38,7 @@ pub record Says (view : View) (header : Header) (bytes : RefT (List ℕ)) : Type
   pub path : pathIn (headerIn (now (view .bytes)) (view .at)) (now (view .bytes)) ≡ pathIn header (now bytes)
   pub path-has : (address : ℕ)
       → inPath address (pathIn (headerIn (now (view .bytes)) (view .at)) (now (view .bytes))) ≡ inPath address (pathIn header (now bytes))
+  pub sender : lastSenderIn (now (view .bytes)) (view .at) ≡ lastSender header (now bytes)
 
 -- a view of bytes that are no PDU: the refusal's number, and nothing else
 pub record Nothing (view : View) (refusal : Refusal) : Type 0 where
@@ -45,6 +47,7 @@ pub record Nothing (view : View) (refusal : Refusal) : Type 0 where
   pub size : view .at .end ≡ 0
   pub payload : (part : RefT (List ℕ)) → Shows view part → now part ≡ []
   pub path-has : (address : ℕ) → inPath address (pathIn (headerIn (now (view .bytes)) (view .at)) (now (view .bytes))) ≡ false
+  pub sender : lastSenderIn (now (view .bytes)) (view .at) ≡ Unknown
 
 found-number : (reading : Reading) → placesOf reading .number ≡ readingNumber reading
 found-number (Pdu header) = refl
@@ -66,6 +69,7 @@ opened-says view bytes header o e =
       payload = λ part p. rw (o .keeps, at, size) at p;
       path = rw (o .keeps, at) (ap (λ (h : Header). pathIn h (now bytes)) is);
       path-has = λ address. rw (o .keeps, at) (ap (λ (h : Header). inPath address (pathIn h (now bytes))) is);
+      sender = rw (o .keeps, at) (ap (λ (h : Header). lastSender h (now bytes)) is);
     }
 
 nothing-shown : (bytes : List ℕ) (refusal : Refusal) → shownIn bytes (placesOf (Refused refusal)) ≡ []
@@ -79,6 +83,10 @@ nothing-shown bytes PayloadCut = refl
 no-path : (bytes : List ℕ) → pathIn (headerOf []) bytes ≡ []
 unfolding headerOf addressesAt
 no-path bytes = refl
+
+no-sender : (bytes : List ℕ) → lastSender (headerOf []) bytes ≡ Unknown
+unfolding headerOf
+no-sender bytes = refl
 
 not-in-none : (address : ℕ) → inPath address [] ≡ false
 unfolding inPath
@@ -95,4 +103,5 @@ opened-nothing view bytes refusal o e =
       size = rw at;
       payload = λ part p. rw at at p .bytes;
       path-has = λ address. rw (fields, no-path (now (view .bytes))) (not-in-none address);
+      sender = rw fields (no-sender (now (view .bytes)));
     }

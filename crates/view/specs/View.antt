@@ -5,6 +5,7 @@ use mathlib.Core.Bool.{cond}
 use mathlib.Core.List.{List, []}
 use lib.Dec.{eqb}
 use Rattle.pdu.specs.declared.Header.{Header}
+use Rattle.pdu.specs.declared.Sender.{Sender}
 use Rattle.pdu.specs.declared.Reading.{Reading}
 use Rattle.pdu.specs.declared.Reading.the-variants.{Pdu, Refused}
 use Rattle.view.specs.declared.Places.{Places}
@@ -12,6 +13,7 @@ use Rattle.view.specs.declared.Summary.{Summary}
 use Rattle.pdu.specs.Header.{headerOf}
 use Rattle.pdu.specs.Sizes.{headerLength, pduLength}
 use Rattle.pdu.specs.Reading.{refusalNumber}
+use Rattle.pdu.specs.Parts.{lastSender}
 
 -- where a reading finds the payload's first byte and the PDU's end; both 0 after a refusal ("a length given with a refusal is 0")
 abbrev pub placesOf : Reading → Places
@@ -26,6 +28,16 @@ shownIn bytes places = cond (eqb (places .number) 0) bytes []
 abbrev pub headerIn : List ℕ → Places → Header
 headerIn bytes places = headerOf (shownIn bytes places)
 
--- what is asked of a view most, as one value: number, length and header
+-- the last sender (document 02, W-205); unknown after a refusal, since no field is set then, the path bit too
+abbrev pub lastSenderIn : List ℕ → Places → Sender
+lastSenderIn bytes places = lastSender (headerIn bytes places) bytes
+
+-- what is asked of a view most, as one value: number, length, header and last sender
 abbrev pub summaryAt : List ℕ → Places → Summary
-summaryAt bytes places = record { number = places .number; size = places .end; header = headerIn bytes places }
+summaryAt bytes places =
+    record {
+      number = places .number;
+      size = places .end;
+      header = headerIn bytes places;
+      «last_sender» = lastSenderIn bytes places;
+    }

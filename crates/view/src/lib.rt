@@ -3,12 +3,13 @@
 use pdu::Destination;
 use pdu::Header;
 use pdu::Reading;
+use pdu::Sender;
 ghost use mathlib.Core.Path.{_≡_};
 ghost use Prim.Native.Nat.{_-_};
 ghost use Rattle.octets.specs.Octets.{IsPart};
 ghost use Rattle.pdu.specs.Reading.{readOf};
 ghost use Rattle.pdu.specs.Parts.{pathIn, pathAddress, inPath};
-ghost use Rattle.view.specs.View.{placesOf, shownIn, headerIn, summaryAt};
+ghost use Rattle.view.specs.View.{placesOf, shownIn, headerIn, lastSenderIn, summaryAt};
 
 // What reading found: its number, the offset of the payload's first byte, and the offset of the byte after the PDU.
 // After a refusal both offsets are 0.
@@ -25,11 +26,12 @@ pub struct Pdu<'a> {
     pub at: Places,
 }
 
-// What a view says, by value: the number of reading, the PDU's length, and its header.
+// What a view says, by value: the number of reading, the PDU's length, its header, and who it was heard from.
 pub struct Summary {
     pub number: u8,
     pub size: usize,
     pub header: Header,
+    pub last_sender: Sender,
 }
 
 // The view of the PDU at the start of `bytes`. Any bytes have one: `number` tells a refusal, after which no field is set.
@@ -41,7 +43,8 @@ pub fn open<'a>(bytes: &'a [u8]) -> Pdu<'a>
     Pdu { bytes, at }
 }
 
-// What the view of `bytes` says, for a caller that holds no view. After a refusal its number, length 0 and a header with no field set.
+// What the view of `bytes` says, for a caller that holds no view. After a refusal its number, length 0, a header with no field set
+// and an unknown last sender.
 // Document 01, "Numbers answered", the PDU held as one thing.
 pub fn summary_of(bytes: &[u8]) -> Summary
     ensures { λ r. ⌜ r ≡ summaryAt (now (bytes .entry)) (placesOf (readOf (now (bytes .entry)))) ⌝ }
@@ -184,6 +187,14 @@ pub fn path_has<'a>(pdu: Pdu<'a>, address: u16) -> bool
     path_has_at(pdu.bytes, pdu.at, address)
 }
 
+// The last sender: the last path address, or the source where the path is empty. Unknown without the path bit, and after a refusal.
+// Document 02, W-205.
+pub fn last_sender<'a>(pdu: Pdu<'a>) -> Sender
+    ensures { λ r. ⌜ r ≡ lastSenderIn (now (pdu .entry .bytes)) (pdu .entry .at) ⌝ }
+{
+    last_sender_at(pdu.bytes, pdu.at)
+}
+
 // The payload, as that part of the caller's bytes. Empty where the PDU has none, and after a refusal.
 // Document 01, "One PDU at one node", 5, what is shown.
 pub fn payload<'a>(pdu: Pdu<'a>) -> &'a [u8]
@@ -235,6 +246,7 @@ fn summary_at(bytes: &[u8], places: Places) -> Summary
         number: places.number,
         size: places.end,
         header: header_at(bytes, places),
+        last_sender: last_sender_at(bytes, places),
     }
 }
 
@@ -344,6 +356,12 @@ fn path_has_at(bytes: &[u8], places: Places, address: u16) -> bool
     ensures { λ r. ⌜ r ≡ inPath address (pathIn (headerIn (now (bytes .entry)) places) (now (bytes .entry))) ⌝ }
 {
     pdu::parts::path_has(bytes, header_at(bytes, places), address)
+}
+
+fn last_sender_at(bytes: &[u8], places: Places) -> Sender
+    ensures { λ r. ⌜ r ≡ lastSenderIn (now (bytes .entry)) places ⌝ }
+{
+    pdu::parts::last_sender(bytes, header_at(bytes, places))
 }
 
 fn payload_at(bytes: &[u8], places: Places) -> &[u8]

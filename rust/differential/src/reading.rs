@@ -45,6 +45,7 @@ fn compare_wrapped(input: &Input, shown: &Result<Header, u8>) -> Compared {
         destination: header.destination,
         pdu_id: header.pdu_id,
         path_count: header.path.as_ref().map(|path| path.len() as u8),
+        last_sender: header.last_sender(),
         payload: header.length()..header.pdu_length(),
     });
     input.same("wrapped header", wrapped, wanted)

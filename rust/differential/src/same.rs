@@ -80,6 +80,8 @@ pub fn header(read: &Result<Header, u8>) -> raw::Header {
         destination: header.destination.unwrap_or(0),
         pdu_id: header.pdu_id.unwrap_or(0),
         path_count: header.path.as_ref().map_or(0, |path| path.len() as u8),
+        has_last_sender: header.last_sender().is_some(),
+        last_sender: header.last_sender().unwrap_or(0),
         header_length: header.length(),
         pdu_length: header.pdu_length(),
     }
@@ -119,6 +121,8 @@ pub fn answer(answer: &Answer) -> raw::Answer {
     raw::Answer {
         delivery: answer.delivery,
         repeat: answer.repeat,
+        has_last_sender: answer.last_sender.is_some(),
+        last_sender: answer.last_sender.unwrap_or(0),
         delivered_place: answer.delivered.0,
         delivered_length: answer.delivered.1,
         repeated_length: answer.repeated_length,
@@ -142,6 +146,7 @@ pub fn wrapped(answer: &raw::Answer) -> mant::Answer {
         delivery: of(answer.delivery).map(|()| place..place + answer.delivered_length),
         repeat: of(answer.repeat).map(|()| answer.repeated_length),
         taken: answer.taken,
+        last_sender: answer.has_last_sender.then_some(answer.last_sender),
     }
 }
 

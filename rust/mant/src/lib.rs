@@ -43,6 +43,9 @@ pub struct Header {
     pub pdu_id: Option<u8>,
     /// How many addresses the path has, if there is a path.
     pub path_count: Option<u8>,
+    /// The last sender: the last path address, or the source if the path is
+    /// empty. None, unknown, without a path; address 0 is an address.
+    pub last_sender: Option<u16>,
     /// The payload lies here in the bytes.
     pub payload: Range<usize>,
 }
@@ -105,6 +108,9 @@ pub struct Answer {
     /// Where the next PDU begins, counted from this one's first byte; 0 where
     /// a list is at fault or no PDU can be read.
     pub taken: usize,
+    /// Who the PDU was heard from, whenever it was read: the last path
+    /// address, or the source if the path is empty. None where it is unknown.
+    pub last_sender: Option<u16>,
 }
 
 /// What one step of a walk over a batch finds.
@@ -136,6 +142,7 @@ pub fn read(bytes: &[u8]) -> Result<Header, Refusal> {
         destination: header.has_destination.then_some(header.destination),
         pdu_id: (header.protocol == 1).then_some(header.pdu_id),
         path_count: header.path_bit.then_some(header.path_count),
+        last_sender: header.has_last_sender.then_some(header.last_sender),
         payload: header.header_length..header.pdu_length,
     })
 }
@@ -226,6 +233,7 @@ impl Answer {
                 .map(|()| place..place + answer.delivered_length),
             repeat: Refusal::check(answer.repeat).map(|()| answer.repeated_length),
             taken: answer.taken,
+            last_sender: answer.has_last_sender.then_some(answer.last_sender),
         }
     }
 
@@ -236,6 +244,8 @@ impl Answer {
         raw::Answer {
             delivery: self.delivery.as_ref().map_or_else(number, |_| 0),
             repeat: self.repeat.as_ref().map_or_else(number, |_| 0),
+            has_last_sender: self.last_sender.is_some(),
+            last_sender: self.last_sender.unwrap_or(0),
             delivered_place: delivered.start,
             delivered_length: delivered.len(),
             repeated_length: self.repeat.unwrap_or(0),

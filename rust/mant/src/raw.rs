@@ -24,6 +24,8 @@ pub struct Header {
     pub destination: u16,
     pub pdu_id: u8,
     pub path_count: u8,
+    pub has_last_sender: bool,
+    pub last_sender: u16,
     pub header_length: usize,
     pub pdu_length: usize,
 }
@@ -81,6 +83,8 @@ pub struct Node {
 pub struct Answer {
     pub delivery: u8,
     pub repeat: u8,
+    pub has_last_sender: bool,
+    pub last_sender: u16,
     pub delivered_place: usize,
     pub delivered_length: usize,
     pub repeated_length: usize,

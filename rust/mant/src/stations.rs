@@ -234,6 +234,8 @@ mod tests {
         let delivered = raw::Answer {
             delivery: 0,
             repeat: 37,
+            has_last_sender: true,
+            last_sender: 0,
             delivered_place: 9,
             delivered_length: 11,
             repeated_length: 0,
@@ -242,6 +244,8 @@ mod tests {
         let repeated = raw::Answer {
             delivery: 39,
             repeat: 0,
+            has_last_sender: false,
+            last_sender: 0,
             delivered_place: 0,
             delivered_length: 0,
             repeated_length: 22,

@@ -43,6 +43,10 @@ fn the_example_is_read() {
     assert_eq!((header.protocol, header.port, header.hop_limit), (0, 0, 1));
     assert_eq!((header.source, header.destination), (1000, Some(1600)));
     assert_eq!((header.pdu_id, header.path_count), (None, Some(0)));
+    assert_eq!(header.last_sender, Some(1000));
+    assert_eq!(read(&repeated()).unwrap().last_sender, Some(2000));
+    assert_eq!(read(&[0, 0, 0, 0, 0, 5]).unwrap().last_sender, None);
+    assert_eq!(read(&[2, 0, 0, 0, 0, 0, 0]).unwrap().last_sender, Some(0));
     assert_eq!(header.payload, 9..20);
     assert_eq!(read(&example()[..19]), Err(Refusal::PayloadCut));
     assert_eq!(read(&[]), Err(Refusal::TooShort));
@@ -77,10 +81,14 @@ fn the_example_at_node_2000() {
     let answer = hear(&node(2000), &lists, &example(), &mut output);
     assert_eq!(answer.delivery, Err(Refusal::ForAnother));
     assert_eq!((answer.repeat, answer.taken), (Ok(22), 20));
+    assert_eq!(answer.last_sender, Some(1000));
     assert_eq!(output[..22], repeated());
     assert_eq!(output[22..], [0xAA; 8]);
     let again = hear(&node(2000), &lists, &repeated(), &mut output);
     assert_eq!(again.repeat, Err(Refusal::Echo));
+    assert_eq!(again.last_sender, Some(2000));
+    let unread = hear(&node(2000), &lists, &example()[..19], &mut output);
+    assert_eq!(unread.last_sender, None);
 }
 
 #[test]

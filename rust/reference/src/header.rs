@@ -1,4 +1,4 @@
-//! 01, "Header, byte by byte" and "Sizes"; numbers 1 to 6.
+//! 01, "Header, byte by byte" and "Sizes"; numbers 1 to 6. 02, W-205.
 
 use crate::numbers::{
     FEWER_THAN_6, HEADER_PAST_END, NO_DESTINATION, PAYLOAD_PAST_END, PROTOCOL, VERSION,
@@ -58,6 +58,13 @@ impl Header {
     /// How many bytes the whole PDU takes.
     pub fn pdu_length(&self) -> usize {
         self.length() + self.payload_length
+    }
+
+    /// 02, W-205: the last path address, or the source if the path is empty;
+    /// unknown without the path bit.
+    pub fn last_sender(&self) -> Option<u16> {
+        let path = self.path.as_ref()?;
+        Some(path.last().copied().unwrap_or(self.source))
     }
 
     /// The payload's part of the bytes that this header was read from.

@@ -115,7 +115,7 @@ fn job_text(job: &Job) -> Result<String, u8> {
 }
 
 /// A PDU line: its number from 1, its offset, delivery number, repeat number,
-/// the repeated PDU in hex or `-`.
+/// the repeated PDU in hex or `-`, the last sender.
 fn pdu_line(number: usize, step: &Step) -> String {
     let Step {
         offset,
@@ -123,10 +123,16 @@ fn pdu_line(number: usize, step: &Step) -> String {
         repeated,
     } = step;
     let repeated = hex_or_dash(repeated);
+    let sender = decimal_or_dash(answer.last_sender);
     format!(
-        "{number} {offset} {} {} {repeated}\n",
+        "{number} {offset} {} {} {repeated} {sender}\n",
         answer.delivery, answer.repeat
     )
+}
+
+/// 02, W-205: "in decimal", "`-` when unknown or when reading was refused".
+fn decimal_or_dash(address: Option<u16>) -> String {
+    address.map_or(String::from("-"), |address| address.to_string())
 }
 
 /// A PDU has 6 bytes or more, so an empty one means none.

@@ -42,17 +42,26 @@ pub struct Answer {
     /// Where the next PDU begins in the received bytes, 0 where this one
     /// can't be read or a list is at fault.
     pub taken: usize,
+    /// 02, W-205: the last sender, "whenever the PDU was read"; `None` where it
+    /// is unknown.
+    pub last_sender: Option<u16>,
 }
 
 impl Answer {
+    /// A number "given twice" for bytes that were not read.
+    fn unread(number: u8) -> Answer {
+        Answer::twice(number, 0, None)
+    }
+
     /// A number "given twice".
-    fn twice(number: u8, taken: usize) -> Answer {
+    fn twice(number: u8, taken: usize, last_sender: Option<u16>) -> Answer {
         Answer {
             delivery: number,
             repeat: number,
             delivered: (0, 0),
             repeated_length: 0,
             taken,
+            last_sender,
         }
     }
 }
@@ -62,22 +71,22 @@ impl Answer {
 pub fn hear(settings: &Settings, lists: &Lists, received: &[u8], out: &mut [u8]) -> Answer {
     let fault = list_fault(lists);
     if fault != DONE {
-        return Answer::twice(fault, 0);
+        return Answer::unread(fault);
     }
     let header = match read(received) {
         Ok(header) => header,
-        Err(number) => return Answer::twice(number, 0),
+        Err(number) => return Answer::unread(number),
     };
-    let taken = header.pdu_length();
+    let (taken, last_sender) = (header.pdu_length(), header.last_sender());
     if is_echo(settings, &header) {
-        return Answer::twice(ECHO, taken);
+        return Answer::twice(ECHO, taken, last_sender);
     }
     if is_own(settings, &header) {
-        return Answer::twice(OWN_SOURCE, taken);
+        return Answer::twice(OWN_SOURCE, taken, last_sender);
     }
     let refusal = refused_by_lists(settings, lists, &header);
     if refusal != DONE {
-        return Answer::twice(refusal, taken);
+        return Answer::twice(refusal, taken, last_sender);
     }
     deliver_and_repeat(settings, &header, received, out)
 }
@@ -121,7 +130,7 @@ fn deliver_and_repeat(
     received: &[u8],
     out: &mut [u8],
 ) -> Answer {
-    let taken = header.pdu_length();
+    let (taken, last_sender) = (header.pdu_length(), header.last_sender());
     let delivery = delivery_number(settings, header);
     let repeat = repeat_number(settings, header);
     let mut repeated_length = 0;
@@ -129,7 +138,7 @@ fn deliver_and_repeat(
         let repeated = repeated_header(settings, header);
         let (number, length) = write(&repeated, header.payload(received), out);
         if number != DONE {
-            return Answer::twice(REPEAT_SHORT, taken);
+            return Answer::twice(REPEAT_SHORT, taken, last_sender);
         }
         repeated_length = length;
     }
@@ -144,6 +153,7 @@ fn deliver_and_repeat(
         delivered,
         repeated_length,
         taken,
+        last_sender,
     }
 }
 

@@ -297,7 +297,57 @@ fn job_with_an_unreadable_pdu() {
     let job = [
         0xFF, 0xFF, 0x3F, 1, 0, 1, 0, 1, 0, 0, 0, 0, 7, 0, 0, 0, 0, 0, 2, 0x40,
     ];
-    let printed = "relay 65535\n1 0 31 31 -\n2 6 1 1 -\nend 2 6\n";
+    let printed = "relay 65535\n1 0 31 31 - -\n2 6 1 1 - -\nend 2 6\n";
+    assert_eq!(relay(&job), printed);
+}
+
+/// 02, W-205: the last path address, or the source if the path is empty;
+/// unknown without the path bit, which is not address 0.
+#[test]
+fn the_last_sender_is_read() {
+    let sender = |bytes: &[u8]| read(bytes).map(|header| header.last_sender());
+    assert_eq!(sender(&FULL), Ok(Some(2)));
+    assert_eq!(sender(&[2, 0, 0, 0, 3, 0xE8, 0]), Ok(Some(1000)));
+    assert_eq!(sender(&[2, 0, 0, 0, 3, 0xE8, 1, 0, 0]), Ok(Some(0)));
+    assert_eq!(sender(&[2, 0, 0, 0, 0, 0, 0]), Ok(Some(0)));
+    assert_eq!(sender(&[0, 0, 0, 0, 3, 0xE8]), Ok(None));
+    assert_eq!(sender(&FULL[..16]), Err(6));
+}
+
+/// 02, W-205: "whenever the PDU was read", whatever number is then given.
+#[test]
+fn the_last_sender_is_carried_on() {
+    let at = |settings: &Settings, lists: &Lists, received: &[u8], room: usize| {
+        let answer = hear(settings, lists, received, &mut vec![0; room]);
+        (answer.delivery, answer.last_sender)
+    };
+    let passing_none = Settings {
+        source_pass_on: true,
+        ..node(9)
+    };
+    let faulty = Lists::of([&[2, 1], &[], &[], &[]]);
+    assert_eq!(at(&node(9), &Lists::EMPTY, &FULL, 30), (39, Some(2)));
+    assert_eq!(at(&node(1), &Lists::EMPTY, &FULL, 30), (30, Some(2)));
+    assert_eq!(at(&passing_none, &Lists::EMPTY, &FULL, 30), (31, Some(2)));
+    assert_eq!(at(&node(9), &Lists::EMPTY, &FULL, 18), (40, Some(2)));
+    assert_eq!(at(&node(9), &Lists::EMPTY, &FULL[..16], 30), (6, None));
+    assert_eq!(at(&node(9), &faulty, &FULL, 30), (20, None));
+    assert_eq!(
+        at(&node(9), &Lists::EMPTY, &[0, 0, 0, 0, 0, 5], 9),
+        (0, None)
+    );
+}
+
+/// 02, W-205: of a repeat, the node that repeated it; the sixth field.
+#[test]
+fn a_repeat_is_heard_from_its_repeater() {
+    let mut out = [0; MOST_PDU];
+    let length = hear(&node(9), &Lists::EMPTY, &FULL, &mut out).repeated_length;
+    let heard = hear(&node(8), &Lists::EMPTY, &out[..length], &mut [0; MOST_PDU]);
+    assert_eq!(heard.last_sender, Some(9));
+    let batch = [2, 0, 0, 0, 0, 0, 0, 0, 0, 0, 0, 0, 5, 9];
+    let job = [&[0, 9, 3, 0, 0, 0, 0, 0, 14], &batch[..]].concat();
+    let printed = "relay 9\n1 0 0 37 - 0\n2 7 0 37 - -\n3 13 1 1 - -\nend 3 13\n";
     assert_eq!(relay(&job), printed);
 }
 

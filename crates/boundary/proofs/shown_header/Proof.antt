@@ -9,6 +9,12 @@ has-destination-requires c κs = search needs
 destination-address-requires : tie.Need-destination-address-requires
 destination-address-requires c κs = search needs
 
+has-sender-requires : tie.Need-has-sender-requires
+has-sender-requires c κs = search needs
+
+sender-address-requires : tie.Need-sender-address-requires
+sender-address-requires c κs = search needs
+
 header-length-requires : tie.Need-header-length-requires
 header-length-requires c κs = search needs
 
@@ -18,8 +24,10 @@ pdu-length-requires c κs = search needs
 returns : tie.Need-returns
 returns c =
     rw (
-      c .before .before .before .has-destination .ensures,
-      c .before .before .destination-address .ensures,
+      c .before .before .before .before .before .has-destination .ensures,
+      c .before .before .before .before .destination-address .ensures,
+      c .before .before .before .has-sender .ensures,
+      c .before .before .sender-address .ensures,
       c .before .header-length .ensures .0,
       c .pdu-length .ensures .0,
     ) refl
@@ -30,6 +38,8 @@ shown-header-spec =
     (tie.spec
     has-destination-requires
     destination-address-requires
+    has-sender-requires
+    sender-address-requires
     header-length-requires
     pdu-length-requires
     returns)

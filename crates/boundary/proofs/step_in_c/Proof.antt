@@ -6,6 +6,9 @@ use Rattle.boundary.proofs.step_in_c.Tie as tie
 enum-known-stepped : tie.Need-enum-known-stepped
 enum-known-stepped c = search needs
 
+answer-in-c-requires : tie.Need-answer-in-c-requires
+answer-in-c-requires c κs = search needs
+
 enum-told : tie.Need-enum-told
 enum-told c = search needs
 
@@ -19,7 +22,7 @@ number-alone-requires-2 : tie.Need-number-alone-requires-2
 number-alone-requires-2 c κs = search needs
 
 returns : tie.Need-returns
-returns c = rw (c .before .stepped .given .1) refl
+returns c = rw (c .answer-in-c .ensures, c .before .before .stepped .given .1) refl
 
 returns-2 : tie.Need-returns-2
 returns-2 c = rw (c .number-alone .ensures, c .before .enum-told .given .1) refl
@@ -32,6 +35,7 @@ step-in-c-spec =
     tie.close
     (tie.spec
     enum-known-stepped
+    answer-in-c-requires
     enum-told
     number-alone-requires
     enum-told-2

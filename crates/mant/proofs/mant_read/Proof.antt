@@ -1,10 +1,13 @@
 use Prim.Native.Nat.{ℕ}
+use mathlib.Core.List.{List}
 use mathlib.Core.Path.{_≡_, ap, sym, _∙_}
 use native.Mathlib.Omega.{arith}
 use denote.Ref.{now}
+use Rattle.pdu.specs.declared.Header.{Header}
 use Rattle.pdu.specs.declared.Reading.{Reading}
 use Rattle.pdu.specs.declared.Reading.the-variants.{Pdu, Refused}
 use Rattle.pdu.specs.Reading.{readOf, readingNumber}
+use Rattle.pdu.specs.Parts.{lastSender}
 use Rattle.pdu.proofs.Number.{read-0}
 use Rattle.boundary.specs.Boundary.{headerInC, refusedHeader, shownHeader}
 use borrow.Author.Needs.{needs}
@@ -12,9 +15,10 @@ use Rattle.mant.proofs.mant_read.Statement.{statement}
 use Rattle.mant.proofs.mant_read.Tie as tie
 
 -- a number other than 0 alone is what a refusal shows
-refused-is : (reading : Reading) {number : ℕ} → number ≡ readingNumber reading → (number ≡ 0 → ⊥) → refusedHeader number ≡ headerInC reading
-refused-is (Pdu header) same some = absurd (some same)
-refused-is (Refused refusal) same some = ap refusedHeader same
+refused-is : (reading : Reading) (bytes : List ℕ) {number : ℕ} → number ≡ readingNumber reading → (number ≡ 0 → ⊥)
+    → refusedHeader number ≡ headerInC reading bytes
+refused-is (Pdu header) bytes same some = absurd (some same)
+refused-is (Refused refusal) bytes same some = ap refusedHeader same
 
 fault-requires : tie.Need-fault-requires
 fault-requires c κs = search needs
@@ -24,21 +28,26 @@ refused-header-requires c κs = search needs
 
 returns : tie.Need-returns
 returns c =
-    c .refused-header .ensures
-    ∙ refused-is (readOf (now (c .before .before .before .before .args .bytes))) (c .before .before .fault .ensures) (λ none. omega arith)
+    let bytes = now (c .before .before .before .before .args .bytes) in
+    c .refused-header .ensures ∙ refused-is (readOf bytes) bytes (c .before .before .fault .ensures) (λ none. omega arith)
 
 header-of-requires : tie.Need-header-of-requires
 header-of-requires c κs = search needs
+
+last-sender-requires : tie.Need-last-sender-requires
+last-sender-requires c κs = search needs
 
 shown-header-requires : tie.Need-shown-header-requires
 shown-header-requires c κs = search needs
 
 returns-2 : tie.Need-returns-2
 returns-2 c =
-    let e = c .before .before .before in
+    let e = c .before .before .before .before in
     let bytes = now (e .before .before .args .bytes) in
     let none : readingNumber (readOf bytes) ≡ 0 = omega (arith, e .fault .ensures) in
-    c .shown-header .ensures ∙ ap shownHeader (c .before .header-of .ensures) ∙ sym (ap headerInC (read-0 bytes none))
+    c .shown-header .ensures ∙ ap (shownHeader (c .before .before .header-of .result)) (c .before .last-sender .ensures)
+    ∙ ap (λ (header : Header). shownHeader header (lastSender header bytes)) (c .before .before .header-of .ensures)
+    ∙ sym (ap (λ (reading : Reading). headerInC reading bytes) (read-0 bytes none))
 
 pub mant-read-spec : {M : Type 1} → statement M
 mant-read-spec =
@@ -48,5 +57,6 @@ mant-read-spec =
     refused-header-requires
     returns
     header-of-requires
+    last-sender-requires
     shown-header-requires
     returns-2)

@@ -27,9 +27,9 @@ returns c =
     let start = delivery .before .before .before in
     let a = start .args in
     let right =
-    not-repeated (nodeOf (a .settings) lists) (now (a .received)) (now (a .output)) (a .header) (start .pre) clean passes
-    (delivery .delivery-fault .result) (repeat .repeat-fault .result) 0 (now (a .output)) (delivery .delivery-fault .ensures) (c .before .if1 .taken)
-    (repeat .repeat-fault .ensures) refl refl in
+    not-repeated (nodeOf (a .settings) lists) (now (a .received)) (now (a .output)) (a .header) (start .pre .0) clean passes
+    (a .sender) (start .pre .1) (delivery .delivery-fault .result) (repeat .repeat-fault .result) 0 (now (a .output))
+    (delivery .delivery-fault .ensures) (c .before .if1 .taken) (repeat .repeat-fault .ensures) refl refl in
     (c .answered .ensures ∙ right .0, right .1)
 
 repeated-length-requires : tie.Need-repeated-length-requires
@@ -52,8 +52,8 @@ returns-2 c =
     let again : repeatFault (a .settings) (a .header) ≡ 0 = sym (repeat .repeat-fault .ensures) ∙ long .before .if1 .left in
     let short : length (now (a .output)) < repeatedLength (a .header) = omega (arith, long .repeated-length .ensures) in
     let right =
-    no-room (nodeOf (a .settings) lists) (now (a .received)) (now (a .output)) (a .header) (start .pre) clean passes (size .pdu-length .result)
-    again short (size .pdu-length .ensures .0) in
+    no-room (nodeOf (a .settings) lists) (now (a .received)) (now (a .output)) (a .header) (start .pre .0) clean passes (size .pdu-length .result)
+    (a .sender) (start .pre .1) again short (size .pdu-length .ensures .0) in
     (c .twice .ensures ∙ right .0, right .1)
 
 put-repeat-requires : tie.Need-put-repeat-requires
@@ -63,7 +63,7 @@ put-repeat-requires c κs =
     let start = repeat .before .before .before .before in
     let a = start .args in
     let fits : repeatedLength (a .header) ≤ length (now (a .output)) = omega (arith, long .repeated-length .ensures) in
-    (start .pre, sym (repeat .repeat-fault .ensures) ∙ long .before .if1 .left, fits)
+    (start .pre .0, sym (repeat .repeat-fault .ensures) ∙ long .before .if1 .left, fits)
 
 answered-requires-2 : tie.Need-answered-requires-2
 answered-requires-2 c κs = search needs
@@ -83,9 +83,9 @@ returns-3 c =
     let again : repeatFault (a .settings) (a .header) ≡ 0 = sym (repeat .repeat-fault .ensures) ∙ long .before .if1 .left in
     let fits : repeatedLength (a .header) ≤ length (now (a .output)) = omega (arith, long .repeated-length .ensures) in
     let right =
-    is-repeated (nodeOf (a .settings) lists) (now (a .received)) (now (a .output)) (a .header) (start .pre) clean passes
-    (delivery .delivery-fault .result) 0 (long .repeated-length .result) _ (delivery .delivery-fault .ensures) refl again fits
-    (long .repeated-length .ensures) (put .put-repeat .ensures) in
+    is-repeated (nodeOf (a .settings) lists) (now (a .received)) (now (a .output)) (a .header) (start .pre .0) clean passes
+    (a .sender) (start .pre .1) (delivery .delivery-fault .result) 0 (long .repeated-length .result) _ (delivery .delivery-fault .ensures) refl again
+    fits (long .repeated-length .ensures) (put .put-repeat .ensures) in
     (c .answered2 .ensures ∙ right .0, right .1)
 
 pub decide-spec : {M : Type 1} → statement M

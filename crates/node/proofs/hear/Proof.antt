@@ -52,6 +52,9 @@ returns-2 c =
     let right = refusal-given node (now (a .received)) (now (a .output)) clean (number .reading-number .result) refused given in
     (c .twice2 .ensures ∙ right .0, right .1)
 
+last-sender-requires : tie.Need-last-sender-requires
+last-sender-requires c κs = search needs
+
 drop-fault-requires : tie.Need-drop-fault-requires
 drop-fault-requires c κs = search needs
 
@@ -65,7 +68,8 @@ returns-3 : tie.Need-returns-3
 returns-3 c =
     let size = c .before in
     let drops = size .before .before in
-    let header = drops .before .before in
+    let sender = drops .before in
+    let header = sender .before .before in
     let reads = header .before .before in
     let lists = reads .before .before in
     let a = lists .before .before .before .before .before .before .before .args in
@@ -75,14 +79,15 @@ returns-3 c =
     let read = sym (reads .read .ensures) ∙ header .reading .given .1 in
     let right =
     stopped node (now (a .received)) (now (a .output)) clean (header .reading .given .0 .0) read (drops .drop-fault .result)
-    (size .pdu-length .result)
-    (size .before .if2 .taken) (drops .drop-fault .ensures) (size .pdu-length .ensures .0) in
+    (size .pdu-length .result) (sender .last-sender .result) (size .before .if2 .taken) (drops .drop-fault .ensures)
+    (size .pdu-length .ensures .0) (sender .last-sender .ensures) in
     (c .twice3 .ensures ∙ right .0, right .1)
 
 decide-requires : tie.Need-decide-requires
 decide-requires c κs =
-    let header = c .before .before .before .before in
-    sym (header .before .before .read .ensures) ∙ header .reading .given .1
+    let sender = c .before .before .before in
+    let header = sender .before .before in
+    (sym (header .before .before .read .ensures) ∙ header .reading .given .1, sender .last-sender .ensures)
 
 same-length : tie.Need-same-length
 same-length c = search needs
@@ -91,7 +96,8 @@ returns-4 : tie.Need-returns-4
 returns-4 c =
     let decides = c .before .before in
     let drops = decides .before .before .before in
-    let header = drops .before .before in
+    let sender = drops .before in
+    let header = sender .before .before in
     let reads = header .before .before in
     let lists = reads .before .before in
     let a = lists .before .before .before .before .before .before .before .args in
@@ -115,6 +121,7 @@ hear-spec =
     reading-number-requires
     twice-requires-2
     returns-2
+    last-sender-requires
     drop-fault-requires
     pdu-length-requires
     twice-requires-3
