@@ -10,12 +10,12 @@
  *
  * What a caller owes, since no code can look whether it holds. A pointer with a length other than 0 points to that many elements, aligned for them
  * (a list or a table at an even address), which nothing else changes during the call; with length 0 it may be anything, NULL too, and is not followed.
- * An output shares no memory with another slice of the call, nor does a table. Structs are those declared here, passed by value and so aligned by the
- * compiler, and a bool in them holds 0 or 1, as C's does unless it was written by other means, such as memcpy.
+ * An output shares no memory with another slice of the call, nor does a table or a queue. Structs are those declared here, passed by value and so
+ * aligned by the compiler, and a bool in them holds 0 or 1, as C's does unless it was written by other means, such as memcpy.
  *
- * Output. It changes only where a PDU or an exchange is written (number 0), or, at a node, where the repeat number is 0. It then begins with that PDU
- * or exchange, and keeps its bytes past the end of it. With every other number the output is left as it was. MANT_PDU_LIMIT bytes are room for every
- * PDU, MANT_EXCHANGE_LIMIT for every exchange.
+ * Output. It changes only where a PDU, an exchange or what was taken from a queue is written (number 0), or, at a node, where the repeat number is 0.
+ * It then begins with that, and keeps its bytes past the end of it. With every other number the output is left as it was. MANT_PDU_LIMIT bytes are room
+ * for every PDU, MANT_EXCHANGE_LIMIT for every exchange, MANT_QUEUE_BYTES for all that a queue holds.
  *
  * Table. The stations heard (document 02, W-201) are held in uint16_t words that the caller lends, and keeps from call to call: how many are held, then
  * four words for each station, by rising address: its address, the PDUs read from it, those of them that echo dropped, and one more than its shortest
@@ -24,6 +24,13 @@
  * room is a full table's. Where a call changes the table it writes the first word and the words of the stations then held, and keeps those behind
  * them; where it does not, no word changes. Words put together by hand get an answer too: they are held and listed as they stand there, but by address
  * stations are looked for as if the addresses rose, so that where they do not, one that stands there may not be found.
+ *
+ * Queue. The PDUs that wait for the modem's next slot (document 02, W-206) are held in bytes that the caller lends, and keeps from call to call: two
+ * bytes, most significant first, that tell how many bytes follow, then the PDUs back to back, the oldest first. Bytes of which the first two are 0 are an
+ * empty queue, whatever stands behind them. MANT_QUEUE_LENGTH bytes have room for MANT_QUEUE_BYTES bytes of PDUs, and more for no more; fewer have room for
+ * all but two of them. Where a call changes the queue it writes the first two bytes and the PDUs then held, and keeps the bytes behind them; where it does
+ * not, no byte changes. Bytes put together by hand get an answer too: held are the PDUs that can be read there one after the other, 32 at most, within as
+ * many bytes as the first two tell, or as there is room for where they tell more.
  *
  * Exchange. What a decoder and an encoder that are two devices send each other (document 02, W-202; document 003, section 3, for the elements): one
  * element of type 20 that is all of the bytes, and in it an element of type 1024, the PDU's header, and one of type 1025, its payload, one of each, in
@@ -89,6 +96,9 @@ enum MantNumber {
     MANT_ELEMENT_CUT = 57,                  /* an element does not end within the run that it stands in */
     MANT_ELEMENT_TOO_DEEP = 58,             /* an element stands at level 5 */
     MANT_NOT_AN_EXCHANGE = 59,              /* not one element of type 20 that holds one header and one payload */
+    MANT_QUEUE_FULL = 60,                   /* the queue holds 32 PDUs, or has no room for so many bytes more */
+    MANT_NOT_ONE_PDU = 61,                  /* not one whole PDU with nothing after it */
+    MANT_OLDEST_TOO_LONG = 62,              /* the output has no room for the oldest PDU of the queue */
     MANT_NOT_SPLIT_AT_HEADER = 63           /* bytes follow the PDU, or its two parts do not meet at the header's end */
 };
 
@@ -138,6 +148,9 @@ static inline const char *mant_meaning(uint8_t number)
     case MANT_ELEMENT_CUT: return "an element does not end within the run that it stands in";
     case MANT_ELEMENT_TOO_DEEP: return "an element stands at level 5";
     case MANT_NOT_AN_EXCHANGE: return "not one element of type 20 that holds one header and one payload";
+    case MANT_QUEUE_FULL: return "the queue holds 32 PDUs, or has no room for so many bytes more";
+    case MANT_NOT_ONE_PDU: return "not one whole PDU with nothing after it";
+    case MANT_OLDEST_TOO_LONG: return "the output has no room for the oldest PDU of the queue";
     case MANT_NOT_SPLIT_AT_HEADER: return "bytes follow the PDU, or its two parts do not meet at the header's end";
     default: return "no such number";
     }
@@ -155,6 +168,11 @@ static inline const char *mant_meaning(uint8_t number)
 /* How many stations a table holds at most, and how many words are room for so many. */
 #define MANT_STATION_LIMIT 128
 #define MANT_STATION_WORDS 513
+
+/* How many PDUs a queue holds at most, how many bytes they have together at most, and how many bytes are room for so many. */
+#define MANT_QUEUE_PDUS 32
+#define MANT_QUEUE_BYTES 2048
+#define MANT_QUEUE_LENGTH 2050
 
 /* The most bytes that mant_write_exchange writes. */
 #define MANT_EXCHANGE_LIMIT 4626
@@ -283,6 +301,19 @@ typedef struct MantListened {
     uint8_t table_number;
 } MantListened;
 
+/* How many PDUs a queue holds, and how many bytes they have together. */
+typedef struct MantLevel {
+    size_t pdus;
+    size_t bytes;
+} MantLevel;
+
+/* What taking from a queue answers: number 0, how many PDUs were taken and how many bytes they fill in the output. With 62 both are 0. */
+typedef struct MantBatch {
+    uint8_t number;           /* 0 or 62 */
+    size_t pdus;
+    size_t bytes;
+} MantBatch;
+
 /* A bound. Number 10: the hop limit is above 7. Too large: 64 bits do not hold the value. In both the value is 0. */
 typedef struct MantBound {
     uint8_t number;
@@ -318,6 +349,8 @@ MANT_SIZE(MantStation, 10);
 MANT_SIZE(MantFound, 12);
 MANT_SIZE(MantHeard, 6);
 MANT_SIZE(MantListened, 48);
+MANT_SIZE(MantLevel, 16);
+MANT_SIZE(MantBatch, 24);
 MANT_SIZE(MantBound, 16);
 MANT_SIZE(MantLimits, 56);
 #undef MANT_SIZE
@@ -419,6 +452,19 @@ MantListened mant_hear_and_count(MantNode settings, const uint16_t *source_pass,
                                  size_t source_reject_length, const uint16_t *destination_pass, size_t destination_pass_length,
                                  const uint16_t *destination_reject, size_t destination_reject_length, const uint8_t *received,
                                  size_t received_length, uint8_t *output, size_t output_length, uint16_t *table, size_t table_words);
+
+/* How many PDUs and bytes a queue holds, found by a walk over its PDUs. Document 02, W-206, as all that take a queue. */
+MantLevel mant_queue_level(const uint8_t *queue, size_t queue_length);
+
+/* Adds a PDU to a queue, behind those that it holds. Answers 61 where the bytes are not one PDU and nothing else, whatever the queue holds; then 60 where
+   it holds MANT_QUEUE_PDUS PDUs, or where their bytes and the new ones are more than it has room for. With both it leaves the queue alone; else it answers
+   0. */
+uint8_t mant_queue_add(uint8_t *queue, size_t queue_length, const uint8_t *pdu, size_t pdu_length);
+
+/* Takes PDUs from a queue, from the oldest on, up to the first that the output has no room for: writes them to the output back to back, as one batch
+   for mant_step, and releases them. Answers 62 where there is no room for the oldest. Where the queue holds none, the number is 0 and nothing is taken.
+   In these two cases queue and output are left alone. */
+MantBatch mant_queue_take(uint8_t *queue, size_t queue_length, uint8_t *output, size_t output_length);
 
 /* The most transmissions that one fresh PDU with a path and this hop limit can cause among so many repeating nodes, its first sending counted. Echo is
    on at each node, and no two have the same address. The node at the PDU's source address hears too, with echo on, and does not count among these nodes,

@@ -312,6 +312,91 @@ static void short_tables(void)
     CHECK(table[5] == 7 && table[8] == 4 && table[9] == 3);
 }
 
+static bool is_level(MantLevel level, size_t pdus, size_t bytes)
+{
+    return level.pdus == pdus && level.bytes == bytes;
+}
+
+static bool is_batch(MantBatch batch, uint8_t number, size_t pdus, size_t bytes)
+{
+    return batch.number == number && batch.pdus == pdus && batch.bytes == bytes;
+}
+
+static void null_queue(void)
+{
+    uint8_t one[1] = {9}, two[2] = {0, 20};
+    CHECK(is_level(mant_queue_level(NULL, 0), 0, 0) && is_batch(mant_queue_take(NULL, 0, NULL, 0), 0, 0, 0));
+    CHECK(mant_queue_add(NULL, 0, NULL, 0) == MANT_NOT_ONE_PDU && mant_queue_add(NULL, 0, example, 20) == MANT_QUEUE_FULL);
+    CHECK(mant_queue_add(one, 1, example, 20) == 60 && mant_queue_add(two, 2, example, 20) == 60 && is_level(mant_queue_level(two, 2), 0, 0));
+    CHECK(is_batch(mant_queue_take(two, 2, NULL, 0), 0, 0, 0) && one[0] == 9 && two[0] == 0 && two[1] == 20);
+}
+
+/* The example, a PDU of 6 bytes, and the example once more. */
+static void adding_and_taking(void)
+{
+    const uint8_t shortest[7] = {0, 0, 0, 0, 0, 5, 1};
+    uint8_t queue[MANT_QUEUE_LENGTH] = {0}, before[MANT_QUEUE_LENGTH], output[48], untouched[48];
+    memset(output, 77, sizeof output);
+    memset(untouched, 77, sizeof untouched);
+    CHECK(mant_queue_add(queue, sizeof queue, example, 20) == 0 && mant_queue_add(queue, sizeof queue, shortest, 6) == 0);
+    CHECK(mant_queue_add(queue, sizeof queue, example, 20) == 0 && is_level(mant_queue_level(queue, sizeof queue), 3, 46));
+    memcpy(before, queue, sizeof queue);
+    CHECK(mant_queue_add(queue, sizeof queue, example, 19) == MANT_NOT_ONE_PDU && mant_queue_add(queue, sizeof queue, shortest, 7) == 61);
+    CHECK(is_batch(mant_queue_take(queue, sizeof queue, output, 19), MANT_OLDEST_TOO_LONG, 0, 0) && memcmp(queue, before, sizeof queue) == 0);
+    CHECK(is_batch(mant_queue_take(queue, sizeof queue, NULL, 0), 62, 0, 0) && memcmp(output, untouched, sizeof output) == 0);
+    CHECK(is_batch(mant_queue_take(queue, sizeof queue, output, 45), 0, 2, 26) && memcmp(output, example, 20) == 0);
+    CHECK(memcmp(output + 20, shortest, 6) == 0 && memcmp(output + 26, untouched, 22) == 0 && is_level(mant_queue_level(queue, sizeof queue), 1, 20));
+    CHECK(queue[0] == 0 && queue[1] == 20 && memcmp(queue + 2, example, 20) == 0 && memcmp(queue + 22, before + 22, sizeof queue - 22) == 0);
+    CHECK(is_batch(mant_queue_take(queue, sizeof queue, output, 20), 0, 1, 20) && is_batch(mant_queue_take(queue, sizeof queue, output, 48), 0, 0, 0));
+    CHECK(memcmp(output, example, 20) == 0 && memcmp(output + 20, shortest, 6) == 0 && is_level(mant_queue_level(queue, sizeof queue), 0, 0));
+}
+
+static void full_queues(void)
+{
+    uint8_t queue[MANT_QUEUE_LENGTH + 1] = {0}, before[MANT_QUEUE_LENGTH + 1], pdu[MANT_QUEUE_BYTES + 1] = {0, 0, 0, 58}, output[MANT_QUEUE_BYTES];
+    bool added = true;
+    queue[MANT_QUEUE_LENGTH] = 77;
+    for (int i = 0; i < 31; i++) {
+        added = added && mant_queue_add(queue, sizeof queue, pdu, 64) == 0;
+    }
+    pdu[3] = 59;
+    CHECK(added && mant_queue_add(queue, sizeof queue, pdu, 65) == MANT_QUEUE_FULL);
+    pdu[3] = 58;
+    CHECK(mant_queue_add(queue, sizeof queue, pdu, 64) == 0 && is_level(mant_queue_level(queue, sizeof queue), MANT_QUEUE_PDUS, MANT_QUEUE_BYTES));
+    memcpy(before, queue, sizeof queue);
+    CHECK(mant_queue_add(queue, sizeof queue, pdu, 63) == MANT_NOT_ONE_PDU && memcmp(queue, before, sizeof queue) == 0 && queue[MANT_QUEUE_LENGTH] == 77);
+    CHECK(is_batch(mant_queue_take(queue, sizeof queue, output, sizeof output), 0, 32, 2048) && memcmp(output, before + 2, 2048) == 0);
+    pdu[3] = 0;
+    for (int i = 0; i < MANT_QUEUE_PDUS; i++) {
+        added = added && mant_queue_add(queue, sizeof queue, pdu, 6) == 0;
+    }
+    CHECK(added && mant_queue_add(queue, sizeof queue, pdu, 6) == 60 && is_level(mant_queue_level(queue, sizeof queue), 32, 192));
+    CHECK(is_batch(mant_queue_take(queue, sizeof queue, output, sizeof output), 0, 32, 192));
+    pdu[2] = 0x07;
+    pdu[3] = 0xFB;
+    CHECK(mant_queue_add(queue, sizeof queue, pdu, 2049) == 60);
+    pdu[3] = 0xFA;
+    CHECK(mant_queue_add(queue, MANT_QUEUE_LENGTH - 1, pdu, 2048) == 60 && mant_queue_add(queue, MANT_QUEUE_LENGTH, pdu, 2048) == 0);
+    CHECK(is_level(mant_queue_level(queue, sizeof queue), 1, 2048) && queue[MANT_QUEUE_LENGTH] == 77);
+}
+
+/* A first number that tells more bytes than there are PDUs, and one that tells too few. */
+static void queues_by_hand(void)
+{
+    uint8_t queue[22] = {0xFF, 0xFF, 0, 0, 0, 1, 0, 5, 9, 0, 0, 0, 0, 0, 5, 0x40, 1, 2, 3, 4, 5, 6}, before[22], output[7] = {0};
+    const uint8_t shortest[6] = {0, 0, 0, 0, 0, 5};
+    memcpy(before, queue, sizeof queue);
+    CHECK(is_level(mant_queue_level(queue, sizeof queue), 2, 13) && is_level(mant_queue_level(queue, 14), 1, 7));
+    CHECK(is_batch(mant_queue_take(queue, sizeof queue, output, 6), 62, 0, 0) && memcmp(queue, before, sizeof queue) == 0);
+    CHECK(is_batch(mant_queue_take(queue, sizeof queue, output, 7), 0, 1, 7) && memcmp(output, before + 2, 7) == 0);
+    CHECK(queue[0] == 0 && queue[1] == 6 && memcmp(queue + 2, shortest, 6) == 0 && memcmp(queue + 8, before + 8, 14) == 0);
+    queue[1] = 5;
+    CHECK(is_level(mant_queue_level(queue, sizeof queue), 0, 0) && is_batch(mant_queue_take(queue, sizeof queue, output, 7), 0, 0, 0) && queue[1] == 5);
+    queue[2] = 0x40;
+    CHECK(mant_queue_add(queue, sizeof queue, shortest, 6) == 0 && is_level(mant_queue_level(queue, sizeof queue), 1, 6));
+    CHECK(queue[1] == 6 && memcmp(queue + 2, shortest, 6) == 0 && memcmp(queue + 8, before + 8, 14) == 0);
+}
+
 static void bounds_and_limits(void)
 {
     MantLimits l = mant_limits();
@@ -339,6 +424,10 @@ int main(void)
     own_reports();
     a_full_table();
     short_tables();
+    null_queue();
+    adding_and_taking();
+    full_queues();
+    queues_by_hand();
     bounds_and_limits();
     printf("%d passed, %d failed\n", passed, failed);
     return failed != 0;

@@ -17,15 +17,18 @@
 #define NO_LISTS NULL, 0, NULL, 0, NULL, 0, NULL, 0
 #define LISTS list, 128, list, 128, list, 128, list, 128
 #define LENT pdu, sizeof pdu, output, sizeof output
+#define PDU_LENGTH 4613
+#define QUEUE queue, sizeof queue
 
 static const MantNode node = {.own = 2000, .echo = true, .repeating = true};
 static const MantNode listing = {.own = 2000, .echo = true, .repeating = true, .source_pass = true, .destination_pass = true};
 static const MantFresh fresh = {.source = 1000, .has_destination = true, .destination = 1600, .hop_limit = 1, .with_path = true, .reliable = true};
+static const uint8_t shortest[6] = {0, 0, 0, 0, 0, 5};
 static const uint8_t deep[12] = {20, 8, 10, 6, 11, 4, 20, 2, 0, 9, 0, 9};
 static const MantHeard heard = {.source = 1000, .path_bit = true};
 static const MantCursor start = {0, false};
 static uint16_t list[MANT_LIST_LIMIT], table[MANT_STATION_WORDS];
-static uint8_t pdu[MANT_PDU_LIMIT], output[MANT_PDU_LIMIT + 2], exchange[MANT_EXCHANGE_LIMIT];
+static uint8_t pdu[MANT_PDU_LIMIT], output[MANT_PDU_LIMIT + 2], exchange[MANT_EXCHANGE_LIMIT], queue[MANT_QUEUE_LENGTH];
 static MantAnswer answer;
 static volatile uintptr_t top;
 static bool meant = true;
@@ -41,7 +44,7 @@ static bool meant = true;
 CALL(read_call, mant_read(pdu, sizeof pdu).path_count == 254)
 CALL(path_address_call, mant_path_address(pdu, sizeof pdu, 253) == 1799)
 CALL(path_has_call, !mant_path_has(pdu, sizeof pdu, 1))
-CALL(write_again_call, mant_write_again(LENT).length == 4613)
+CALL(write_again_call, mant_write_again(LENT).length == PDU_LENGTH)
 CALL(originate_call, mant_originate(fresh, pdu, MANT_PAYLOAD_LIMIT, output, sizeof output).length == 4105)
 CALL(list_fault_call, mant_list_fault(LISTS) == 0)
 CALL(list_holds_call, !mant_list_holds(list, MANT_LIST_LIMIT, 1))
@@ -65,6 +68,11 @@ CALL(remove_station_call, mant_remove_station(table, MANT_STATION_WORDS, 1000) =
 CALL(write_exchange_call, mant_write_exchange(pdu, sizeof pdu, exchange, sizeof exchange).length == MANT_EXCHANGE_LIMIT - 2)
 CALL(read_exchange_call, mant_read_exchange(exchange, MANT_EXCHANGE_LIMIT - 2).payload_length == MANT_PAYLOAD_LIMIT)
 CALL(read_deep_exchange_call, mant_read_exchange(deep, sizeof deep).number == MANT_ELEMENT_TOO_DEEP)
+CALL(queue_full_call, mant_queue_add(QUEUE, pdu, PDU_LENGTH) == MANT_QUEUE_FULL)
+CALL(queue_add_call, mant_queue_add(QUEUE, shortest, sizeof shortest) == 0)
+CALL(queue_level_call, mant_queue_level(QUEUE).pdus == 2)
+CALL(queue_too_long_call, mant_queue_take(QUEUE, output, 5).number == MANT_OLDEST_TOO_LONG)
+CALL(queue_take_call, mant_queue_take(QUEUE, output, 6).pdus == 1)
 
 /* Each function, and calls of it: the longest way, and others that may be deeper. */
 static const struct {
@@ -90,6 +98,9 @@ static const struct {
     {"mant_remove_station", {remove_station_call}},
     {"mant_write_exchange", {write_exchange_call}},
     {"mant_read_exchange", {read_exchange_call, read_deep_exchange_call}},
+    {"mant_queue_add", {queue_full_call, queue_add_call, queue_add_call}},
+    {"mant_queue_level", {queue_level_call}},
+    {"mant_queue_take", {queue_too_long_call, queue_take_call}},
     {"mant_most_transmissions", {most_transmissions_call}},
     {"mant_most_bytes", {most_bytes_call}},
     {"mant_limits", {limits_call}},

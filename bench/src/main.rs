@@ -5,6 +5,7 @@ mod counting;
 mod exchanging;
 mod inputs;
 mod plain;
+mod queueing;
 #[cfg(test)]
 mod tests;
 mod timing;
@@ -25,6 +26,7 @@ fn main() {
     check_plain();
     counting::check_plain();
     exchanging::check_plain();
+    queueing::check_plain();
     println!(
         "ns for one run, best / median of {ROUNDS} rounds at {} pairs of offsets within a page\n",
         OFFSETS.len()
@@ -60,9 +62,26 @@ fn main() {
     );
     row("read an exchange, full PDU", exchanging::reading());
     row("write an exchange, full PDU", exchanging::writing());
+    row("queue level, 32 PDUs of 64 bytes", queueing::level());
+    row(
+        "queue, add and take one of 64 bytes behind 31",
+        queueing::adding_and_taking(31, 1, 64),
+    );
+    row(
+        "queue, add 32 PDUs of 64 bytes and take all",
+        queueing::adding_and_taking(0, 32, 64),
+    );
+    row(
+        "queue, add and take one of 2,048 bytes",
+        queueing::adding_and_taking(0, 1, 2_048),
+    );
     println!("\nHow the node's cost grows:\n");
     growth(&example);
-    println!("\nThe Rust reading is rust/reference. memcpy copies the PDU that is read, written or repeated, or every PDU of the batch, one by one, or a station's words, or the exchange that is read. Ratios are of the best rounds.");
+    println!(
+        "\nThe Rust reading is rust/reference. memcpy copies the PDU that is read, written or repeated, or \
+         every PDU of the batch, one by one, or a station's words, or the exchange that is read, or a level, or \
+         each PDU that is added and then the batch that is taken. Ratios are of the best rounds."
+    );
 }
 
 /// The rows that show how the node's cost grows.

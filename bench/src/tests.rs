@@ -3,11 +3,11 @@
 
 use crate::plain;
 use generator::{
-    exchange, exchanged_pdu, four_lists, origination, output, payload_to_send, received, room,
-    settings_for, Random,
+    exchange, exchanged_pdu, four_lists, origination, output, pace, payload_to_send, queue_deed,
+    received, room, settings_for, QueueDeed, Random,
 };
 use mant::raw;
-use reference::Stations;
+use reference::{Queue, Stations};
 
 const INPUTS: usize = 20_000;
 
@@ -147,5 +147,34 @@ fn plain_writes_exchanges_as_the_reference_does() {
         let wanted = reference::write_exchange(&bytes, &mut other);
         assert_eq!((written.number, written.length), wanted);
         assert_eq!(one, other);
+    }
+}
+
+#[test]
+fn plain_queues_as_the_reference_does() {
+    let mut random = Random::from_seed(7);
+    for _ in 0..INPUTS / 20 {
+        let (mut ring, mut queue) = (plain::Ring::empty(), Queue::empty());
+        let pace = pace(&mut random, 90);
+        for _ in 0..pace.turns {
+            match queue_deed(&mut random, pace, &queue) {
+                QueueDeed::Add(bytes) => {
+                    let number = plain::queue_add(&mut ring, &bytes);
+                    assert_eq!(number, queue.add(&bytes));
+                }
+                QueueDeed::Take(room) => {
+                    let mut one = output(&mut random, room);
+                    let mut other = one.clone();
+                    let batch = plain::queue_take(&mut ring, &mut one);
+                    let wanted = queue.take(&mut other);
+                    let taken = (batch.number, batch.pdus, batch.bytes);
+                    assert_eq!(taken, (wanted.number, wanted.pdus, wanted.bytes));
+                    assert_eq!(one, other);
+                }
+            }
+            let level = plain::queue_level(&ring);
+            let wanted = (queue.held().len(), queue.bytes());
+            assert_eq!((level.pdus, level.bytes), wanted);
+        }
     }
 }

@@ -17,6 +17,8 @@ pub mod Listening
 pub mod Elements
 pub mod Joined
 pub mod Exchange
+pub mod Queue
+pub mod Transmit
 pub mod Bound
 pub mod Boundary
 pub mod Mant
@@ -24,5 +26,6 @@ pub mod Demands
 pub mod StationsHeard
 pub mod SerialExchange
 pub mod OwnReport
+pub mod TransmitQueue
 pub mod Examples
 pub mod LastSender

@@ -46,6 +46,12 @@ use Rattle.mant.proofs.mant_read_exchange.Reads as mant-read-exchange-reads
 use Rattle.mant.proofs.mant_read_exchange.Kinds as mant-read-exchange-kinds
 use Rattle.mant.proofs.mant_write_exchange.Reads as mant-write-exchange-reads
 use Rattle.mant.proofs.mant_write_exchange.Kinds as mant-write-exchange-kinds
+use Rattle.mant.proofs.mant_queue_level.Reads as mant-queue-level-reads
+use Rattle.mant.proofs.mant_queue_level.Kinds as mant-queue-level-kinds
+use Rattle.mant.proofs.mant_queue_add.Reads as mant-queue-add-reads
+use Rattle.mant.proofs.mant_queue_add.Kinds as mant-queue-add-kinds
+use Rattle.mant.proofs.mant_queue_take.Reads as mant-queue-take-reads
+use Rattle.mant.proofs.mant_queue_take.Kinds as mant-queue-take-kinds
 
 pub mant-read : Promised 1 mant-read-kinds.ps mant-read-kinds.r mant-read-reads.Asked mant-read-reads.Post (λ κs x. x)
 mant-read = (λ κs a. tt, λ κs a x y s t p q. p ∙ sym q)
@@ -140,3 +146,15 @@ mant-read-exchange = (λ κs a. tt, λ κs a x y s t p q. p ∙ sym q)
 pub mant-write-exchange : PromisedWithOutput 2 mant-write-exchange-kinds.ps mant-write-exchange-kinds.r mant-write-exchange-reads.Asked
     mant-write-exchange-reads.Post (λ κs s. now (s .1 .0))
 mant-write-exchange = (λ κs a. tt, λ κs a x y s t p q. (p .0 ∙ sym (q .0), p .1 ∙ sym (q .1)))
+
+pub mant-queue-level : Promised 1 mant-queue-level-kinds.ps mant-queue-level-kinds.r mant-queue-level-reads.Asked
+    mant-queue-level-reads.Post (λ κs x. x)
+mant-queue-level = (λ κs a. tt, λ κs a x y s t p q. p ∙ sym q)
+
+pub mant-queue-add : PromisedWithOutput 2 mant-queue-add-kinds.ps mant-queue-add-kinds.r mant-queue-add-reads.Asked
+    mant-queue-add-reads.Post (λ κs s. now (s .0))
+mant-queue-add = (λ κs a. tt, λ κs a x y s t p q. (p .0 ∙ sym (q .0), p .1 ∙ sym (q .1)))
+
+pub mant-queue-take : PromisedWithOutput 2 mant-queue-take-kinds.ps mant-queue-take-kinds.r mant-queue-take-reads.Asked
+    mant-queue-take-reads.Post (λ κs s. both (now (s .0)) (now (s .1 .0)))
+mant-queue-take = (λ κs a. tt, λ κs a x y s t p q. (p .0 ∙ sym (q .0), λ i. ((p .1 ∙ sym (q .1)) i, (p .2 ∙ sym (q .2)) i)))

@@ -22,6 +22,8 @@ use Rattle.pdu.proofs.reading_number.Reads as reading-number-reads
 use Rattle.pdu.proofs.reading_number.Kinds as reading-number-kinds
 use Rattle.pdu.proofs.header_of.Reads as header-of-reads
 use Rattle.pdu.proofs.header_of.Kinds as header-of-kinds
+use Rattle.pdu.proofs.pdu_length_in.Reads as pdu-length-in-reads
+use Rattle.pdu.proofs.pdu_length_in.Kinds as pdu-length-in-kinds
 use Rattle.pdu.proofs.parts.path_address.Reads as parts-path-address-reads
 use Rattle.pdu.proofs.parts.path_address.Kinds as parts-path-address-kinds
 use Rattle.pdu.proofs.parts.path_has.Reads as parts-path-has-reads
@@ -66,6 +68,9 @@ reading-number = (λ κs a. tt, λ κs a x y s t p q. p ∙ sym q)
 
 pub header-of : Promised 1 header-of-kinds.ps header-of-kinds.r header-of-reads.Asked header-of-reads.Post (λ κs x. x)
 header-of = (λ κs a. tt, λ κs a x y s t p q. p ∙ sym q)
+
+pub pdu-length-in : Promised 1 pdu-length-in-kinds.ps pdu-length-in-kinds.r pdu-length-in-reads.Asked pdu-length-in-reads.Post (λ κs x. x)
+pdu-length-in = (λ κs a. tt, λ κs a x y s t p q. p .0 ∙ sym (q .0))
 
 pub parts-path-address : Promised 1 parts-path-address-kinds.ps parts-path-address-kinds.r parts-path-address-reads.Asked
     parts-path-address-reads.Post (λ κs x. x)

@@ -3,5 +3,6 @@ pub mod Demands
 pub mod StationsHeard
 pub mod SerialExchange
 pub mod OwnReport
+pub mod TransmitQueue
 pub mod Examples
 pub mod LastSender

@@ -1,6 +1,6 @@
-// Runs the cases that document 01 checks by hand and does not mark P, and an input for each number of its table and of the requests of document 02. A
-// case is a line of `stdin`. For each a line is printed: its name, the numbers answered, and `ok`, or `WRONG` where a number or a byte of the output is
-// not what it should be, or where the line can't be read, with the character from which it can't.
+// Runs the cases that document 01 checks by hand and does not mark P, and an input for each number of its table and of the requests of document 02 but
+// W-206. A case is a line of `stdin`. For each a line is printed: its name, the numbers answered, and `ok`, or `WRONG` where a number or a byte of the
+// output is not what it should be, or where the line can't be read, with the character from which it can't.
 //
 // `NAME: VERB .. = ..` has what is asked before the `=`, and what is expected after it. The first letter of the first word is the verb's; all other
 // words, in small letters, are for the reader. Numbers are decimal and at most 65,535; of a setting, 0 is off. Brackets hold bytes in hex, in order: the

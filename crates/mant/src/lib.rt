@@ -15,6 +15,9 @@ ghost use Rattle.counting.specs.Removing.{removalNumber, memoryAfterRemoval};
 ghost use Rattle.listening.specs.Listening.{answerNumber, memoryAfterAnswer};
 ghost use Rattle.exchange.specs.Exchange.{exchangeOf};
 ghost use Rattle.exchange.specs.Encoding.{writtenExchange, exchangeOutput};
+ghost use Rattle.queue.specs.Queue.{heldIn, levelOf};
+ghost use Rattle.transmit.specs.Adding.{addNumber, memoryAfterAdd};
+ghost use Rattle.transmit.specs.Taking.{Takes};
 ghost use Rattle.boundary.specs.Boundary.{headerInC, pathAddressIn, pathHas, freshFromC, boundInC, limitsInC};
 ghost use Rattle.boundary.specs.Boundary.{HearsInC, StepsInC, answerFromC, ListensInC};
 use batch::Cursor;
@@ -30,7 +33,9 @@ use decision::Settings;
 use exchange::Exchange;
 use pdu::Reading;
 use pdu::Written;
+use queue::Level;
 use stations::Found;
+use transmit::Batch;
 
 // The header of the PDU at the start of `bytes` and its last sender, or the number, 1 to 6, of why there is none. Bytes after the PDU are not looked at.
 // Document 01, "Header, byte by byte", and "Numbers answered", 1 to 6; document 02, W-205.
@@ -318,4 +323,31 @@ pub extern "C" fn mant_write_exchange(bytes: &[u8], output: &mut [u8]) -> Writte
         × (now (output .exit) ≡ exchangeOutput (now (bytes .entry)) (now (output .entry))) ⌝ }
 {
     exchange::write_exchange(bytes, output)
+}
+
+// How many PDUs a queue holds, and how many bytes they have. Any memory holds a queue. Document 02, W-206.
+#[no_mangle]
+pub extern "C" fn mant_queue_level(queue: &[u8]) -> Level
+    ensures { λ r. ⌜ r ≡ levelOf (heldIn (now (queue .entry))) ⌝ }
+{
+    queue::level_of(queue)
+}
+
+// Adds a PDU behind those held: 0; or 61 where the bytes are not exactly one PDU, then 60 where 32 are held or there is no room for its bytes, and the
+// queue stays as it was. Document 02, W-206.
+#[no_mangle]
+pub extern "C" fn mant_queue_add(queue: &mut [u8], pdu: &[u8]) -> u8
+    ensures { λ r. ⌜ (r ≡ addNumber (now (pdu .entry)) (now (queue .entry)))
+        × (now (queue .exit) ≡ memoryAfterAdd (now (pdu .entry)) (now (queue .entry))) ⌝ }
+{
+    transmit::add(queue, pdu)
+}
+
+// Writes as many of the oldest PDUs as fit the output, whole and in order, and releases them: 0, also where none is held; or 62 where the oldest does
+// not fit. Where none is written, queue and output stay as they were; output past what is written keeps its bytes. Document 02, W-206.
+#[no_mangle]
+pub extern "C" fn mant_queue_take(queue: &mut [u8], output: &mut [u8]) -> Batch
+    ensures { λ r. ⌜ Takes (now (queue .entry)) (now (output .entry)) r (now (queue .exit)) (now (output .exit)) ⌝ }
+{
+    transmit::take(queue, output)
 }

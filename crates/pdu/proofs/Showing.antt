@@ -3,7 +3,7 @@ use Prim.Native.Nat.{ℕ, zero, suc, _+_, _*_, _<_}
 use native.Mathlib.Omega.{arith}
 use mathlib.Core.Bool.{Bool, true, false, cond}
 use mathlib.Core.List.{List}
-use mathlib.Core.Path.{_≡_, refl}
+use mathlib.Core.Path.{_≡_, refl, ap}
 use Rattle.octets.specs.Numbers.{flag}
 use Rattle.octets.specs.Octets.{at, wordAt}
 use Rattle.pdu.specs.declared.Destination.{Destination}
@@ -75,3 +75,10 @@ module _ (bytes : List ℕ) where
   pub pdu-length-shown : pduLength (headerOf bytes) ≡ headerLength (headerOf bytes) + payloadLength (at bytes 2) (at bytes 3)
   unfolding headerOf
   pdu-length-shown = refl
+
+  -- the PDU's length, from the bytes that tell it
+  pub length-told : (byte0 byte2 byte3 count head payload : ℕ) → byte0 ≡ at bytes 0 → byte2 ≡ at bytes 2 → byte3 ≡ at bytes 3
+      → count ≡ pathCountIn bytes → head ≡ pathCountPlace byte0 + pathBit byte0 + 2 * count → payload ≡ payloadLength byte2 byte3
+      → head + payload ≡ pduLength (headerOf bytes)
+  length-told byte0 byte2 byte3 count head payload e0 e2 e3 ec eh ep =
+      omega (arith, ap (λ (byte : ℕ). pathCountPlace byte) e0, length-shown, pdu-length-shown)

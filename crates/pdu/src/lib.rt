@@ -8,7 +8,7 @@ ghost use lib.Dec.{eqb, ltb};
 ghost use Rattle.octets.specs.Numbers.{_gives_, _orElse_};
 ghost use Rattle.pdu.specs.Header.{isSet, version, protocol, pathBit, destinationBit, payloadLength};
 ghost use Rattle.pdu.specs.Header.{pduIdPlace, pathCountPlace, destinationIn, pduIdIn, pathCountIn, headerOf};
-ghost use Rattle.pdu.specs.Sizes.{limits, pathLimit, headerLimit, destinationFlag, pathEntries, pathStart, headerLength, pduLength};
+ghost use Rattle.pdu.specs.Sizes.{limits, pathLimit, headerLimit, pduLimit, destinationFlag, pathEntries, pathStart, headerLength, pduLength};
 ghost use Rattle.pdu.specs.Reading.{readOf, refusalNumber, readingNumber};
 use octets::byte_value;
 use octets::word_value;
@@ -253,6 +253,15 @@ pub fn header_of(bytes: &[u8]) -> Header
         pdu_id_in(bytes),
         path_count_in(bytes),
     )
+}
+
+// The length of the PDU whose header bytes show, whether or not they can be read: header and payload, a byte that is not there counted as 0.
+// Document 01, "Sizes": 4,615 at most.
+pub fn pdu_length_in(bytes: &[u8]) -> usize
+    ensures { λ r. ⌜ (r ≡ pduLength (headerOf (now (bytes .entry)))) × (r ≤ pduLimit) ⌝ }
+{
+    let payload = payload_length(octets::byte(bytes, 2), octets::byte(bytes, 3));
+    header_length_in(octets::byte(bytes, 0), path_count_in(bytes)) + word_value(payload)
 }
 
 // The same header, once its fields that may be missing were found.

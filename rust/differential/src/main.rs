@@ -2,7 +2,7 @@
 //! generated inputs: every number, field, delivered part and output byte.
 //!
 //! `differential [seed [count [first]]]`: the seed of the inputs (1), how many
-//! (232,000), and the first (0), so that one input can be run alone.
+//! (248,000), and the first (0), so that one input can be run alone.
 
 mod bounding;
 mod by_hand;
@@ -11,8 +11,10 @@ mod exchanging;
 mod flooding;
 mod hearing;
 mod listing;
+mod memory;
 mod originating;
 mod output;
+mod queueing;
 mod reading;
 mod same;
 mod table;
@@ -33,7 +35,7 @@ const MOST_DIFFERENCES: u64 = 10;
 type Kind = (&'static str, usize, fn(&mut Random) -> Compared);
 
 /// The kinds of input.
-const KINDS: [Kind; 11] = [
+const KINDS: [Kind; 13] = [
     ("reading and writing again", 28, reading::compare),
     ("origination", 13, originating::compare),
     ("lists", 6, listing::compare),
@@ -45,6 +47,8 @@ const KINDS: [Kind; 11] = [
     ("tables put together by hand", 1, by_hand::compare),
     ("exchanges read", 6, exchanging::compare_reading),
     ("exchanges written", 3, exchanging::compare_writing),
+    ("histories of a queue", 6, queueing::compare_history),
+    ("queues put together by hand", 2, queueing::compare_by_hand),
 ];
 
 /// What the arguments ask for.
@@ -67,7 +71,7 @@ fn main() -> ExitCode {
 
 /// Reads the arguments.
 fn asked() -> Result<Asked, String> {
-    let mut numbers = [1, 232_000, 0];
+    let mut numbers = [1, 248_000, 0];
     let mut arguments = std::env::args().skip(1);
     for (number, argument) in numbers.iter_mut().zip(arguments.by_ref()) {
         *number = argument

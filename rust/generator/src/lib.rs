@@ -1,6 +1,6 @@
 //! Seeded inputs for everything that document 01 describes, and 02 as far as
 //! it is built: PDUs, damaged and cut ones, settings, lists, outputs, batches,
-//! jobs, histories of a table of stations, and exchanges.
+//! jobs, histories of a table of stations, exchanges, and transmit queues.
 //!
 //! Everything is drawn from one [`Random`], so the same seed gives the same
 //! inputs. PDUs are laid out here by arithmetic of their own, not by the
@@ -12,6 +12,7 @@ mod history;
 mod job;
 mod lists;
 mod output;
+mod queue;
 mod random;
 mod received;
 mod settings;
@@ -24,6 +25,7 @@ pub use history::{deed, history, source_near, Deed, History};
 pub use job::{damaged_job, job, random_job, DamagedJob, JobParts};
 pub use lists::{bad_list, four_lists, good_four_lists, good_list, FourLists};
 pub use output::{output, room};
+pub use queue::{any_queue, empty_queue, pace, queue_deed, Pace, QueueDeed};
 pub use random::{splitmix64, Random};
 pub use received::{cut, damaged, random_bytes, received};
 pub use settings::{origination, payload_to_send, settings, settings_for};

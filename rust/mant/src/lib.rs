@@ -3,15 +3,18 @@
 //! Every function answers for every input and allocates nothing. An output is
 //! changed only where a PDU or an exchange is written to it, and keeps its
 //! bytes past the end of that. [`Stations`] holds the stations that a box has
-//! heard. [`raw`] gives the library's structs as they are.
+//! heard, [`Queue`] the PDUs that wait to be sent. [`raw`] gives the library's
+//! structs as they are.
 
 mod exchange;
+mod queue;
 pub mod raw;
 mod refusal;
 mod stations;
 
 pub use exchange::{read_exchange, write_exchange, Exchange};
-pub use raw::{Cursor, Limits, Node};
+pub use queue::{Queue, Taken};
+pub use raw::{Cursor, Level, Limits, Node};
 pub use refusal::Refusal;
 pub use stations::{Heard, Listened, Station, Stations};
 use std::ops::Range;

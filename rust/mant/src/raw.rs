@@ -145,6 +145,23 @@ pub struct Listened {
     pub table_number: u8,
 }
 
+/// `MantLevel`.
+#[repr(C)]
+#[derive(Clone, Copy, Debug, Default, PartialEq, Eq)]
+pub struct Level {
+    pub pdus: usize,
+    pub bytes: usize,
+}
+
+/// `MantBatch`.
+#[repr(C)]
+#[derive(Clone, Copy, Debug, Default, PartialEq, Eq)]
+pub struct Batch {
+    pub number: u8,
+    pub pdus: usize,
+    pub bytes: usize,
+}
+
 /// `MantBound`.
 #[repr(C)]
 #[derive(Clone, Copy, Debug, Default, PartialEq, Eq)]
@@ -182,6 +199,13 @@ pub const STATION_LIMIT: usize = 128;
 /// `MANT_STATION_WORDS`.
 pub const STATION_WORDS: usize = 513;
 
+/// `MANT_QUEUE_PDUS`.
+pub const QUEUE_PDUS: usize = 32;
+/// `MANT_QUEUE_BYTES`.
+pub const QUEUE_BYTES: usize = 2048;
+/// `MANT_QUEUE_LENGTH`.
+pub const QUEUE_LENGTH: usize = 2050;
+
 /// `MANT_EXCHANGE_LIMIT`.
 pub const EXCHANGE_LIMIT: usize = 4626;
 
@@ -199,6 +223,8 @@ const _: () = {
     assert!(size_of::<Found>() == 12);
     assert!(size_of::<Heard>() == 6);
     assert!(size_of::<Listened>() == 48);
+    assert!(size_of::<Level>() == 16);
+    assert!(size_of::<Batch>() == 24);
     assert!(size_of::<Bound>() == 16);
     assert!(size_of::<Limits>() == 56);
 };
@@ -242,6 +268,9 @@ extern "C" {
         destination_pass: *const u16, destination_pass_length: usize, destination_reject: *const u16, destination_reject_length: usize,
         received: *const u8, received_length: usize, output: *mut u8, output_length: usize, table: *mut u16, table_words: usize,
     ) -> Listened;
+    fn mant_queue_level(queue: *const u8, queue_length: usize) -> Level;
+    fn mant_queue_add(queue: *mut u8, queue_length: usize, pdu: *const u8, pdu_length: usize) -> u8;
+    fn mant_queue_take(queue: *mut u8, queue_length: usize, output: *mut u8, output_length: usize) -> Batch;
     fn mant_most_transmissions(nodes: u64, hop_limit: u64) -> Bound;
     fn mant_most_bytes(nodes: u64, hop_limit: u64, size: u64) -> Bound;
     fn mant_limits() -> Limits;
@@ -255,7 +284,8 @@ pub type Lists<'a> = [&'a [u16]; 4];
 #[inline]
 pub fn read(bytes: &[u8]) -> Header {
     // SAFETY: as in every call here, pointers and lengths are those of live
-    // slices, and an output or a table that is changed is borrowed alone.
+    // slices, and an output, a table or a queue that is changed is borrowed
+    // alone.
     unsafe { mant_read(bytes.as_ptr(), bytes.len()) }
 }
 
@@ -472,6 +502,34 @@ pub fn hear_and_count(
             output.len(),
             table.as_mut_ptr(),
             table.len(),
+        )
+    }
+}
+
+/// `mant_queue_level`.
+#[inline]
+pub fn queue_level(queue: &[u8]) -> Level {
+    // SAFETY: as above.
+    unsafe { mant_queue_level(queue.as_ptr(), queue.len()) }
+}
+
+/// `mant_queue_add`.
+#[inline]
+pub fn queue_add(queue: &mut [u8], pdu: &[u8]) -> u8 {
+    // SAFETY: as above.
+    unsafe { mant_queue_add(queue.as_mut_ptr(), queue.len(), pdu.as_ptr(), pdu.len()) }
+}
+
+/// `mant_queue_take`.
+#[inline]
+pub fn queue_take(queue: &mut [u8], output: &mut [u8]) -> Batch {
+    // SAFETY: as above.
+    unsafe {
+        mant_queue_take(
+            queue.as_mut_ptr(),
+            queue.len(),
+            output.as_mut_ptr(),
+            output.len(),
         )
     }
 }

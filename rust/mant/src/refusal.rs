@@ -71,6 +71,9 @@ refusals! {
     ElementCut = 57, "an element does not end within the run that it stands in";
     ElementTooDeep = 58, "an element stands at level 5";
     NotAnExchange = 59, "not one element of type 20 that holds one header and one payload";
+    QueueFull = 60, "the queue holds 32 PDUs, or has no room for so many bytes more";
+    NotOnePdu = 61, "not one whole PDU with nothing after it";
+    OldestTooLong = 62, "the output has no room for the oldest PDU of the queue";
     NotSplitAtHeader = 63, "bytes follow the PDU, or its two parts do not meet at the header's end";
 }
 

@@ -15,6 +15,7 @@ mod node;
 pub mod numbers;
 mod octets;
 mod origin;
+mod queue;
 mod stations;
 mod writing;
 
@@ -27,5 +28,6 @@ pub use lists::{holds, list_fault, Lists, MOST_RANGES, MOST_VALUES};
 pub use node::{hear, Answer, Settings};
 pub use numbers::{described, meaning};
 pub use origin::{originate, Origination};
+pub use queue::{Queue, Taken, MOST_HELD, MOST_HELD_BYTES};
 pub use stations::{counts_as_echo, hear_and_count, Station, Stations, MOST_STATIONS};
 pub use writing::{write, write_again};

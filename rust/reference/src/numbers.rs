@@ -51,6 +51,9 @@ numbers! {
     ELEMENT_CUT = 57, "an element does not end within the run that it stands in";
     ELEMENT_TOO_DEEP = 58, "an element stands at level 5";
     NOT_AN_EXCHANGE = 59, "not one element of type 20 that holds one header and one payload";
+    QUEUE_FULL = 60, "the queue holds 32 PDUs, or has no room for so many bytes more";
+    NOT_ONE_PDU = 61, "not one whole PDU with nothing after it";
+    OLDEST_TOO_LONG = 62, "the output has no room for the oldest PDU of the queue";
     NOT_SPLIT_AT_HEADER = 63, "bytes follow the PDU, or its two parts do not meet at the header's end";
 }
 

@@ -1,0 +1,23 @@
+-- Every public function of `queue`: its promise asks nothing of the caller and determines what the caller sees.
+use mathlib.Core.Path.{sym, _∙_}
+use Rattle.audit.specs.Promise.{Promised}
+use Rattle.queue.proofs.capacity.Reads as capacity-reads
+use Rattle.queue.proofs.capacity.Kinds as capacity-kinds
+use Rattle.queue.proofs.level_in.Reads as level-in-reads
+use Rattle.queue.proofs.level_in.Kinds as level-in-kinds
+use Rattle.queue.proofs.split_for.Reads as split-for-reads
+use Rattle.queue.proofs.split_for.Kinds as split-for-kinds
+use Rattle.queue.proofs.level_of.Reads as level-of-reads
+use Rattle.queue.proofs.level_of.Kinds as level-of-kinds
+
+pub capacity : Promised 1 capacity-kinds.ps capacity-kinds.r capacity-reads.Asked capacity-reads.Post (λ κs x. x)
+capacity = (λ κs a. tt, λ κs a x y s t p q. p .0 ∙ sym (q .0))
+
+pub level-in : Promised 1 level-in-kinds.ps level-in-kinds.r level-in-reads.Asked level-in-reads.Post (λ κs x. x)
+level-in = (λ κs a. tt, λ κs a x y s t p q. p ∙ sym q)
+
+pub split-for : Promised 1 split-for-kinds.ps split-for-kinds.r split-for-reads.Asked split-for-reads.Post (λ κs x. x)
+split-for = (λ κs a. tt, λ κs a x y s t p q. p ∙ sym q)
+
+pub level-of : Promised 1 level-of-kinds.ps level-of-kinds.r level-of-reads.Asked level-of-reads.Post (λ κs x. x)
+level-of = (λ κs a. tt, λ κs a x y s t p q. p ∙ sym q)

@@ -1,0 +1,106 @@
+-- Document 02, W-206, as one record; `proofs/TransmitQueue.antt` gives it from its parts. "Any memory" is any bytes, put together by hand or not.
+use Prim.Native.Nat.{ℕ, _+_, _≤_, _<_}
+use mathlib.Core.Bool.{true, false}
+use mathlib.Core.List.{List, [], _∷_, _++_, flatten}
+use mathlib.Core.Path.{_≡_}
+use lib.ListN.{length, getD, take, drop, replicate}
+use Rattle.octets.specs.Octets.{wordAt}
+use Rattle.pdu.specs.Reading.{exactlyOne}
+use Rattle.lists.specs.Lists.{listFault}
+use Rattle.decision.specs.Decision.{Node}
+use Rattle.batch.specs.Walk.{walk}
+use Rattle.queue.specs.Queue.{capacity, heldIn, memoryOf, front, back}
+use Rattle.transmit.specs.declared.Batch.{Batch}
+use Rattle.transmit.specs.Adding.{addNumber, memoryAfterAdd}
+use Rattle.transmit.specs.Taking.{batchOf, outputAfterTake, memoryAfterTake}
+use Rattle.transmit.specs.History.{Deed, Adding, Taking, memoryAfter, accepted, takenOut, places, allReadable}
+
+-- PDUs of 6, 7 and 8 bytes, one of 2,042 and one of 2,043; a memory for 2,048 bytes, with a queue in it
+abbrev pub six : List ℕ
+six = 0x00 ∷ 0x00 ∷ 0x00 ∷ 0x00 ∷ 0x00 ∷ 0x05 ∷ []
+
+abbrev pub seven : List ℕ
+seven = 0x00 ∷ 0x00 ∷ 0x00 ∷ 0x01 ∷ 0x00 ∷ 0x05 ∷ 0xAA ∷ []
+
+abbrev pub eight : List ℕ
+eight = 0x00 ∷ 0x00 ∷ 0x00 ∷ 0x02 ∷ 0x00 ∷ 0x05 ∷ 0xBB ∷ 0xCC ∷ []
+
+abbrev pub of2042 : List ℕ
+of2042 = 0x00 ∷ 0x00 ∷ 0x07 ∷ 0xF4 ∷ 0x00 ∷ 0x05 ∷ replicate 2036 0
+
+abbrev pub of2043 : List ℕ
+of2043 = 0x00 ∷ 0x00 ∷ 0x07 ∷ 0xF5 ∷ 0x00 ∷ 0x05 ∷ replicate 2037 0
+
+abbrev pub queueOf : List (List ℕ) → List ℕ
+queueOf pdus = memoryOf pdus (replicate 2050 0)
+
+abbrev pub batch : ℕ → ℕ → ℕ → Batch
+batch number pdus bytes = record { number = number; pdus = pdus; bytes = bytes }
+
+pub record TransmitQueue : Type 0 where
+  -- a memory of 2,050 bytes or more has room for 2,048; one whose first two bytes are 0 is an empty queue
+  pub room-for-2048 : (memory : List ℕ) → 2050 ≤ length memory → capacity memory ≡ 2048
+  pub empty : (memory : List ℕ) → wordAt memory 0 ≡ 0 → heldIn memory ≡ []
+  -- any memory holds at most 32, of at most 2,048 bytes, and each is exactly one PDU
+  pub limits : (memory : List ℕ) → (length (heldIn memory) ≤ 32) × (length (flatten (heldIn memory)) ≤ 2048)
+  pub whole : (memory : List ℕ) (i : ℕ) → i < length (heldIn memory) → exactlyOne (getD (heldIn memory) i []) ≡ true
+  -- adding what is not exactly one PDU: 61, whatever is held
+  pub not-one : (pdu memory : List ℕ) → exactlyOne pdu ≡ false → (addNumber pdu memory ≡ 61) × (memoryAfterAdd pdu memory ≡ memory)
+  -- adding one PDU: 60 where 32 are held or the bytes held and the new ones exceed the room, and nothing changes
+  pub full-of-pdus : (pdu memory : List ℕ) → exactlyOne pdu ≡ true → 32 ≤ length (heldIn memory)
+      → (addNumber pdu memory ≡ 60) × (memoryAfterAdd pdu memory ≡ memory)
+  pub full-of-bytes : (pdu memory : List ℕ) → exactlyOne pdu ≡ true → capacity memory < length (flatten (heldIn memory)) + length pdu
+      → (addNumber pdu memory ≡ 60) × (memoryAfterAdd pdu memory ≡ memory)
+  -- and only there: else it is held, behind the others
+  pub added : (pdu memory : List ℕ) → exactlyOne pdu ≡ true → length (heldIn memory) < 32
+      → length (flatten (heldIn memory)) + length pdu ≤ capacity memory
+      → (addNumber pdu memory ≡ 0) × (heldIn (memoryAfterAdd pdu memory) ≡ heldIn memory ++ pdu ∷ [])
+  -- taking with none held: 0, and nothing changes, whatever the room
+  pub none-held : (memory output : List ℕ) → heldIn memory ≡ []
+      → (batchOf (length output) (heldIn memory) ≡ batch 0 0 0)
+      × (memoryAfterTake (length output) memory ≡ memory) × (outputAfterTake memory output ≡ output)
+  -- with some: 62 where the oldest does not fit, and nothing changes
+  pub too-long : (memory output oldest : List ℕ) (later : List (List ℕ)) → heldIn memory ≡ oldest ∷ later → length output < length oldest
+      → (batchOf (length output) (heldIn memory) ≡ batch 62 0 0)
+      × (memoryAfterTake (length output) memory ≡ memory) × (outputAfterTake memory output ≡ output)
+  -- and only there: else 0, and at least the oldest is taken
+  pub taken : (memory oldest : List ℕ) (later : List (List ℕ)) (room : ℕ) → heldIn memory ≡ oldest ∷ later → length oldest ≤ room
+      → (batchOf room (heldIn memory) .number ≡ 0) × (0 < batchOf room (heldIn memory) .pdus)
+  -- those taken and those that stay are those held, in order; those taken fit the room, and with the next one they would not
+  pub split : (room : ℕ) (pdus : List (List ℕ)) → front room pdus ++ back room pdus ≡ pdus
+  pub fits : (room : ℕ) (pdus : List (List ℕ)) → length (flatten (front room pdus)) ≤ room
+  pub longest : (room : ℕ) (pdus : List (List ℕ)) (next : List ℕ) (later : List (List ℕ)) → back room pdus ≡ next ∷ later
+      → room < length (flatten (front room pdus)) + length next
+  -- the answer counts those taken and their bytes; these stand at the output's start, and the rest of it is kept; the others stay held
+  pub counted : (room : ℕ) (pdus : List (List ℕ))
+      → (batchOf room pdus .pdus ≡ length (front room pdus)) × (batchOf room pdus .bytes ≡ length (flatten (front room pdus)))
+  pub written : (memory output : List ℕ) → let size = batchOf (length output) (heldIn memory) .bytes in
+      (take size (outputAfterTake memory output) ≡ flatten (front (length output) (heldIn memory)))
+      × (drop size (outputAfterTake memory output) ≡ drop size output)
+  pub released : (room : ℕ) (memory : List ℕ) → heldIn (memoryAfterTake room memory) ≡ back room (heldIn memory)
+  -- after any adds and takes from an empty queue: what was accepted is what was taken followed by what is held
+  pub in-order : (memory : List ℕ) → wordAt memory 0 ≡ 0 → (deeds : List Deed)
+      → accepted memory deeds ≡ takenOut memory deeds ++ heldIn (memoryAfter memory deeds)
+  -- the memory is as long as it was, and its first two bytes say how many bytes are held
+  pub says : (memory : List ℕ) → wordAt memory 0 ≡ 0 → (deeds : List Deed)
+      → (length (memoryAfter memory deeds) ≡ length memory)
+      × (wordAt (memoryAfter memory deeds) 0 ≡ length (flatten (heldIn (memoryAfter memory deeds))))
+  -- 01's walk, no list at fault, reads each batch taken to its end: it comes to just the PDUs' places, and none of its answers is 1 to 6
+  pub walked : (memory : List ℕ) (room : ℕ) (node : Node) (output : ℕ) → listFault (node .lists) ≡ 0
+      → let pdus = front room (heldIn memory) in let found = walk node output (flatten pdus) in
+      (found .number ≡ 0) × (found .offsets ≡ places 0 pdus) × (allReadable (found .answers) ≡ true) × (found .end ≡ length (flatten pdus))
+  -- the oldest first: of 6, 7 and 8 bytes, 14 are room for two, and the third stays
+  pub oldest-first : let deeds = Taking 14 ∷ Adding eight ∷ Adding seven ∷ Adding six ∷ [] in
+      (takenOut (replicate 50 0) deeds ≡ six ∷ seven ∷ []) × (heldIn (memoryAfter (replicate 50 0) deeds) ≡ eight ∷ [])
+  -- what is refused is not accepted: with 61 bytes that are no PDU, two PDUs joined and none; with 60 one more than there is room for
+  pub accepted-only :
+      accepted (replicate 15 0) (Adding seven ∷ Adding six ∷ Adding [] ∷ Adding (six ++ six) ∷ Adding (0 ∷ []) ∷ Adding seven ∷ []) ≡ seven ∷ six ∷ []
+  -- a later one that would fit is not taken past an older one that does not
+  pub none-passed : (batchOf 7 (eight ∷ six ∷ []) ≡ batch 62 0 0) × (batchOf 14 (seven ∷ eight ∷ six ∷ []) ≡ batch 0 1 7)
+  -- 60 at 32 held and not at 31, at 2,049 bytes and not at 2,048; 61 before 60
+  pub at-31 : addNumber six (queueOf (replicate 31 six)) ≡ 0
+  pub at-32 : (addNumber six (queueOf (replicate 32 six)) ≡ 60) × (addNumber (0 ∷ []) (queueOf (replicate 32 six)) ≡ 61)
+  pub at-2048 : addNumber six (queueOf (of2042 ∷ [])) ≡ 0
+  pub at-2049 : addNumber six (queueOf (of2043 ∷ [])) ≡ 60
+  -- bytes put together by hand: those held end where none can be read, whatever the first two bytes say
+  pub by-hand : heldIn (0xFF ∷ 0xFF ∷ six ++ seven ++ (0x40 ∷ six)) ≡ six ∷ seven ∷ []

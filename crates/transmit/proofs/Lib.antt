@@ -1,0 +1,4 @@
+pub mod Laying
+pub mod Answers
+pub mod Histories
+pub mod Batches

@@ -1,0 +1,104 @@
+//! The transmit queue (02, W-206).
+
+use crate::raw::{self, QUEUE_BYTES, QUEUE_LENGTH, QUEUE_PDUS};
+use crate::{Level, Refusal};
+use std::fmt;
+
+/// What was taken from a queue.
+#[derive(Clone, Copy, Debug, Default, PartialEq, Eq)]
+pub struct Taken {
+    /// How many PDUs.
+    pub pdus: usize,
+    /// How many bytes of the output they fill, one after the other.
+    pub bytes: usize,
+}
+
+/// The PDUs that wait for the modem's next slot, 32 of them at most and 2,048
+/// bytes. It begins empty. Two queues are equal where they hold the same PDUs
+/// in the same order.
+#[derive(Clone)]
+pub struct Queue {
+    memory: [u8; QUEUE_LENGTH],
+}
+
+impl Queue {
+    /// So many PDUs are held at most.
+    pub const PDUS: usize = QUEUE_PDUS;
+    /// So many bytes they have together at most.
+    pub const BYTES: usize = QUEUE_BYTES;
+    /// So many bytes of memory hold them.
+    pub const LENGTH: usize = QUEUE_LENGTH;
+
+    /// An empty queue.
+    pub const fn new() -> Queue {
+        Queue::from_memory([0; QUEUE_LENGTH])
+    }
+
+    /// The queue in this memory, which `include/mant.h` describes. Any bytes
+    /// hold one.
+    pub const fn from_memory(memory: [u8; QUEUE_LENGTH]) -> Queue {
+        Queue { memory }
+    }
+
+    /// The memory that holds the queue, to be kept elsewhere.
+    pub const fn memory(&self) -> &[u8; QUEUE_LENGTH] {
+        &self.memory
+    }
+
+    /// How many PDUs and bytes are held.
+    pub fn level(&self) -> Level {
+        raw::queue_level(&self.memory)
+    }
+
+    /// Is no PDU held?
+    pub fn is_empty(&self) -> bool {
+        self.level().pdus == 0
+    }
+
+    /// The PDUs that are held, the oldest first.
+    pub fn iter(&self) -> impl Iterator<Item = &[u8]> + '_ {
+        let mut rest = &self.memory[2..2 + self.level().bytes];
+        std::iter::from_fn(move || {
+            let length = raw::read(rest).pdu_length;
+            let (pdu, behind) = rest.split_at(length);
+            rest = behind;
+            (length > 0).then_some(pdu)
+        })
+    }
+
+    /// Adds a PDU, or answers 61 where the bytes are not exactly one, and then
+    /// 60 where there is no room for it.
+    pub fn add(&mut self, pdu: &[u8]) -> Result<(), Refusal> {
+        Refusal::check(raw::queue_add(&mut self.memory, pdu))
+    }
+
+    /// Moves as many of the oldest PDUs to the output as fit there, or answers
+    /// 62 where the oldest doesn't. An empty queue gives none.
+    pub fn take(&mut self, output: &mut [u8]) -> Result<Taken, Refusal> {
+        let batch = raw::queue_take(&mut self.memory, output);
+        Refusal::check(batch.number).map(|()| Taken {
+            pdus: batch.pdus,
+            bytes: batch.bytes,
+        })
+    }
+}
+
+impl Default for Queue {
+    fn default() -> Queue {
+        Queue::new()
+    }
+}
+
+impl PartialEq for Queue {
+    fn eq(&self, other: &Queue) -> bool {
+        self.iter().eq(other.iter())
+    }
+}
+
+impl Eq for Queue {}
+
+impl fmt::Debug for Queue {
+    fn fmt(&self, f: &mut fmt::Formatter) -> fmt::Result {
+        f.debug_list().entries(self.iter()).finish()
+    }
+}
