@@ -463,6 +463,12 @@ Batch plain_queue_take(Ring *ring, uint8_t *output, size_t output_length)
     return batch;
 }
 
+void plain_queue_clear(Ring *ring)
+{
+    ring->pdus = 0;
+    ring->bytes = 0;
+}
+
 /* A run of elements, and where the next of them begins. */
 typedef struct {
     const uint8_t *bytes;

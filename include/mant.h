@@ -26,11 +26,13 @@
  * stations are looked for as if the addresses rose, so that where they do not, one that stands there may not be found.
  *
  * Queue. The PDUs that wait for the modem's next slot (document 02, W-206) are held in bytes that the caller lends, and keeps from call to call: two
- * bytes, most significant first, that tell how many bytes follow, then the PDUs back to back, the oldest first. Bytes of which the first two are 0 are an
- * empty queue, whatever stands behind them. MANT_QUEUE_LENGTH bytes have room for MANT_QUEUE_BYTES bytes of PDUs, and more for no more; fewer have room for
- * all but two of them. Where a call changes the queue it writes the first two bytes and the PDUs then held, and keeps the bytes behind them; where it does
- * not, no byte changes. Bytes put together by hand get an answer too: held are the PDUs that can be read there one after the other, 32 at most, within as
- * many bytes as the first two tell, or as there is room for where they tell more.
+ * numbers of two bytes, most significant first, how many PDUs are held and how many bytes they have together (W-207), then the PDUs back to back, the
+ * oldest first. Bytes of which the first four are 0 are an empty queue, whatever stands behind them. MANT_QUEUE_LENGTH bytes have room for
+ * MANT_QUEUE_BYTES bytes of PDUs, and more for no more; fewer have room for all but four of them. Where a call changes the queue it writes the PDUs then
+ * held and before them their two numbers, and keeps the bytes behind them; where it does not, no byte changes. So in a queue that began empty the numbers
+ * are at all times those of the PDUs held. Bytes put together by hand get an answer too: held are the PDUs that can be read there one after the other, 32
+ * at most, within as many bytes as the second number tells, or as there is room for where it tells more; mant_queue_level alone does not look at them, and
+ * answers the two numbers as they stand.
  *
  * Exchange. What a decoder and an encoder that are two devices send each other (document 02, W-202; document 003, section 3, for the elements): one
  * element of type 20 that is all of the bytes, and in it an element of type 1024, the PDU's header, and one of type 1025, its payload, one of each, in
@@ -172,7 +174,7 @@ static inline const char *mant_meaning(uint8_t number)
 /* How many PDUs a queue holds at most, how many bytes they have together at most, and how many bytes are room for so many. */
 #define MANT_QUEUE_PDUS 32
 #define MANT_QUEUE_BYTES 2048
-#define MANT_QUEUE_LENGTH 2050
+#define MANT_QUEUE_LENGTH 2052
 
 /* The most bytes that mant_write_exchange writes. */
 #define MANT_EXCHANGE_LIMIT 4626
@@ -453,7 +455,8 @@ MantListened mant_hear_and_count(MantNode settings, const uint16_t *source_pass,
                                  const uint16_t *destination_reject, size_t destination_reject_length, const uint8_t *received,
                                  size_t received_length, uint8_t *output, size_t output_length, uint16_t *table, size_t table_words);
 
-/* How many PDUs and bytes a queue holds, found by a walk over its PDUs. Document 02, W-206, as all that take a queue. */
+/* How many PDUs and bytes a queue holds: the two numbers that it keeps (W-207), without a look at its PDUs, so that the cost is the same for any number of
+   them. A byte of the four that is not there counts as 0. Document 02, W-206, as all that take a queue. */
 MantLevel mant_queue_level(const uint8_t *queue, size_t queue_length);
 
 /* Adds a PDU to a queue, behind those that it holds. Answers 61 where the bytes are not one PDU and nothing else, whatever the queue holds; then 60 where
@@ -465,6 +468,10 @@ uint8_t mant_queue_add(uint8_t *queue, size_t queue_length, const uint8_t *pdu, 
    for mant_step, and releases them. Answers 62 where there is no room for the oldest. Where the queue holds none, the number is 0 and nothing is taken.
    In these two cases queue and output are left alone. */
 MantBatch mant_queue_take(uint8_t *queue, size_t queue_length, uint8_t *output, size_t output_length);
+
+/* Drops all PDUs that a queue holds: both numbers are 0 then, and every byte behind them is kept. Fewer than four bytes, which hold none, are left alone.
+   Document 02, W-207. */
+void mant_queue_clear(uint8_t *queue, size_t queue_length);
 
 /* The most transmissions that one fresh PDU with a path and this hop limit can cause among so many repeating nodes, its first sending counted. Echo is
    on at each node, and no two have the same address. The node at the PDU's source address hears too, with echo on, and does not count among these nodes,

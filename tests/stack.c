@@ -73,6 +73,7 @@ CALL(queue_add_call, mant_queue_add(QUEUE, shortest, sizeof shortest) == 0)
 CALL(queue_level_call, mant_queue_level(QUEUE).pdus == 2)
 CALL(queue_too_long_call, mant_queue_take(QUEUE, output, 5).number == MANT_OLDEST_TOO_LONG)
 CALL(queue_take_call, mant_queue_take(QUEUE, output, 6).pdus == 1)
+CALL(queue_clear_call, (mant_queue_clear(QUEUE), queue[1] == 0))
 
 /* Each function, and calls of it: the longest way, and others that may be deeper. */
 static const struct {
@@ -101,6 +102,7 @@ static const struct {
     {"mant_queue_add", {queue_full_call, queue_add_call, queue_add_call}},
     {"mant_queue_level", {queue_level_call}},
     {"mant_queue_take", {queue_too_long_call, queue_take_call}},
+    {"mant_queue_clear", {queue_clear_call}},
     {"mant_most_transmissions", {most_transmissions_call}},
     {"mant_most_bytes", {most_bytes_call}},
     {"mant_limits", {limits_call}},

@@ -62,7 +62,12 @@ fn main() {
     );
     row("read an exchange, full PDU", exchanging::reading());
     row("write an exchange, full PDU", exchanging::writing());
-    row("queue level, 32 PDUs of 64 bytes", queueing::level());
+    row("queue level, 1 PDU of 64 bytes", queueing::level(1));
+    row("queue level, 32 PDUs of 64 bytes", queueing::level(32));
+    row(
+        "queue, add one of 64 bytes and clear",
+        queueing::adding_and_clearing(64),
+    );
     row(
         "queue, add and take one of 64 bytes behind 31",
         queueing::adding_and_taking(31, 1, 64),

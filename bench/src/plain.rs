@@ -77,6 +77,7 @@ extern "C" {
     fn plain_queue_level(ring: *const Ring) -> Level;
     fn plain_queue_add(ring: *mut Ring, pdu: *const u8, length: usize) -> u8;
     fn plain_queue_take(ring: *mut Ring, output: *mut u8, output_length: usize) -> Batch;
+    fn plain_queue_clear(ring: *mut Ring);
 }
 
 /// `plain_read`.
@@ -209,6 +210,13 @@ pub fn queue_add(ring: &mut Ring, pdu: &[u8]) -> u8 {
 pub fn queue_take(ring: &mut Ring, output: &mut [u8]) -> Batch {
     // SAFETY: as above.
     unsafe { plain_queue_take(ring, output.as_mut_ptr(), output.len()) }
+}
+
+/// `plain_queue_clear`.
+#[inline]
+pub fn queue_clear(ring: &mut Ring) {
+    // SAFETY: as above.
+    unsafe { plain_queue_clear(ring) }
 }
 
 #[inline]

@@ -1,4 +1,4 @@
-//! A transmit queue, as full as it gets.
+//! A transmit queue, with one PDU and as full as it gets.
 
 use crate::inputs;
 use crate::plain;
@@ -54,6 +54,14 @@ impl Queues {
         batch
     }
 
+    /// Clears each.
+    fn clear(&mut self) {
+        raw::queue_clear(&mut self.library);
+        self.reference.clear();
+        plain::queue_clear(&mut self.plain);
+        self.check();
+    }
+
     /// The three have the same level.
     fn check(&self) {
         let level = raw::queue_level(&self.library);
@@ -75,13 +83,14 @@ fn pdu(length: usize) -> Vec<u8> {
     inputs::pdu(0, &vec![7; length - inputs::pdu(0, &[]).len()])
 }
 
-/// The level of a full queue; memcpy copies as many bytes as a level has.
-pub fn level() -> [Measured; 4] {
+/// The level of a queue that holds so many PDUs; memcpy copies as many bytes as
+/// a level has.
+pub fn level(held: usize) -> [Measured; 4] {
     let Queues {
         library,
         reference,
         plain,
-    } = Queues::holding(QUEUE_PDUS);
+    } = Queues::holding(held);
     measure(
         &[7; size_of::<Level>()],
         ROOM,
@@ -144,6 +153,35 @@ pub fn adding_and_taking(held: usize, count: usize, length: usize) -> [Measured;
     )
 }
 
+/// A PDU of so many bytes added to an empty queue, which is then cleared; memcpy
+/// copies the PDU.
+pub fn adding_and_clearing(length: usize) -> [Measured; 4] {
+    let Queues {
+        mut library,
+        mut reference,
+        mut plain,
+    } = Queues::holding(0);
+    measure(
+        &pdu(length),
+        ROOM,
+        [
+            &mut |input: &[u8], _: &mut [u8]| {
+                black_box(raw::queue_add(&mut library, input));
+                raw::queue_clear(black_box(&mut library));
+            },
+            &mut |input: &[u8], _: &mut [u8]| {
+                black_box(reference.add(input));
+                black_box(&mut reference).clear();
+            },
+            &mut |input: &[u8], _: &mut [u8]| {
+                black_box(plain::queue_add(&mut plain, input));
+                plain::queue_clear(black_box(&mut plain));
+            },
+            &mut |input: &[u8], output: &mut [u8]| copy(input, output, length),
+        ],
+    )
+}
+
 /// The plain ring answers as the library's queue does on what is measured, and
 /// at the limits.
 pub fn check_plain() {
@@ -162,5 +200,11 @@ pub fn check_plain() {
         assert_eq!(queues.add(&pdu(SHARE)), 0);
         assert_eq!(queues.add(&inputs::example()), 0);
         assert_eq!(queues.take(SHARE + 20).pdus, 2);
+    }
+    for count in [0, 1, QUEUE_PDUS] {
+        let mut queues = Queues::holding(count);
+        queues.clear();
+        assert_eq!(queues.take(ROOM).pdus, 0);
+        assert_eq!(queues.add(&pdu(QUEUE_BYTES)), 0);
     }
 }

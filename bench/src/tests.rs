@@ -171,6 +171,10 @@ fn plain_queues_as_the_reference_does() {
                     assert_eq!(taken, (wanted.number, wanted.pdus, wanted.bytes));
                     assert_eq!(one, other);
                 }
+                QueueDeed::Clear => {
+                    plain::queue_clear(&mut ring);
+                    queue.clear();
+                }
             }
             let level = plain::queue_level(&ring);
             let wanted = (queue.held().len(), queue.bytes());

@@ -27,5 +27,6 @@ pub mod StationsHeard
 pub mod SerialExchange
 pub mod OwnReport
 pub mod TransmitQueue
+pub mod QueueLevel
 pub mod Examples
 pub mod LastSender

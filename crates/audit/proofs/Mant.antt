@@ -1,5 +1,5 @@
 -- Every public function of `mant`: its promise asks nothing of the caller and determines what the caller sees.
-use mathlib.Core.Path.{sym, _∙_}
+use mathlib.Core.Path.{refl, sym, _∙_}
 use denote.Ref.{now}
 use Rattle.audit.specs.Promise.{both, Promised, PromisedWithOutput}
 use Rattle.mant.proofs.mant_read.Reads as mant-read-reads
@@ -48,6 +48,8 @@ use Rattle.mant.proofs.mant_write_exchange.Reads as mant-write-exchange-reads
 use Rattle.mant.proofs.mant_write_exchange.Kinds as mant-write-exchange-kinds
 use Rattle.mant.proofs.mant_queue_level.Reads as mant-queue-level-reads
 use Rattle.mant.proofs.mant_queue_level.Kinds as mant-queue-level-kinds
+use Rattle.mant.proofs.mant_queue_clear.Reads as mant-queue-clear-reads
+use Rattle.mant.proofs.mant_queue_clear.Kinds as mant-queue-clear-kinds
 use Rattle.mant.proofs.mant_queue_add.Reads as mant-queue-add-reads
 use Rattle.mant.proofs.mant_queue_add.Kinds as mant-queue-add-kinds
 use Rattle.mant.proofs.mant_queue_take.Reads as mant-queue-take-reads
@@ -150,6 +152,10 @@ mant-write-exchange = (λ κs a. tt, λ κs a x y s t p q. (p .0 ∙ sym (q .0),
 pub mant-queue-level : Promised 1 mant-queue-level-kinds.ps mant-queue-level-kinds.r mant-queue-level-reads.Asked
     mant-queue-level-reads.Post (λ κs x. x)
 mant-queue-level = (λ κs a. tt, λ κs a x y s t p q. p ∙ sym q)
+
+pub mant-queue-clear : PromisedWithOutput 1 mant-queue-clear-kinds.ps mant-queue-clear-kinds.r mant-queue-clear-reads.Asked
+    mant-queue-clear-reads.Post (λ κs s. now (s .0))
+mant-queue-clear = (λ κs a. tt, λ κs a x y s t p q. (refl, p ∙ sym q))
 
 pub mant-queue-add : PromisedWithOutput 2 mant-queue-add-kinds.ps mant-queue-add-kinds.r mant-queue-add-reads.Asked
     mant-queue-add-reads.Post (λ κs s. now (s .0))

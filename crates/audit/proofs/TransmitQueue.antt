@@ -1,33 +1,34 @@
 -- W-206 from its parts.
 use native.Mathlib.Omega.{arith}
 use mathlib.Core.List.{[], _∷_, _++_, flatten}
-use mathlib.Core.Path.{_≡_, refl}
+use mathlib.Core.Path.{_≡_, refl, ap}
 use lib.ListN.{replicate}
 use Rattle.octets.specs.Numbers.{_gives_, _orElse_}
 use Rattle.octets.specs.Octets.{over}
 use Rattle.pdu.specs.Header.{headerOf}
 use Rattle.pdu.specs.Reading.{readOf, exactlyOne}
+use Rattle.queue.specs.declared.Level.{Level}
 use Rattle.queue.specs.Queue.{heldIn, pdusIn, memoryOf, fitting, front}
 use Rattle.queue.proofs.Runs.{exact-at, exact-take, front-back, front-fits, front-longest}
-use Rattle.queue.proofs.Memory.{holds}
+use Rattle.queue.proofs.Memory.{holds, empty-held}
 use Rattle.transmit.specs.Adding.{addNumber, memoryAfterAdd}
 use Rattle.transmit.specs.Taking.{takeNumber, batchOf, memoryAfterTake}
-use Rattle.transmit.specs.History.{Adding, Taking, memoryAfter, accepted, takenOut}
+use Rattle.transmit.specs.History.{Adding, Taking, memoryAfter, accepted, takenAndCleared}
 use Rattle.transmit.proofs.Answers.{not-one, full, full-pdus, full-bytes, none-held, oldest-too-long, oldest-fits, written-first}
-use Rattle.transmit.proofs.Histories.{empty-held, added-held, released-held, queued}
+use Rattle.transmit.proofs.Histories.{added-held, released-held, queued}
 use Rattle.transmit.proofs.Batches.{walk-reads, front-short}
 use Rattle.audit.specs.TransmitQueue.{six, seven, eight, of2042, of2043, queueOf, batch, TransmitQueue}
 
 -- the cases that compute, each by itself
 module _ where
   in-order-there : let deeds = Taking 14 ∷ Adding eight ∷ Adding seven ∷ Adding six ∷ [] in
-      (takenOut (replicate 50 0) deeds ≡ six ∷ seven ∷ []) × (heldIn (memoryAfter (replicate 50 0) deeds) ≡ eight ∷ [])
+      (takenAndCleared (replicate 50 0) deeds ≡ six ∷ seven ∷ []) × (heldIn (memoryAfter (replicate 50 0) deeds) ≡ eight ∷ [])
   unfolding heldIn pdusIn memoryOf over flatten fitting exactlyOne readOf headerOf _gives_ _orElse_ addNumber memoryAfterAdd memoryAfterTake memoryAfter
-      takenOut
+      takenAndCleared
   in-order-there = (refl, refl)
 
   accepted-there :
-      accepted (replicate 15 0) (Adding seven ∷ Adding six ∷ Adding [] ∷ Adding (six ++ six) ∷ Adding (0 ∷ []) ∷ Adding seven ∷ []) ≡ seven ∷ six ∷ []
+      accepted (replicate 17 0) (Adding seven ∷ Adding six ∷ Adding [] ∷ Adding (six ++ six) ∷ Adding (0 ∷ []) ∷ Adding seven ∷ []) ≡ seven ∷ six ∷ []
   unfolding heldIn pdusIn memoryOf over flatten exactlyOne readOf headerOf _gives_ _orElse_ addNumber memoryAfterAdd memoryAfter accepted
   accepted-there = refl
 
@@ -51,7 +52,7 @@ module _ where
   unfolding heldIn pdusIn memoryOf over flatten exactlyOne readOf headerOf _gives_ _orElse_ addNumber
   add-2049 = refl
 
-  held-by-hand : heldIn (0xFF ∷ 0xFF ∷ six ++ seven ++ (0x40 ∷ six)) ≡ six ∷ seven ∷ []
+  held-by-hand : heldIn (0xFF ∷ 0xFF ∷ 0xFF ∷ 0xFF ∷ six ++ seven ++ (0x40 ∷ six)) ≡ six ∷ seven ∷ []
   unfolding heldIn pdusIn readOf headerOf
   held-by-hand = refl
 
@@ -76,8 +77,8 @@ transmit-queue =
       counted = λ room pdus. (refl, refl);
       written = written-first;
       released = released-held;
-      in-order = λ memory e deeds. queued memory e deeds .kept;
-      says = λ memory e deeds. let q = queued memory e deeds in (q .long, q .says);
+      in-order = λ memory e0 e2 deeds. queued memory e0 e2 deeds .kept;
+      says = λ memory e0 e2 deeds. let q = queued memory e0 e2 deeds in (q .long, ap (λ (l : Level). l .bytes) (q .level));
       walked = λ memory room node output right.
           let pdus = front room (heldIn memory) in
           let exact = exact-take (fitting room (heldIn memory)) (heldIn memory) (holds memory .exact) in

@@ -1,4 +1,5 @@
--- Document 02, W-206, as one record; `proofs/TransmitQueue.antt` gives it from its parts. "Any memory" is any bytes, put together by hand or not.
+-- Document 02, W-206, as one record, with W-207's clears in its histories; `proofs/TransmitQueue.antt` gives it from its parts. "Any memory" is any
+-- bytes, put together by hand or not.
 use Prim.Native.Nat.{ℕ, _+_, _≤_, _<_}
 use mathlib.Core.Bool.{true, false}
 use mathlib.Core.List.{List, [], _∷_, _++_, flatten}
@@ -13,7 +14,7 @@ use Rattle.queue.specs.Queue.{capacity, heldIn, memoryOf, front, back}
 use Rattle.transmit.specs.declared.Batch.{Batch}
 use Rattle.transmit.specs.Adding.{addNumber, memoryAfterAdd}
 use Rattle.transmit.specs.Taking.{batchOf, outputAfterTake, memoryAfterTake}
-use Rattle.transmit.specs.History.{Deed, Adding, Taking, memoryAfter, accepted, takenOut, places, allReadable}
+use Rattle.transmit.specs.History.{Deed, Adding, Taking, memoryAfter, accepted, takenAndCleared, places, allReadable}
 
 -- PDUs of 6, 7 and 8 bytes, one of 2,042 and one of 2,043; a memory for 2,048 bytes, with a queue in it
 abbrev pub six : List ℕ
@@ -32,15 +33,15 @@ abbrev pub of2043 : List ℕ
 of2043 = 0x00 ∷ 0x00 ∷ 0x07 ∷ 0xF5 ∷ 0x00 ∷ 0x05 ∷ replicate 2037 0
 
 abbrev pub queueOf : List (List ℕ) → List ℕ
-queueOf pdus = memoryOf pdus (replicate 2050 0)
+queueOf pdus = memoryOf pdus (replicate 2052 0)
 
 abbrev pub batch : ℕ → ℕ → ℕ → Batch
 batch number pdus bytes = record { number = number; pdus = pdus; bytes = bytes }
 
 pub record TransmitQueue : Type 0 where
-  -- a memory of 2,050 bytes or more has room for 2,048; one whose first two bytes are 0 is an empty queue
-  pub room-for-2048 : (memory : List ℕ) → 2050 ≤ length memory → capacity memory ≡ 2048
-  pub empty : (memory : List ℕ) → wordAt memory 0 ≡ 0 → heldIn memory ≡ []
+  -- a memory of 2,052 bytes or more has room for 2,048; one that keeps 0 for the bytes held, its bytes 2 and 3, is an empty queue
+  pub room-for-2048 : (memory : List ℕ) → 2052 ≤ length memory → capacity memory ≡ 2048
+  pub empty : (memory : List ℕ) → wordAt memory 2 ≡ 0 → heldIn memory ≡ []
   -- any memory holds at most 32, of at most 2,048 bytes, and each is exactly one PDU
   pub limits : (memory : List ℕ) → (length (heldIn memory) ≤ 32) × (length (flatten (heldIn memory)) ≤ 2048)
   pub whole : (memory : List ℕ) (i : ℕ) → i < length (heldIn memory) → exactlyOne (getD (heldIn memory) i []) ≡ true
@@ -78,23 +79,23 @@ pub record TransmitQueue : Type 0 where
       (take size (outputAfterTake memory output) ≡ flatten (front (length output) (heldIn memory)))
       × (drop size (outputAfterTake memory output) ≡ drop size output)
   pub released : (room : ℕ) (memory : List ℕ) → heldIn (memoryAfterTake room memory) ≡ back room (heldIn memory)
-  -- after any adds and takes from an empty queue: what was accepted is what was taken followed by what is held
-  pub in-order : (memory : List ℕ) → wordAt memory 0 ≡ 0 → (deeds : List Deed)
-      → accepted memory deeds ≡ takenOut memory deeds ++ heldIn (memoryAfter memory deeds)
-  -- the memory is as long as it was, and its first two bytes say how many bytes are held
-  pub says : (memory : List ℕ) → wordAt memory 0 ≡ 0 → (deeds : List Deed)
+  -- after any adds, takes and clears from an empty queue: what was accepted is what was taken and cleared, as the sequence goes, and then what is held
+  pub in-order : (memory : List ℕ) → wordAt memory 0 ≡ 0 → wordAt memory 2 ≡ 0 → (deeds : List Deed)
+      → accepted memory deeds ≡ takenAndCleared memory deeds ++ heldIn (memoryAfter memory deeds)
+  -- the memory is as long as it was, and its bytes 2 and 3 say how many bytes are held
+  pub says : (memory : List ℕ) → wordAt memory 0 ≡ 0 → wordAt memory 2 ≡ 0 → (deeds : List Deed)
       → (length (memoryAfter memory deeds) ≡ length memory)
-      × (wordAt (memoryAfter memory deeds) 0 ≡ length (flatten (heldIn (memoryAfter memory deeds))))
+      × (wordAt (memoryAfter memory deeds) 2 ≡ length (flatten (heldIn (memoryAfter memory deeds))))
   -- 01's walk, no list at fault, reads each batch taken to its end: it comes to just the PDUs' places, and none of its answers is 1 to 6
   pub walked : (memory : List ℕ) (room : ℕ) (node : Node) (output : ℕ) → listFault (node .lists) ≡ 0
       → let pdus = front room (heldIn memory) in let found = walk node output (flatten pdus) in
       (found .number ≡ 0) × (found .offsets ≡ places 0 pdus) × (allReadable (found .answers) ≡ true) × (found .end ≡ length (flatten pdus))
   -- the oldest first: of 6, 7 and 8 bytes, 14 are room for two, and the third stays
   pub oldest-first : let deeds = Taking 14 ∷ Adding eight ∷ Adding seven ∷ Adding six ∷ [] in
-      (takenOut (replicate 50 0) deeds ≡ six ∷ seven ∷ []) × (heldIn (memoryAfter (replicate 50 0) deeds) ≡ eight ∷ [])
+      (takenAndCleared (replicate 50 0) deeds ≡ six ∷ seven ∷ []) × (heldIn (memoryAfter (replicate 50 0) deeds) ≡ eight ∷ [])
   -- what is refused is not accepted: with 61 bytes that are no PDU, two PDUs joined and none; with 60 one more than there is room for
   pub accepted-only :
-      accepted (replicate 15 0) (Adding seven ∷ Adding six ∷ Adding [] ∷ Adding (six ++ six) ∷ Adding (0 ∷ []) ∷ Adding seven ∷ []) ≡ seven ∷ six ∷ []
+      accepted (replicate 17 0) (Adding seven ∷ Adding six ∷ Adding [] ∷ Adding (six ++ six) ∷ Adding (0 ∷ []) ∷ Adding seven ∷ []) ≡ seven ∷ six ∷ []
   -- a later one that would fit is not taken past an older one that does not
   pub none-passed : (batchOf 7 (eight ∷ six ∷ []) ≡ batch 62 0 0) × (batchOf 14 (seven ∷ eight ∷ six ∷ []) ≡ batch 0 1 7)
   -- 60 at 32 held and not at 31, at 2,049 bytes and not at 2,048; 61 before 60
@@ -102,5 +103,5 @@ pub record TransmitQueue : Type 0 where
   pub at-32 : (addNumber six (queueOf (replicate 32 six)) ≡ 60) × (addNumber (0 ∷ []) (queueOf (replicate 32 six)) ≡ 61)
   pub at-2048 : addNumber six (queueOf (of2042 ∷ [])) ≡ 0
   pub at-2049 : addNumber six (queueOf (of2043 ∷ [])) ≡ 60
-  -- bytes put together by hand: those held end where none can be read, whatever the first two bytes say
-  pub by-hand : heldIn (0xFF ∷ 0xFF ∷ six ++ seven ++ (0x40 ∷ six)) ≡ six ∷ seven ∷ []
+  -- bytes put together by hand: those held end where none can be read, whatever the first four bytes say
+  pub by-hand : heldIn (0xFF ∷ 0xFF ∷ 0xFF ∷ 0xFF ∷ six ++ seven ++ (0x40 ∷ six)) ≡ six ∷ seven ∷ []

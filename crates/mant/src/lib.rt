@@ -15,7 +15,7 @@ ghost use Rattle.counting.specs.Removing.{removalNumber, memoryAfterRemoval};
 ghost use Rattle.listening.specs.Listening.{answerNumber, memoryAfterAnswer};
 ghost use Rattle.exchange.specs.Exchange.{exchangeOf};
 ghost use Rattle.exchange.specs.Encoding.{writtenExchange, exchangeOutput};
-ghost use Rattle.queue.specs.Queue.{heldIn, levelOf};
+ghost use Rattle.queue.specs.Queue.{keptLevel, memoryAfterClear};
 ghost use Rattle.transmit.specs.Adding.{addNumber, memoryAfterAdd};
 ghost use Rattle.transmit.specs.Taking.{Takes};
 ghost use Rattle.boundary.specs.Boundary.{headerInC, pathAddressIn, pathHas, freshFromC, boundInC, limitsInC};
@@ -325,12 +325,20 @@ pub extern "C" fn mant_write_exchange(bytes: &[u8], output: &mut [u8]) -> Writte
     exchange::write_exchange(bytes, output)
 }
 
-// How many PDUs a queue holds, and how many bytes they have. Any memory holds a queue. Document 02, W-206.
+// How many PDUs a queue holds, and how many bytes they have, as its memory keeps them. Any memory has an answer. Document 02, W-207.
 #[no_mangle]
 pub extern "C" fn mant_queue_level(queue: &[u8]) -> Level
-    ensures { λ r. ⌜ r ≡ levelOf (heldIn (now (queue .entry))) ⌝ }
+    ensures { λ r. ⌜ r ≡ keptLevel (now (queue .entry)) ⌝ }
 {
-    queue::level_of(queue)
+    queue::kept_level(queue)
+}
+
+// Drops all PDUs held: the level is 0, and every byte behind it stays. Memory too short for a level stays as it was. Document 02, W-207.
+#[no_mangle]
+pub extern "C" fn mant_queue_clear(queue: &mut [u8])
+    ensures { λ _. ⌜ now (queue .exit) ≡ memoryAfterClear (now (queue .entry)) ⌝ }
+{
+    queue::clear(queue);
 }
 
 // Adds a PDU behind those held: 0; or 61 where the bytes are not exactly one PDU, then 60 where 32 are held or there is no room for its bytes, and the

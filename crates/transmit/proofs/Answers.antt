@@ -16,7 +16,7 @@ use Rattle.pdu.specs.Sizes.{pduLength}
 use Rattle.pdu.specs.Reading.{readOf, readingNumber, exactlyOne}
 use Rattle.queue.specs.declared.Level.{Level}
 use Rattle.queue.specs.Queue.{capacity, heldIn, memoryOf, levelOf, fitting, front, back}
-use Rattle.queue.proofs.Runs.{front-nothing, front-more, front-none, front-back}
+use Rattle.queue.proofs.Runs.{nothing-in, front-nothing, front-more, front-none, front-back}
 use Rattle.queue.proofs.Memory.{holds}
 use Rattle.transmit.specs.declared.Batch.{Batch}
 use Rattle.transmit.specs.Adding.{isFull, addNumber, memoryAfterAdd}
@@ -80,7 +80,7 @@ pub record Found (memory : List ℕ) (level : Level) (room : ℕ) : Type 0 where
   pub bytes : level .bytes ≡ length (flatten (heldIn memory))
   pub room-is : room ≡ capacity memory
   pub short : level .bytes ≤ room
-  pub within : room ≤ length memory - 2
+  pub within : room ≤ length memory - 4
   pub limit : room ≤ 2048
 
 pub found : (memory : List ℕ) (level : Level) (room : ℕ) → level ≡ levelOf (heldIn memory) → room ≡ capacity memory → Found memory level room
@@ -96,10 +96,6 @@ found memory level room e r =
     }
 
 -- taking, by the queue
-pub nothing-in : (pdus : List (List ℕ)) → length pdus ≡ 0 → pdus ≡ []
-nothing-in [] e = refl
-nothing-in (pdu ∷ pdus) e = absurd (omega arith)
-
 module _ (room : ℕ) where
   pub none-number : (pdus : List (List ℕ)) → length (front room pdus) ≡ 0 → takeNumber room pdus ≡ (not (eqb (length (back room pdus)) 0) gives 62)
   unfolding takeNumber _gives_ fitting

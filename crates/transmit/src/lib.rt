@@ -6,8 +6,9 @@ ghost use Prim.Native.Nat.{_+_, _≤_};
 ghost use lib.Dec.{eqb};
 ghost use lib.ListN.{length, take, drop};
 ghost use Rattle.octets.specs.Numbers.{_gives_};
-ghost use Rattle.octets.specs.Octets.{wordBytes, over};
+ghost use Rattle.octets.specs.Octets.{over};
 ghost use Rattle.pdu.specs.Reading.{exactlyOne};
+ghost use Rattle.queue.specs.Queue.{levelBytes};
 ghost use Rattle.transmit.specs.Adding.{addNumber, memoryAfterAdd};
 ghost use Rattle.transmit.specs.Taking.{Takes};
 use queue::Level;
@@ -58,22 +59,27 @@ pub fn add(memory: &mut [u8], pdu: &[u8]) -> u8
     if queue::capacity(memory) - held.bytes < pdu.len() {
         return FULL;
     }
-    octets::put(memory, 2 + held.bytes, pdu);
-    octets::put_word(memory, 0, narrow(held.bytes + pdu.len()));
+    octets::put(memory, 4 + held.bytes, pdu);
+    queue::keep_level(
+        memory,
+        narrow(held.pdus + 1),
+        narrow(held.bytes + pdu.len()),
+    );
     0
 }
 
-// Moves the `left` bytes behind the first `gone` to the front, and says that so many are held.
-fn release(memory: &mut [u8], gone: usize, left: usize)
-    requires { ⌜ (2 + gone + left ≤ length (now memory)) × (left ≤ 2048) ⌝ }
-    ensures { λ _. ⌜ now (memory .exit) ≡ over (wordBytes left ++ take left (drop (2 + gone) (now (memory .entry)))) (now (memory .entry)) ⌝ }
+// Moves what is left behind the first `gone` bytes to the front, and keeps its level.
+fn release(memory: &mut [u8], gone: usize, left: Level)
+    requires { ⌜ (4 + gone + left .bytes ≤ length (now memory)) × (left .bytes ≤ 2048) × (left .pdus ≤ 32) ⌝ }
+    ensures { λ _. ⌜ now (memory .exit)
+        ≡ over (levelBytes (left .pdus) (left .bytes) ++ take (left .bytes) (drop (4 + gone) (now (memory .entry)))) (now (memory .entry)) ⌝ }
 {
     let mut i: usize = 0;
-    while i < left {
-        memory[2 + i] = memory[2 + gone + i];
+    while i < left.bytes {
+        memory[4 + i] = memory[4 + gone + i];
         i += 1;
     }
-    octets::put_word(memory, 0, narrow(left));
+    queue::keep_level(memory, narrow(left.pdus), narrow(left.bytes));
 }
 
 // The answer where none is taken: 62 where some are held.
@@ -99,8 +105,8 @@ pub fn take(memory: &mut [u8], output: &mut [u8]) -> Batch
     if taken.pdus == 0 {
         return none_taken(left.pdus);
     }
-    octets::put(output, 0, octets::part(memory, 2, taken.bytes));
-    release(memory, taken.bytes, left.bytes);
+    octets::put(output, 0, octets::part(memory, 4, taken.bytes));
+    release(memory, taken.bytes, left);
     Batch {
         number: 0,
         pdus: taken.pdus,

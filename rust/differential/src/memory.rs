@@ -2,8 +2,11 @@
 //! or after it shows too, and the reading of it that `include/mant.h` gives.
 
 use generator::Random;
-use mant::raw::{QUEUE_BYTES, QUEUE_PDUS};
+use mant::raw::{Level, QUEUE_BYTES, QUEUE_PDUS};
 use reference::read;
+
+/// The two numbers before the PDUs have so many bytes.
+const NUMBERS: usize = 4;
 
 /// Bytes on each side of the memory.
 const GUARD: usize = 24;
@@ -41,17 +44,24 @@ impl Memory {
 
     /// How many bytes of PDUs there is room for.
     pub fn capacity(&self) -> usize {
-        self.length.saturating_sub(2).min(QUEUE_BYTES)
+        self.length.saturating_sub(NUMBERS).min(QUEUE_BYTES)
+    }
+
+    /// The two numbers as they stand; a byte that is not there counts as 0.
+    pub fn told(&self) -> Level {
+        let byte = |place| usize::from(*self.bytes().get(place).unwrap_or(&0));
+        Level {
+            pdus: byte(0) * 256 + byte(1),
+            bytes: byte(2) * 256 + byte(3),
+        }
     }
 
     /// The PDUs that are held: those that can be read one after the other in
-    /// as many bytes as the first two tell.
+    /// as many bytes as the second number tells.
     pub fn held(&self) -> Vec<Vec<u8>> {
-        let [high, low, pdus @ ..] = self.bytes() else {
-            return vec![];
-        };
-        let told = usize::from(*high) * 256 + usize::from(*low);
-        let mut rest = &pdus[..told.min(self.capacity())];
+        let told = self.told().bytes.min(self.capacity());
+        let pdus = self.bytes().get(NUMBERS..).unwrap_or(&[]);
+        let mut rest = &pdus[..told];
         let mut held = vec![];
         while held.len() < QUEUE_PDUS {
             let Ok(header) = read(rest) else {
@@ -64,13 +74,20 @@ impl Memory {
         held
     }
 
-    /// The memory once it holds these PDUs, the bytes behind them kept.
+    /// Is there room for the two numbers?
+    pub fn has_numbers(&self) -> bool {
+        self.length >= NUMBERS
+    }
+
+    /// The memory, which has the two numbers, once it holds these PDUs, the
+    /// bytes behind them kept.
     pub fn holding(&self, pdus: &[Vec<u8>]) -> Memory {
         let mut memory = self.clone();
         let (joined, bytes) = (pdus.concat(), memory.change());
-        let told = (joined.len() as u16).to_be_bytes();
-        bytes[..2].copy_from_slice(&told);
-        bytes[2..2 + joined.len()].copy_from_slice(&joined);
+        let (numbers, behind) = bytes.split_at_mut(NUMBERS);
+        numbers[..2].copy_from_slice(&(pdus.len() as u16).to_be_bytes());
+        numbers[2..].copy_from_slice(&(joined.len() as u16).to_be_bytes());
+        behind[..joined.len()].copy_from_slice(&joined);
         memory
     }
 }

@@ -21,8 +21,11 @@ struct Queues {
     wrapper: Option<mant::Queue>,
     /// What the queue held at first, and then what was accepted.
     accepted: Vec<Vec<u8>>,
-    /// The batches taken.
-    taken: Vec<u8>,
+    /// The batches taken and what was cleared, as the history goes.
+    gone: Vec<u8>,
+    /// The level is that of the PDUs held: it was so at first, or the queue
+    /// has been changed since.
+    kept: bool,
 }
 
 /// Compares a history from an empty queue.
@@ -38,7 +41,8 @@ pub fn compare_by_hand(random: &mut Random) -> Compared {
 }
 
 /// Compares all that is answered, and the whole memory after each deed. What
-/// was accepted is at last what was taken, followed by what is held.
+/// was accepted is at last what was taken and cleared, followed by what is
+/// held.
 fn compare(random: &mut Random, memory: &[u8], pace: Pace) -> Compared {
     let mut queues = Queues::of(random, memory);
     queues.compare_shown(&Input {
@@ -58,6 +62,7 @@ fn compare(random: &mut Random, memory: &[u8], pace: Pace) -> Compared {
             false => before.clone(),
         };
         input.same("memory", &queues.library, &left)?;
+        queues.kept |= changes;
         queues.compare_shown(&input)?;
     }
     let input = Input {
@@ -65,8 +70,8 @@ fn compare(random: &mut Random, memory: &[u8], pace: Pace) -> Compared {
         rest: &"a queue after its history",
     };
     let held = queues.library.held().concat();
-    let left = [&queues.taken[..], &held].concat();
-    input.same_bytes("taken and held", &left, &queues.accepted.concat())
+    let left = [&queues.gone[..], &held].concat();
+    input.same_bytes("gone and held", &left, &queues.accepted.concat())
 }
 
 impl Queues {
@@ -75,12 +80,14 @@ impl Queues {
         let library = Memory::of(random, memory);
         let wrapper = <[u8; QUEUE_LENGTH]>::try_from(memory).ok();
         let held = library.held();
+        let reference = Queue::holding(library.capacity(), &held);
         Queues {
-            reference: Queue::holding(library.capacity(), &held),
+            kept: library.told() == level(&reference),
+            reference,
             wrapper: wrapper.map(mant::Queue::from_memory),
             library,
             accepted: held,
-            taken: vec![],
+            gone: vec![],
         }
     }
 
@@ -100,8 +107,12 @@ impl Queues {
                 let batch = self.took(input, &output)?;
                 let pdus = held.len() - self.reference.held().len();
                 compare_walk(random, input, &batch, &held[..pdus])?;
-                self.taken.extend(batch);
+                self.gone.extend(batch);
                 Ok(pdus > 0)
+            }
+            QueueDeed::Clear => {
+                self.cleared();
+                Ok(self.library.has_numbers())
             }
         }
     }
@@ -138,23 +149,42 @@ impl Queues {
         Ok(library.room()[..batch.bytes].to_vec())
     }
 
+    /// All PDUs are dropped.
+    fn cleared(&mut self) {
+        self.gone.extend(self.library.held().concat());
+        raw::queue_clear(self.library.change());
+        self.reference.clear();
+        if let Some(queue) = &mut self.wrapper {
+            queue.clear();
+        }
+    }
+
     /// The level, and the PDUs that the wrapper shows.
     fn compare_shown(&self, input: &Input) -> Compared {
         let memory = self.library.bytes();
-        let held = self.reference.held();
-        let level = Level {
-            pdus: held.len(),
-            bytes: self.reference.bytes(),
-        };
-        input.same("level", raw::queue_level(memory), level)?;
+        let told = raw::queue_level(memory);
+        input.same("level as it stands", told, self.library.told())?;
+        if self.kept {
+            input.same("level", told, level(&self.reference))?;
+        }
         let Some(queue) = &self.wrapper else {
             return Ok(());
         };
         input.same_bytes("wrapper's memory", queue.memory(), memory)?;
-        input.same("wrapped level", queue.level(), level)?;
+        input.same("wrapped level", queue.level(), told)?;
+        let held = self.reference.held();
+        input.same("wrapper's is_empty", queue.is_empty(), held.is_empty())?;
         let shown: Vec<&[u8]> = queue.iter().collect();
         let wanted: Vec<&[u8]> = held.iter().map(Vec::as_slice).collect();
         input.same("wrapper's PDUs", shown, wanted)
+    }
+}
+
+/// The level of the PDUs that are held.
+fn level(queue: &Queue) -> Level {
+    Level {
+        pdus: queue.held().len(),
+        bytes: queue.bytes(),
     }
 }
 

@@ -1,10 +1,13 @@
-//! Transmit queues (02, W-206): what is done with one, and memory that holds
-//! one (include/mant.h, "Queue").
+//! Transmit queues (02, W-206 and W-207): what is done with one, and memory
+//! that holds one (include/mant.h, "Queue").
 
 use crate::random::Random;
 use crate::received::{cut, damaged, random_bytes};
 use crate::shape::shape;
-use reference::{Queue, MOST_HELD_BYTES};
+use reference::{Queue, MOST_HELD, MOST_HELD_BYTES};
+
+/// The two numbers before the PDUs have so many bytes.
+const NUMBERS: usize = 4;
 
 /// What is done with a queue.
 #[derive(Clone, Debug, PartialEq, Eq)]
@@ -13,6 +16,8 @@ pub enum QueueDeed {
     Add(Vec<u8>),
     /// PDUs are taken with so much room.
     Take(usize),
+    /// All PDUs are dropped.
+    Clear,
 }
 
 /// How a history goes.
@@ -22,7 +27,7 @@ pub struct Pace {
     pub turns: usize,
     /// PDUs mostly have so many bytes at most.
     longest: usize,
-    /// So many are added for one taking, about.
+    /// So many are added for one taking or clearing, about.
     adds: usize,
 }
 
@@ -36,9 +41,13 @@ pub fn pace(random: &mut Random, most_turns: usize) -> Pace {
     }
 }
 
-/// The next deed with a queue.
+/// The next deed with a queue. Where 32 PDUs are held, it is at times cleared.
 pub fn queue_deed(random: &mut Random, pace: Pace, queue: &Queue) -> QueueDeed {
+    if queue.held().len() == MOST_HELD && random.one_in(16) {
+        return QueueDeed::Clear;
+    }
     match random.below(pace.adds + 1) {
+        0 if random.one_in(6) => QueueDeed::Clear,
         0 => QueueDeed::Take(room_to_take(random, queue.held())),
         _ => QueueDeed::Add(bytes_to_add(random, pace.longest, queue.left())),
     }
@@ -112,61 +121,62 @@ fn not_one_pdu(random: &mut Random) -> Vec<u8> {
     }
 }
 
-/// Memory that holds an empty queue, any bytes behind its first two.
+/// Memory that holds an empty queue, any bytes behind its first four.
 pub fn empty_queue(random: &mut Random) -> Vec<u8> {
     let length = match random.below(9) {
-        0..=4 => 2 + MOST_HELD_BYTES,
+        0..=4 => NUMBERS + MOST_HELD_BYTES,
         5 => random.between(2_040, 2_300),
         6 => random.between(0, 20),
         7 => random.between(0, 200),
-        _ => random.between(0, 2_049),
+        _ => random.between(0, 2_051),
     };
     let mut memory = random.bytes(length);
-    for byte in memory.iter_mut().take(2) {
+    for byte in memory.iter_mut().take(NUMBERS) {
         *byte = 0;
     }
     memory
 }
 
 /// Memory put together by hand: any bytes, or PDUs back to back, at times more
-/// than 32, with a bit turned over or the last one cut, and any number before
-/// them.
+/// than 32, with a bit turned over or the last one cut, and any two numbers
+/// before them.
 pub fn any_queue(random: &mut Random) -> Vec<u8> {
     let mut memory = empty_queue(random);
-    if memory.len() < 2 || random.one_in(6) {
+    if memory.len() < NUMBERS || random.one_in(6) {
         return random.bytes(memory.len());
     }
-    let mut pdus = back_to_back(random);
+    let (count, mut pdus) = back_to_back(random);
     if random.one_in(3) {
         let place = random.below(pdus.len().min(60));
         pdus[place] ^= 1 << random.below(8);
     }
-    pdus.truncate(memory.len() - 2);
-    memory[..2].copy_from_slice(&number_before(random, pdus.len()));
-    memory[2..2 + pdus.len()].copy_from_slice(&pdus);
+    pdus.truncate(memory.len() - NUMBERS);
+    memory[..2].copy_from_slice(&number_before(random, count));
+    memory[2..NUMBERS].copy_from_slice(&number_before(random, pdus.len()));
+    memory[NUMBERS..NUMBERS + pdus.len()].copy_from_slice(&pdus);
     memory
 }
 
-/// Some PDUs, at times more than a queue holds.
-fn back_to_back(random: &mut Random) -> Vec<u8> {
+/// Some PDUs, at times more than a queue holds: how many, and their bytes.
+fn back_to_back(random: &mut Random) -> (usize, Vec<u8>) {
     let longest = random.pick(&[6, 12, 60, 60, 300, 2_048]);
     let count = random.between(1, 40);
     let pdus = (0..count).map(|_| {
         let length = random.between(6, longest);
         one_pdu(random, length)
     });
-    pdus.collect::<Vec<_>>().concat()
+    (count, pdus.collect::<Vec<_>>().concat())
 }
 
-/// Two bytes that tell how many bytes follow: just so many, one more or less,
-/// fewer, or any number.
-fn number_before(random: &mut Random, bytes: usize) -> [u8; 2] {
+/// Two bytes that tell how many PDUs or bytes follow: just so many, one more or
+/// less, fewer, or any number.
+fn number_before(random: &mut Random, follow: usize) -> [u8; 2] {
     let number = match random.below(8) {
-        0..=2 => bytes,
-        3 => bytes.saturating_sub(1),
-        4 => bytes + 1,
-        5 => random.between(0, bytes),
-        6 => random.pick(&[0, 5, 6, 255, 256, 2_047, 2_048, 2_049, 65_535]),
+        0..=2 => follow,
+        3 => follow.saturating_sub(1),
+        4 => follow + 1,
+        5 => random.between(0, follow),
+        6 => random.pick(&[0, 5, 6, 31, 32, 33, 255, 256, 2_047, 2_048, 2_049, 65_535]),
         _ => usize::from(random.word()),
     };
     (number as u16).to_be_bytes()
@@ -175,7 +185,6 @@ fn number_before(random: &mut Random, bytes: usize) -> [u8; 2] {
 #[cfg(test)]
 mod tests {
     use super::*;
-    use reference::MOST_HELD;
 
     /// What came up in histories.
     #[derive(Debug, Default)]
@@ -189,6 +198,9 @@ mod tests {
         all_taken: usize,
         none_held: usize,
         too_long: usize,
+        some_cleared: usize,
+        full_cleared: usize,
+        none_cleared: usize,
     }
 
     impl Seen {
@@ -215,18 +227,28 @@ mod tests {
                 _ => self.some_taken += 1,
             }
         }
+
+        fn clear(&mut self, queue: &mut Queue) {
+            match queue.held().len() {
+                0 => self.none_cleared += 1,
+                MOST_HELD => self.full_cleared += 1,
+                _ => self.some_cleared += 1,
+            }
+            queue.clear();
+        }
     }
 
     #[test]
     fn every_limit_is_met() {
         let mut random = Random::from_seed(1);
         let mut seen = Seen::default();
-        for _ in 0..1_000 {
+        for _ in 0..3_000 {
             let (mut queue, pace) = (Queue::empty(), pace(&mut random, 90));
             for _ in 0..pace.turns {
                 match queue_deed(&mut random, pace, &queue) {
                     QueueDeed::Add(bytes) => seen.add(&mut queue, &bytes),
                     QueueDeed::Take(room) => seen.take(&mut queue, room),
+                    QueueDeed::Clear => seen.clear(&mut queue),
                 }
             }
         }
@@ -240,6 +262,9 @@ mod tests {
             seen.all_taken,
             seen.none_held,
             seen.too_long,
+            seen.some_cleared,
+            seen.full_cleared,
+            seen.none_cleared,
         ];
         assert!(counts.iter().all(|count| *count > 100), "{seen:?}");
     }
@@ -258,7 +283,7 @@ mod tests {
     fn memory_keeps_its_length() {
         let mut random = Random::from_seed(1);
         let lengths: Vec<usize> = (0..5_000).map(|_| any_queue(&mut random).len()).collect();
-        for length in [0, 1, 2, 3, 2_049, 2_050, 2_051] {
+        for length in [0, 1, 2, 3, 4, 5, 2_051, 2_052, 2_053] {
             assert!(lengths.contains(&length), "{length}");
         }
         assert!(lengths.iter().all(|length| *length <= 2_300));

@@ -1,8 +1,11 @@
-//! The transmit queue (02, W-206).
+//! The transmit queue (02, W-206 and W-207).
 
 use crate::raw::{self, QUEUE_BYTES, QUEUE_LENGTH, QUEUE_PDUS};
 use crate::{Level, Refusal};
 use std::fmt;
+
+/// The two numbers before the PDUs have so many bytes.
+const NUMBERS: usize = QUEUE_LENGTH - QUEUE_BYTES;
 
 /// What was taken from a queue.
 #[derive(Clone, Copy, Debug, Default, PartialEq, Eq)]
@@ -35,7 +38,8 @@ impl Queue {
     }
 
     /// The queue in this memory, which `include/mant.h` describes. Any bytes
-    /// hold one.
+    /// hold one; where the numbers before its PDUs are not theirs, its level
+    /// is what they say.
     pub const fn from_memory(memory: [u8; QUEUE_LENGTH]) -> Queue {
         Queue { memory }
     }
@@ -45,25 +49,28 @@ impl Queue {
         &self.memory
     }
 
-    /// How many PDUs and bytes are held.
+    /// How many PDUs and bytes are held, as the queue keeps it: none is looked
+    /// at.
     pub fn level(&self) -> Level {
         raw::queue_level(&self.memory)
     }
 
     /// Is no PDU held?
     pub fn is_empty(&self) -> bool {
-        self.level().pdus == 0
+        self.iter().next().is_none()
     }
 
     /// The PDUs that are held, the oldest first.
     pub fn iter(&self) -> impl Iterator<Item = &[u8]> + '_ {
-        let mut rest = &self.memory[2..2 + self.level().bytes];
-        std::iter::from_fn(move || {
+        let bytes = self.level().bytes.min(QUEUE_BYTES);
+        let mut rest = &self.memory[NUMBERS..NUMBERS + bytes];
+        let pdus = std::iter::from_fn(move || {
             let length = raw::read(rest).pdu_length;
             let (pdu, behind) = rest.split_at(length);
             rest = behind;
             (length > 0).then_some(pdu)
-        })
+        });
+        pdus.take(QUEUE_PDUS)
     }
 
     /// Adds a PDU, or answers 61 where the bytes are not exactly one, and then
@@ -80,6 +87,11 @@ impl Queue {
             pdus: batch.pdus,
             bytes: batch.bytes,
         })
+    }
+
+    /// Drops all PDUs that are held.
+    pub fn clear(&mut self) {
+        raw::queue_clear(&mut self.memory);
     }
 }
 

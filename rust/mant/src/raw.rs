@@ -204,7 +204,7 @@ pub const QUEUE_PDUS: usize = 32;
 /// `MANT_QUEUE_BYTES`.
 pub const QUEUE_BYTES: usize = 2048;
 /// `MANT_QUEUE_LENGTH`.
-pub const QUEUE_LENGTH: usize = 2050;
+pub const QUEUE_LENGTH: usize = 2052;
 
 /// `MANT_EXCHANGE_LIMIT`.
 pub const EXCHANGE_LIMIT: usize = 4626;
@@ -271,6 +271,7 @@ extern "C" {
     fn mant_queue_level(queue: *const u8, queue_length: usize) -> Level;
     fn mant_queue_add(queue: *mut u8, queue_length: usize, pdu: *const u8, pdu_length: usize) -> u8;
     fn mant_queue_take(queue: *mut u8, queue_length: usize, output: *mut u8, output_length: usize) -> Batch;
+    fn mant_queue_clear(queue: *mut u8, queue_length: usize);
     fn mant_most_transmissions(nodes: u64, hop_limit: u64) -> Bound;
     fn mant_most_bytes(nodes: u64, hop_limit: u64, size: u64) -> Bound;
     fn mant_limits() -> Limits;
@@ -532,6 +533,13 @@ pub fn queue_take(queue: &mut [u8], output: &mut [u8]) -> Batch {
             output.len(),
         )
     }
+}
+
+/// `mant_queue_clear`.
+#[inline]
+pub fn queue_clear(queue: &mut [u8]) {
+    // SAFETY: as above.
+    unsafe { mant_queue_clear(queue.as_mut_ptr(), queue.len()) }
 }
 
 /// `mant_most_transmissions`.

@@ -365,6 +365,49 @@ fn a_full_queue() {
 }
 
 #[test]
+fn a_queue_keeps_its_level() {
+    let mut queue = Queue::new();
+    queue.clear();
+    assert_eq!(queue.memory(), Queue::new().memory());
+    for pdu in [&example()[..], &repeated(), &[0, 0, 0, 0, 0, 5]] {
+        assert_eq!(queue.add(pdu), Ok(()));
+    }
+    assert_eq!(queue.memory()[..4], [0, 3, 0, 48]);
+    assert_eq!(queue.add(&[]), Err(Refusal::NotOnePdu));
+    assert_eq!(queue.level(), Level { pdus: 3, bytes: 48 });
+    assert_eq!(queue.take(&mut [0; 42]).map(|taken| taken.pdus), Ok(2));
+    assert_eq!(queue.level(), Level { pdus: 1, bytes: 6 });
+    let mut left = *queue.memory();
+    left[..4].fill(0);
+    queue.clear();
+    assert_eq!(queue.level(), Level::default());
+    assert!(queue.is_empty() && queue == Queue::new());
+    assert_eq!(queue.memory(), &left);
+}
+
+#[test]
+fn a_level_put_together_by_hand() {
+    let mut memory = [0; Queue::LENGTH];
+    memory[..4].fill(0xFF);
+    let mut queue = Queue::from_memory(memory);
+    let told = Level {
+        pdus: 65_535,
+        bytes: 65_535,
+    };
+    assert_eq!((queue.level(), queue.is_empty()), (told, false));
+    assert_eq!(queue.iter().count(), Queue::PDUS);
+    assert_eq!(queue.add(&[0; 6]), Err(Refusal::QueueFull));
+    assert_eq!(queue.take(&mut []), Err(Refusal::OldestTooLong));
+    assert_eq!(queue.memory(), &memory);
+    assert_eq!(queue.take(&mut [0; 6]), Ok(Taken { pdus: 1, bytes: 6 }));
+    let rest = Level {
+        pdus: 31,
+        bytes: 186,
+    };
+    assert_eq!((queue.level(), queue.iter().count()), (rest, 31));
+}
+
+#[test]
 fn bounds_and_limits() {
     assert_eq!(most_transmissions(3, 2), Ok(Some(10)));
     assert_eq!(most_transmissions(3, 7), Ok(Some(16)));

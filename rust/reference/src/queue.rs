@@ -1,5 +1,5 @@
-//! 02, W-206: the PDUs that wait for the modem's next slot; numbers 60, 61 and
-//! 62.
+//! 02, W-206 and W-207: the PDUs that wait for the modem's next slot; numbers
+//! 60, 61 and 62.
 
 use crate::header::read;
 use crate::numbers::{DONE, NOT_ONE_PDU, OLDEST_TOO_LONG, QUEUE_FULL};
@@ -91,6 +91,11 @@ impl Queue {
             pdus,
             bytes,
         }
+    }
+
+    /// Drops all PDUs that are held.
+    pub fn clear(&mut self) {
+        self.held.clear();
     }
 }
 

@@ -1,4 +1,4 @@
-//! 02, W-206, sentence by sentence.
+//! 02, W-206 and W-207, sentence by sentence.
 
 use reference::*;
 
@@ -145,20 +145,37 @@ fn the_oldest_does_not_fit() {
 }
 
 #[test]
-fn accepted_are_those_taken_then_those_held() {
-    let (mut queue, mut accepted, mut out) = (Queue::empty(), vec![], vec![]);
+fn clear_drops_all() {
+    for mut queue in [filled(0, 6), filled(3, 20), filled(32, 64)] {
+        queue.clear();
+        assert_eq!((&queue, queue.bytes()), (&Queue::empty(), 0));
+        assert_eq!(taken(&mut queue, 64), (0, 0, vec![]));
+        assert_eq!(queue.add(&pdu(99, 2_048)), 0);
+        assert_eq!(queue.held(), [pdu(99, 2_048)]);
+    }
+}
+
+/// Each clear at its point in the sequence.
+#[test]
+fn accepted_are_those_taken_and_cleared_then_those_held() {
+    let (mut queue, mut accepted, mut gone) = (Queue::empty(), vec![], vec![]);
     for turn in 0..500_u16 {
         let pdu = pdu(turn, 6 + usize::from(turn * 37 % 300));
         if queue.add(&pdu) == 0 {
             accepted.push(pdu);
         }
         if turn % 5 == 4 {
-            out.push(taken(&mut queue, usize::from(turn) * 91 % 1_500).2);
+            gone.push(taken(&mut queue, usize::from(turn) * 91 % 1_500).2);
+        }
+        if turn % 90 == 89 {
+            assert!(!queue.held().is_empty());
+            gone.push(queue.held().concat());
+            queue.clear();
         }
     }
-    let (taken, held) = (out.concat(), queue.held().concat());
-    assert!(!taken.is_empty() && !held.is_empty());
-    assert_eq!([taken, held].concat(), accepted.concat());
+    let (gone, held) = (gone.concat(), queue.held().concat());
+    assert!(!gone.is_empty() && !held.is_empty());
+    assert_eq!([gone, held].concat(), accepted.concat());
 }
 
 #[test]

@@ -82,26 +82,33 @@ add-narrow : tie.Need-add-narrow
 add-narrow c = search needs
 
 narrow-requires : tie.Need-narrow-requires
-narrow-requires c κs =
-    let at-else = c .before .before .before .before .before .before .before in
-    let at-room = at-else .before .before in
+narrow-requires c κs = search needs
+
+add-narrow-2 : tie.Need-add-narrow-2
+add-narrow-2 c = search needs
+
+narrow-requires-2 : tie.Need-narrow-requires-2
+narrow-requires-2 c κs =
+    let at-put = c .before .before .before .before .before .before in
+    let at-room = at-put .before .before .before .before .before in
     let at-level = at-room .before .before .before .before in
     let at-one = at-level .before .before .before in
     let memory = now (at-one .before .before .before .args .memory) in
     let level = found memory _ _ (at-level .level-of .ensures) (at-room .capacity .ensures .0) in
     omega (arith, level .short, level .limit)
 
-put-word-requires : tie.Need-put-word-requires
-put-word-requires c κs = search needs
+keep-level-requires : tie.Need-keep-level-requires
+keep-level-requires c κs = search needs
 
 same-length-3 : tie.Need-same-length-3
 same-length-3 c = search needs
 
 returns-4 : tie.Need-returns-4
 returns-4 c =
-    let at-word = c .before .before in
-    let at-narrow = at-word .before in
-    let at-put = at-narrow .before .before .before .before .before in
+    let at-kept = c .before .before in
+    let at-bytes = at-kept .before in
+    let at-pdus = at-bytes .before .before in
+    let at-put = at-pdus .before .before .before .before .before in
     let at-else = at-put .before .before .before in
     let at-room = at-else .before .before in
     let at-few = at-room .before .before in
@@ -117,8 +124,8 @@ returns-4 c =
     let six = exact pdu one .alone in
     let room = not-full pdu memory (omega (arith, level .pdus, at-few .if2 .left)) (omega (arith, level .bytes, level .room-is, level .short, fits)) in
     let accepted = room-left pdu memory one room in
-    let laid = added-last memory pdu _ _ _ _ (level .bytes) (omega (arith, level .short, level .within, fits, six)) (at-narrow .narrow .ensures)
-    (at-put .put .ensures .1) (at-word .put-word .ensures .1) in
+    let laid = added-last memory pdu _ _ _ _ _ _ (level .pdus) (level .bytes) (omega (arith, level .short, level .within, fits, six))
+    (at-pdus .narrow .ensures) (at-bytes .narrow2 .ensures) (at-put .put .ensures .1) (at-kept .keep-level .ensures) in
     (sym (accepted .0), laid ∙ sym (accepted .1))
 
 pub add-spec : {M : Type 1} → statement M
@@ -138,6 +145,8 @@ add-spec =
     put-requires
     add-narrow
     narrow-requires
-    put-word-requires
+    add-narrow-2
+    narrow-requires-2
+    keep-level-requires
     same-length-3
     returns-4)

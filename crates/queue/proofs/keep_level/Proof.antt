@@ -1,0 +1,46 @@
+use borrow.Author.Needs.{needs}
+use Rattle.queue.proofs.keep_level.Statement.{statement}
+use Rattle.queue.proofs.keep_level.Tie as tie
+
+high-requires : tie.Need-high-requires
+high-requires c κs = search needs
+
+low-requires : tie.Need-low-requires
+low-requires c κs = search needs
+
+high-requires-2 : tie.Need-high-requires-2
+high-requires-2 c κs = search needs
+
+low-requires-2 : tie.Need-low-requires-2
+low-requires-2 c κs = search needs
+
+slice-aggregate-put : tie.Need-slice-aggregate-put
+slice-aggregate-put c = search needs
+
+put-requires : tie.Need-put-requires
+put-requires c κs = search needs
+
+same-length : tie.Need-same-length
+same-length c = search needs
+
+returns : tie.Need-returns
+returns c =
+    let at-put = c .before .before in
+    let at-low-2 = at-put .before .before .before in
+    let at-high-2 = at-low-2 .before in
+    let at-low = at-high-2 .before in
+    let at-high = at-low .before in
+    rw (← at-high .high .ensures, ← at-low .low .ensures, ← at-high-2 .high2 .ensures, ← at-low-2 .low2 .ensures) (at-put .put .ensures .1)
+
+pub keep-level-spec : {M : Type 1} → statement M
+keep-level-spec =
+    tie.close
+    (tie.spec
+    high-requires
+    low-requires
+    high-requires-2
+    low-requires-2
+    slice-aggregate-put
+    put-requires
+    same-length
+    returns)
