@@ -19,6 +19,7 @@ pub mod Joined
 pub mod Exchange
 pub mod Queue
 pub mod Transmit
+pub mod Chains
 pub mod Bound
 pub mod Boundary
 pub mod Mant
@@ -28,5 +29,6 @@ pub mod SerialExchange
 pub mod OwnReport
 pub mod TransmitQueue
 pub mod QueueLevel
+pub mod LeastReach
 pub mod Examples
 pub mod LastSender

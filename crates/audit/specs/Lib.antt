@@ -5,5 +5,6 @@ pub mod SerialExchange
 pub mod OwnReport
 pub mod TransmitQueue
 pub mod QueueLevel
+pub mod LeastReach
 pub mod Examples
 pub mod LastSender

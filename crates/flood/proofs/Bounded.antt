@@ -68,13 +68,13 @@ module _ {Node Message : Type 0} (repeats : Node → Message → Option Message)
     flood-sound t m = flooded repeats own source Sound path hop nodes first net receptions once .1 .each t m .is-sound
 
     pub flood-bounded : Bounded own path (others own source nodes) (hop first) (flood repeats nodes (first ∷ []) receptions)
-    flood-bounded = let (heard, inv) = flooded repeats own source Sound path hop nodes first net receptions once in bounded heard _ inv
+    flood-bounded = let (heard, inv, among) = flooded repeats own source Sound path hop nodes first net receptions once in bounded heard _ inv
 
     -- the transmissions add up to no more than the series, by any weight that goes by the path's length
     pub flood-weighed : (weight : ℕ → ℕ)
         → total (λ t. weight (length (path t))) (flood repeats nodes (first ∷ []) receptions) ≤ series weight (length (others own source nodes))
         (terms (length (others own source nodes)) (hop first))
-    flood-weighed weight = let (heard, inv) = flooded repeats own source Sound path hop nodes first net receptions once in weighed heard _ inv weight
+    flood-weighed weight = let (heard, inv, among) = flooded repeats own source Sound path hop nodes first net receptions once in weighed heard _ inv weight
 
     -- the bytes on the air, where each transmission is longer than the first by 2 bytes for each entry of its path
     module _ (size : Message → ℕ) (sized : (t : Message) → Sound t → size t ≡ size first + 2 * length (path t)) where

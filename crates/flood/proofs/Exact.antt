@@ -39,15 +39,19 @@ use Rattle.flood.proofs.Others.{others-are}
 use Rattle.flood.proofs.Reached.{flood-reached, bytes-reached}
 use Rattle.flood.proofs.Sent.{Sound}
 
--- One open node that hears a transmission that it did not originate and whose path does not name it, with hops left and room in the path.
+-- the path is as long as the path count says
+pub counted : (first received : List ℕ) → Sound first received → length (pathOf received) ≡ headerOf received .«path_count»
+counted first received sound =
+    length-addresses received (pathStart (headerOf received)) _
+    ∙ ap (λ (bit : Bool). cond bit (headerOf received .«path_count») 0) (sound .has-path)
+
+-- One open node that hears a transmission that it did not originate and whose path does not name it.
 module _ (first received : List ℕ) (n : Repeater) (free : Open (n .node)) (echo : n .node .settings .echo ≡ true) (sound : Sound first received)
-    (not-own : address n ≢ sourceOf first) (new : ¬ List·Memᴰ (address n) (pathOf received)) (hops : hopOf received ≢ 0)
-    (short : length (pathOf received) < pathLimit)
-    (other : isForOwn (address n) (headerOf first .destination) ≡ false) (fits : length first + 2 * (length (pathOf received) + 1) ≤ n .room) where
+    (not-own : address n ≢ sourceOf first) (new : ¬ List·Memᴰ (address n) (pathOf received)) where
   from-another : eqb (sourceOf received) (address n) ≡ false
   from-another = ne-eqb _ _ (λ (same : sourceOf received ≡ address n). not-own (sym same ∙ sound .same-source))
 
-  passes : dropFault (n .node) (headerOf received) received ≡ 0
+  pub passes : dropFault (n .node) (headerOf received) received ≡ 0
   unfolding dropFault echoFault passFault _gives_ _orElse_
   passes =
       rw (
@@ -61,30 +65,28 @@ module _ (first received : List ℕ) (n : Repeater) (free : Open (n .node)) (ech
         free .destination-reject-off,
       )
 
-  counted : length (pathOf received) ≡ headerOf received .«path_count»
-  counted =
-      length-addresses received (pathStart (headerOf received)) _
-      ∙ ap (λ (bit : Bool). cond bit (headerOf received .«path_count») 0) (sound .has-path)
+  -- with hops left, room in the path and in the output, and for another
+  module _ (hops : hopOf received ≢ 0) (short : length (pathOf received) < pathLimit)
+      (other : isForOwn (address n) (headerOf first .destination) ≡ false) (fits : length first + 2 * (length (pathOf received) + 1) ≤ n .room) where
+    for-another : isForOwn (address n) (headerOf received .destination) ≡ false
+    for-another = ap (λ (to : Destination). isForOwn (address n) to) (sound .same-place) ∙ other
 
-  for-another : isForOwn (address n) (headerOf received .destination) ≡ false
-  for-another = ap (λ (to : Destination). isForOwn (address n) to) (sound .same-place) ∙ other
+    again : repeatFault (n .node .settings) (headerOf received) ≡ 0
+    unfolding repeatFault _gives_ _orElse_
+    again =
+        let not-full : eqb (headerOf received .«path_count») pathLimit ≡ false =
+        ne-eqb _ _ (λ (e : headerOf received .«path_count» ≡ pathLimit). omega (arith, counted first received sound)) in
+        rw (for-another, free .repeating-on, ne-eqb (hopOf received) 0 hops, sound .has-path, not-full)
 
-  again : repeatFault (n .node .settings) (headerOf received) ≡ 0
-  unfolding repeatFault _gives_ _orElse_
-  again =
-      let not-full : eqb (headerOf received .«path_count») pathLimit ≡ false =
-      ne-eqb _ _ (λ (e : headerOf received .«path_count» ≡ pathLimit). omega (arith, counted)) in
-      rw (for-another, free .repeating-on, ne-eqb (hopOf received) 0 hops, sound .has-path, not-full)
+    room : repeatedLength (headerOf received) ≤ n .room
+    room = omega (arith, ap (λ (bit : Bool). flag bit) (sound .has-path), sound .alone, sound .longer, fits)
 
-  room : repeatedLength (headerOf received) ≤ n .room
-  room = omega (arith, ap (λ (bit : Bool). flag bit) (sound .has-path), sound .alone, sound .longer, fits)
-
-  willing : sends n received ≡ some (repeated (address n) received)
-  unfolding sends
-  willing =
-      let zero : repeatNumber (n .node) (n .room) received ≡ 0 =
-      will-repeat (n .node) (n .room) received (headerOf received) (free .no-fault) (sound .reads) passes again room in
-      rw zero
+    pub willing : sends n received ≡ some (repeated (address n) received)
+    unfolding sends
+    willing =
+        let zero : repeatNumber (n .node) (n .room) received ≡ 0 =
+        will-repeat (n .node) (n .room) received (headerOf received) (free .no-fault) (sound .reads) passes again room in
+        rw zero
 
 -- the path has room: at most 255 nodes, or a hop limit below 7
 terms-fit : (n h : ℕ) → (n ≤ pathLimit) ⊎ (h < 7) → terms n h ≤ pathLimit

@@ -89,7 +89,7 @@ module _ (settings : Settings) (payload : List ℕ) (room : ℕ) (message : Orig
   fresh-reads : readOf first ≡ Pdu (freshHeader settings (length payload))
   fresh-reads = ap readOf (sym (append-nil first)) ∙ fresh-back settings payload room (message .taken) [] .reads
 
-  fresh-shows : freshHeader settings (length payload) ≡ headerOf first
+  pub fresh-shows : freshHeader settings (length payload) ≡ headerOf first
   fresh-shows = shown first _ fresh-reads .is
 
   fresh-path : pathOf first ≡ []

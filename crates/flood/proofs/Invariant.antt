@@ -135,26 +135,28 @@ module _ {Node Message : Type 0} (repeats : Node → Message → Option Message)
           let kept = net .lawful n (at-mem nodes (r .node) p) t s (inv .each t (at-mem log (r .transmission) q) .is-sound) e in
           after nodes (net .addresses-differ) first heard log inv r new n p t q s (kept .0) (kept .1)
 
-    -- all of them
-    abbrev Ends : List Message → Type 0
-    Ends log = (heard : List Reception) × Invariant nodes first heard log
+    -- all of them, each one of `among`
+    abbrev Ends : List Reception → List Message → Type 0
+    Ends among log = (heard : List Reception) × Invariant nodes first heard log × ((r : Reception) → List·Memᴰ r heard → List·Memᴰ r among)
 
-    run : (receptions : List Reception) → List·Nodup receptions → (heard : List Reception)
+    run : (among receptions : List Reception) → ((r : Reception) → List·Memᴰ r receptions → List·Memᴰ r among) → List·Nodup receptions
+        → (heard : List Reception) → ((r : Reception) → List·Memᴰ r heard → List·Memᴰ r among)
         → ((r : Reception) → List·Memᴰ r receptions → ¬ List·Memᴰ r heard) → (log : List Message)
-        → Invariant nodes first heard log → Ends (flood repeats nodes log receptions)
+        → Invariant nodes first heard log → Ends among (flood repeats nodes log receptions)
     unfolding flood
-    run [] once heard fresh log inv = (heard, inv)
-    run (r ∷ later) once heard fresh log inv =
+    run among [] all once heard was fresh log inv = (heard, inv, was)
+    run among (r ∷ later) all once heard was fresh log inv =
         go
         (λ log′ inv′.
-        run later ((nodup-cons .0 once) .1) (r ∷ heard)
+        run among later (λ q m. all q (List·Memᴰ·tail m)) ((nodup-cons .0 once) .1) (r ∷ heard)
+        (λ q m. ⊎-elim (λ e. Memᴰ·cast {b = r} e (all r (List·Memᴰ·head refl))) (was q) (List·Memᴰ·cases-cons m))
         (λ q m k. ⊎-elim (λ e. apart once m e) (λ k′. fresh q (List·Memᴰ·tail m) k′) (List·Memᴰ·cases-cons k))
         log′ inv′)
         (answer repeats (getElem? nodes (r .node)) (getElem? log (r .transmission))) refl
       where
-        go : ((log′ : List Message) → Invariant nodes first (r ∷ heard) log′ → Ends (flood repeats nodes log′ later)) → (o : Option Message)
+        go : ((log′ : List Message) → Invariant nodes first (r ∷ heard) log′ → Ends among (flood repeats nodes log′ later)) → (o : Option Message)
             → answer repeats (getElem? nodes (r .node)) (getElem? log (r .transmission)) ≡ o
-            → Ends (elim o [ none ↦ flood repeats nodes log later | some s ↦ flood repeats nodes (log ++ (s ∷ [])) later ])
+            → Ends among (elim o [ none ↦ flood repeats nodes log later | some s ↦ flood repeats nodes (log ++ (s ∷ [])) later ])
         go rest none e = rest log (silent heard log inv r (fresh r (List·Memᴰ·head refl)))
         go rest (some s) e =
             rest (log ++ (s ∷ []))
@@ -175,4 +177,6 @@ module _ {Node Message : Type 0} (repeats : Node → Message → Option Message)
 
     pub flooded : (receptions : List Reception) → List·Nodup receptions
         → (heard : List Reception) × Invariant nodes first heard (flood repeats nodes (first ∷ []) receptions)
-    flooded receptions once = run receptions once [] (λ r m k. List·Memᴰ·not-nil k) (first ∷ []) start
+        × ((r : Reception) → List·Memᴰ r heard → List·Memᴰ r receptions)
+    flooded receptions once =
+        run receptions receptions (λ r m. m) once [] (λ r m. absurd (List·Memᴰ·not-nil m)) (λ r m k. List·Memᴰ·not-nil k) (first ∷ []) start

@@ -1,6 +1,7 @@
 //! Seeded inputs for everything that document 01 describes, and 02 as far as
 //! it is built: PDUs, damaged and cut ones, settings, lists, outputs, batches,
-//! jobs, histories of a table of stations, exchanges, and transmit queues.
+//! jobs, histories of a table of stations, exchanges, transmit queues, and
+//! networks.
 //!
 //! Everything is drawn from one [`Random`], so the same seed gives the same
 //! inputs. PDUs are laid out here by arithmetic of their own, not by the
@@ -11,6 +12,7 @@ mod exchange;
 mod history;
 mod job;
 mod lists;
+mod network;
 mod output;
 mod queue;
 mod random;
@@ -24,6 +26,7 @@ pub use exchange::{exchange, exchanged_pdu, levels_down, short_exchange};
 pub use history::{deed, history, source_near, Deed, History};
 pub use job::{damaged_job, job, random_job, DamagedJob, JobParts};
 pub use lists::{bad_list, four_lists, good_four_lists, good_list, FourLists};
+pub use network::network;
 pub use output::{output, room};
 pub use queue::{any_queue, empty_queue, pace, queue_deed, Pace, QueueDeed};
 pub use random::{splitmix64, Random};

@@ -6,7 +6,7 @@ use std::process::{Command, Stdio};
 use std::thread;
 
 /// After so many differences the run stops.
-const MOST_DIFFERENCES: u64 = 10;
+pub const MOST_DIFFERENCES: u64 = 10;
 
 /// A comparison.
 pub struct Asked {
@@ -56,9 +56,9 @@ fn any_job(random: &mut Random) -> Vec<u8> {
     }
 }
 
-/// What the program prints for a job; its status, where that is not 0, is
+/// What the program prints for an input; its status, where that is not 0, is
 /// taken as text too.
-fn relayed(program: &str, job: &[u8]) -> io::Result<Vec<u8>> {
+pub fn relayed(program: &str, job: &[u8]) -> io::Result<Vec<u8>> {
     let mut child = Command::new(program)
         .stdin(Stdio::piped())
         .stdout(Stdio::piped())
@@ -77,7 +77,7 @@ fn relayed(program: &str, job: &[u8]) -> io::Result<Vec<u8>> {
 }
 
 /// The first line that differs, if one does.
-fn difference(printed: &[u8], wanted: &str) -> Option<String> {
+pub fn difference(printed: &[u8], wanted: &str) -> Option<String> {
     if printed == wanted.as_bytes() {
         return None;
     }

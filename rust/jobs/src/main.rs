@@ -4,20 +4,26 @@
 //! `jobs compare PROGRAM [seed [count [first]]]` relays generated jobs by the
 //! program and compares its whole text with the reading's: the seed of the
 //! jobs (1), how many (1,000), and the first (0), so that one can be run alone.
+//! `jobs reach PROGRAM [seed [count [first]]]` asks the program `reach` about
+//! generated networks and compares in the same way.
 
 mod compare;
+mod networks;
 
 use compare::{compare_all, Asked};
+use networks::compare_networks;
 use std::io::{self, Read, Write};
 use std::process::ExitCode;
 
-const USE: &str = "use: jobs print, or jobs compare PROGRAM [seed [count [first]]]";
+const USE: &str =
+    "use: jobs print, or jobs compare PROGRAM [seed [count [first]]], or jobs reach and the same";
 
 fn main() -> ExitCode {
     let words: Vec<String> = std::env::args().skip(1).collect();
     let done = match words.first().map(String::as_str) {
         Some("print") if words.len() == 1 => print().map_err(|error| error.to_string()),
         Some("compare") => asked(&words[1..]).and_then(|asked| compare_all(&asked)),
+        Some("reach") => asked(&words[1..]).and_then(|asked| compare_networks(&asked)),
         _ => Err(String::from(USE)),
     };
     match done {

@@ -16,6 +16,7 @@ pub mod numbers;
 mod octets;
 mod origin;
 mod queue;
+mod reach;
 mod stations;
 mod writing;
 
@@ -29,5 +30,6 @@ pub use node::{hear, Answer, Settings};
 pub use numbers::{described, meaning};
 pub use origin::{originate, Origination};
 pub use queue::{Queue, Taken, MOST_HELD, MOST_HELD_BYTES};
+pub use reach::{reach, shortest_chains, Network};
 pub use stations::{counts_as_echo, hear_and_count, Station, Stations, MOST_STATIONS};
 pub use writing::{write, write_again};

@@ -1,0 +1,43 @@
+-- W-208 from its parts.
+use mathlib.Core.Path.{_≡_, ap, sym, subst, _∙_}
+use mathlib.Core.List.{List}
+use Prim.Native.Nat.{ℕ}
+use lib.ListN.{length, take, drop}
+use Rattle.node.specs.declared.Answer.{Answer}
+use Rattle.node.specs.Answers.{answerOf, Hears}
+use Rattle.flood.specs.Air.{Repeater}
+use Rattle.coverage.specs.Delivery.{Delivers}
+use Rattle.coverage.proofs.Cases as cases
+use Rattle.coverage.proofs.Covered.{reach, schedule}
+use Rattle.coverage.proofs.Told.{told}
+use Rattle.audit.specs.LeastReach.{LeastReach}
+
+answered : (n : Repeater) (received output left payload : List ℕ) (answer : Answer) → length output ≡ n .room
+    → Hears (n .node) received output answer left → Delivers n received payload
+    → (answer .delivery ≡ 0) × (take (answer .«delivered_length») (drop (answer .«delivered_place») received) ≡ payload)
+answered n received output left payload answer long hears delivers =
+    let is : answer ≡ answerOf (n .node) (n .room) received = hears .0 ∙ ap (λ (room : ℕ). answerOf (n .node) room received) long in
+    subst (λ (a : Answer). (a .delivery ≡ 0) × (take (a .«delivered_length») (drop (a .«delivered_place») received) ≡ payload)) (sym is)
+    (delivers .number, delivers .part)
+
+pub least-reach : LeastReach
+least-reach =
+    record {
+      reach = reach;
+      schedule = schedule;
+      told = told;
+      answered = answered;
+      line-planned = cases.line-planned;
+      line-taken = cases.line-taken;
+      line-air = cases.line-air;
+      line-told = cases.line-told;
+      line-ends = cases.line-ends;
+      line-delivered = cases.line-delivered;
+      line-beyond = cases.line-beyond;
+      two-ways-planned = cases.two-ways-planned;
+      two-ways-taken = cases.two-ways-taken;
+      two-ways-told = cases.two-ways-told;
+      two-ways-ends = cases.two-ways-ends;
+      two-ways-delivered = cases.two-ways-delivered;
+      two-ways-originator = cases.two-ways-originator;
+    }

@@ -1,0 +1,69 @@
+-- Document 02, W-208, as one record; `proofs/LeastReach.antt` gives it from its parts.
+use Prim.Native.Nat.{ℕ, _≤_}
+use mathlib.Core.Bool.{Bool, true}
+use mathlib.Core.List.{List, [], _∷_, map}
+use mathlib.Core.Option.{some}
+use mathlib.Core.Path.{_≡_}
+use lib.ListN.{length, take, drop, getElem?}
+use Rattle.chains.specs.Chains.{ends}
+use Rattle.chains.specs.Lengths.{Found}
+use Rattle.origin.specs.declared.Settings as asked
+use Rattle.origin.specs.Origination.{fresh}
+use Rattle.node.specs.declared.Answer.{Answer}
+use Rattle.node.specs.Answers.{Hears}
+use Rattle.flood.specs.Flood.{Reception}
+use Rattle.flood.specs.Air.{Repeater, address, onTheAir}
+use Rattle.coverage.specs.Hearing.{Taken, ByNoOther}
+use Rattle.coverage.specs.Delivery.{Planned, Delivers, Delivered}
+use Rattle.coverage.specs.Reach.{Reach}
+use Rattle.coverage.specs.Told.{Says, Told}
+use Rattle.coverage.specs.Cases.{report, reading, repeater, answers, next, lineAddresses, lineReceptions, lineAir, lineTold, twoWays, twoWaysAddresses}
+use Rattle.coverage.specs.Cases.{longerFirst}
+
+pub record LeastReach : Type 0 where
+  -- whoever hears whom, and in whatever order the receptions happen
+  pub reach : (hears : ℕ → ℕ → Bool) (nodes : List Repeater) (settings : asked.Settings) (payload : List ℕ) (room : ℕ)
+      → Planned nodes settings payload room → (receptions : List Reception) → Taken hears nodes (fresh settings payload) receptions
+      → Reach hears nodes settings payload receptions
+  -- and such receptions exist
+  pub schedule : (hears : ℕ → ℕ → Bool) (nodes : List Repeater) (settings : asked.Settings) (payload : List ℕ) (room : ℕ)
+      → Planned nodes settings payload room → (receptions : List Reception) × Taken hears nodes (fresh settings payload) receptions
+      × ByNoOther hears nodes (fresh settings payload) receptions
+  -- the lengths that the function `find_lengths` leaves, of pairs that say by places who hears whom, say who is delivered it, and with which path count
+  pub told : (hears : ℕ → ℕ → Bool) (nodes : List Repeater) (settings : asked.Settings) (payload : List ℕ) (room : ℕ)
+      → Planned nodes settings payload room
+      → (receptions : List Reception) → Taken hears nodes (fresh settings payload) receptions → ByNoOther hears nodes (fresh settings payload) receptions
+      → (pairs : List ℕ) → Says pairs hears nodes → (from : ℕ) → getElem? (map address nodes) from ≡ some (settings .source)
+      → (before lengths : List ℕ) → length before ≡ length nodes → Found pairs from before true lengths
+      → Told nodes settings payload receptions lengths
+  -- a node of the model delivers what its function `hear` answers: number 0, and the payload at the answer's place
+  pub answered : (n : Repeater) (received output left payload : List ℕ) (answer : Answer) → length output ≡ n .room
+      → Hears (n .node) received output answer left → Delivers n received payload
+      → (answer .delivery ≡ 0) × (take (answer .«delivered_length») (drop (answer .«delivered_place») received) ≡ payload)
+  -- a line of eight nodes, one-way, hop limits 0 to 6: the run is such as is asked, what goes out, who is delivered it and with what count. Hop limit h
+  -- reaches h + 1 hearings and no further, which are h + 1 nodes here
+  pub line-planned : (hop : ℕ) → hop ≤ 6 → Planned (map repeater lineAddresses) (report hop) reading 100
+  pub line-taken : (hop : ℕ) → hop ≤ 6 → Taken next (map repeater lineAddresses) (fresh (report hop) reading) (lineReceptions hop)
+      × ByNoOther next (map repeater lineAddresses) (fresh (report hop) reading) (lineReceptions hop)
+  pub line-air : (hop : ℕ) → hop ≤ 6 → onTheAir (map repeater lineAddresses) (fresh (report hop) reading) (lineReceptions hop) ≡ lineAir hop
+  pub line-told : (hop : ℕ) → hop ≤ 6 → answers (map repeater lineAddresses) hop (lineReceptions hop) ≡ lineTold hop
+  pub line-ends : map (ends next lineAddresses 1000) (0 ∷ 1 ∷ 2 ∷ 3 ∷ 4 ∷ 5 ∷ 6 ∷ 7 ∷ 8 ∷ [])
+      ≡ (1000 ∷ []) ∷ (1001 ∷ []) ∷ (1002 ∷ []) ∷ (1003 ∷ []) ∷ (1004 ∷ []) ∷ (1005 ∷ []) ∷ (1006 ∷ []) ∷ (1007 ∷ []) ∷ [] ∷ []
+  -- so at hop limit 2 the third node after the originator is delivered the payload, and the fourth nothing
+  pub line-delivered : Delivered (map repeater lineAddresses) (fresh (report 2) reading) (lineReceptions 2) (repeater 1003) reading 2
+  pub line-beyond : (what : List ℕ) (count : ℕ)
+      → ¬ Delivered (map repeater lineAddresses) (fresh (report 2) reading) (lineReceptions 2) (repeater 1004) what count
+  -- two ways of different length, the longer played first: 9 is delivered the payload with path count 2, and then with 1, one less than its shortest
+  -- chain; the originator, which hears 1, answers 42, and 9 its own repeats 30
+  pub two-ways-planned : Planned (map repeater twoWaysAddresses) (report 6) reading 100
+  pub two-ways-taken : Taken twoWays (map repeater twoWaysAddresses) (fresh (report 6) reading) longerFirst
+      × ByNoOther twoWays (map repeater twoWaysAddresses) (fresh (report 6) reading) longerFirst
+  pub two-ways-told : answers (map repeater twoWaysAddresses) 6 longerFirst
+      ≡ (1 ∷ 0 ∷ 0 ∷ reading) ∷ (1000 ∷ 42 ∷ 1 ∷ []) ∷ (2 ∷ 0 ∷ 1 ∷ reading) ∷ (9 ∷ 0 ∷ 2 ∷ reading) ∷ (4 ∷ 0 ∷ 0 ∷ reading) ∷ (9 ∷ 0 ∷ 1 ∷ reading)
+      ∷ (9 ∷ 30 ∷ 3 ∷ []) ∷ (9 ∷ 30 ∷ 2 ∷ []) ∷ []
+  pub two-ways-ends : map (ends twoWays twoWaysAddresses 1000) (0 ∷ 1 ∷ 2 ∷ 3 ∷ [])
+      ≡ (1000 ∷ []) ∷ (1 ∷ 4 ∷ []) ∷ (1000 ∷ 2 ∷ 9 ∷ []) ∷ (1 ∷ 4 ∷ 9 ∷ []) ∷ []
+  -- so 9 is delivered it with the shorter way's count, and the originator nothing
+  pub two-ways-delivered : Delivered (map repeater twoWaysAddresses) (fresh (report 6) reading) longerFirst (repeater 9) reading 1
+  pub two-ways-originator : (what : List ℕ) (count : ℕ)
+      → ¬ Delivered (map repeater twoWaysAddresses) (fresh (report 6) reading) longerFirst (repeater 1000) what count

@@ -1,0 +1,7 @@
+pub mod Steps
+pub mod Fewer
+pub mod Rounds
+pub mod Noting
+pub mod Finding
+pub mod Reaching
+pub mod Outcomes

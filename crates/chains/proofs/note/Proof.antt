@@ -1,0 +1,51 @@
+use Rattle.chains.proofs.Noting.{no-sender, no-need, one-more, told-below}
+use borrow.Author.Needs.{needs}
+use Rattle.chains.proofs.note.Statement.{statement}
+use Rattle.chains.proofs.note.Tie as tie
+
+is-told-requires : tie.Need-is-told-requires
+is-told-requires c κs = search needs
+
+same-length : tie.Need-same-length
+same-length c = search needs
+
+returns : tie.Need-returns
+returns c = no-sender _ _ _ _ _ (c .before .is-told .ensures) (c .if1 .taken)
+
+is-told-requires-2 : tie.Need-is-told-requires-2
+is-told-requires-2 c κs = search needs
+
+same-length-2 : tie.Need-same-length-2
+same-length-2 c = search needs
+
+returns-2 : tie.Need-returns-2
+returns-2 c = no-need _ _ _ _ _ (c .before .is-told2 .ensures) (c .if2 .taken)
+
+add-lengths : tie.Need-add-lengths
+add-lengths c = search needs
+
+slice-write-lengths : tie.Need-slice-write-lengths
+slice-write-lengths c = told-below _ _ _ (c .before .is-told2 .ensures) (c .if2 .left)
+
+same-length-3 : tie.Need-same-length-3
+same-length-3 c = search needs
+
+returns-3 : tie.Need-returns-3
+returns-3 c =
+    let first = c .before .before .before in
+    one-more _ _ _ _ _ _ (first .before .is-told .ensures) (first .if1 .left) (c .before .is-told2 .ensures) (c .if2 .left)
+
+pub note-spec : {M : Type 1} → statement M
+note-spec =
+    tie.close
+    (tie.spec
+    is-told-requires
+    same-length
+    returns
+    is-told-requires-2
+    same-length-2
+    returns-2
+    add-lengths
+    slice-write-lengths
+    same-length-3
+    returns-3)

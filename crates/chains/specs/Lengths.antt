@@ -1,0 +1,44 @@
+-- A network as bytes, and the lengths of the shortest chains in it (document 02, W-208). Its nodes are the places 0, 1, .. below their number. Assumes nothing.
+use mathlib.Core.Path.{_≡_}
+use mathlib.Core.Logic.{_⊎_}
+use mathlib.Core.Bool.{Bool, true, false, _&&_, _||_}
+use mathlib.Core.List.{List, [], _∷_}
+use Prim.Native.Nat.{ℕ, zero, suc, _<_}
+use lib.Dec.{eqb, ltb, leb}
+use lib.ListN.{length}
+use Rattle.octets.specs.Octets.{at}
+use Rattle.chains.specs.Chains.{Shortest, Unreached}
+
+-- who hears whom, in pairs: a sender's place, then the place of a node that hears it; a byte left over says nothing
+unfoldable pub heard : List ℕ → ℕ → ℕ → Bool
+heard [] sender node = false
+heard (last ∷ []) sender node = false
+heard (first ∷ second ∷ pairs) sender node = (eqb first sender && eqb second node) || heard pairs sender node
+
+-- the places of n nodes
+unfoldable pub places : ℕ → List ℕ
+places zero = []
+places (suc n) = n ∷ places n
+
+-- the number of nodes that is served at most; a shortest chain among them is shorter than this, which stands for 'no chain'
+abbrev pub nodeLimit : ℕ
+nodeLimit = 255
+
+abbrev pub noChain : ℕ
+noChain = 255
+
+-- what is told of a node: the length of its shortest chain from the originator, or that there is none
+abbrev pub Tells : List ℕ → ℕ → ℕ → ℕ → ℕ → Type 0
+Tells pairs n from to value =
+    ((value < noChain) × Shortest (heard pairs) (places n) from to value) ⊎ ((value ≡ noChain) × Unreached (heard pairs) (places n) from to)
+
+-- at most 255 nodes, the originator one of them
+abbrev pub served : ℕ → ℕ → Bool
+served n from = leb n nodeLimit && ltb from n
+
+-- the outcome of finding the lengths, a byte for each node: all are told where the network is served, else nothing is changed
+pub record Found (pairs : List ℕ) (from : ℕ) (before : List ℕ) (done : Bool) (after : List ℕ) : Type 0 where
+  pub answer : done ≡ served (length before) from
+  pub size : length after ≡ length before
+  pub told : done ≡ true → (to : ℕ) → to < length before → Tells pairs (length before) from to (at after to)
+  pub unchanged : done ≡ false → after ≡ before

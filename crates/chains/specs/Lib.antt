@@ -1,0 +1,4 @@
+pub mod Chains
+pub mod Lengths
+pub mod Reach
+pub mod Rounds

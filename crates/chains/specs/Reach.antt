@@ -1,0 +1,31 @@
+-- What the shortest chains say of a report's reach (document 02, W-208), over the values told of the nodes. Assumes nothing.
+use mathlib.Core.Bool.{Bool, not, cond, _&&_}
+use mathlib.Core.List.{List, [], _∷_}
+use Prim.Native.Nat.{ℕ, zero, suc, _+_}
+use lib.Dec.{eqb, ltb, leb}
+use Rattle.octets.specs.Numbers.{flag}
+use Rattle.chains.specs.Lengths.{noChain}
+use Rattle.chains.specs.declared.Least.{Least}
+use Rattle.chains.specs.declared.Least.the-variants.{HopLimit, Unreachable}
+
+-- whether a node is delivered a report of hop limit h, from 0 to 6: its shortest chain has 1 to h + 1 hearings; the originator's has none
+abbrev pub isDelivered : ℕ → ℕ → Bool
+isDelivered h value = ltb 0 value && (leb value (h + 1) && ltb value noChain)
+
+-- out of reach: neither the originator nor delivered
+abbrev pub isMissed : ℕ → ℕ → Bool
+isMissed h value = ltb 0 value && not (isDelivered h value)
+
+-- how many nodes are out of reach
+unfoldable pub missed : ℕ → List ℕ → ℕ
+missed h [] = 0
+missed h (value ∷ values) = flag (isMissed h value) + missed h values
+
+-- the first hop limit from h on, of so many, at which none is
+unfoldable pub leastFrom : List ℕ → ℕ → ℕ → Least
+leastFrom values h zero = Unreachable
+leastFrom values h (suc more) = cond (eqb (missed h values) 0) (HopLimit h) (leastFrom values (h + 1) more)
+
+-- the least hop limit of 0 to 6 that reaches all nodes
+unfoldable pub least : List ℕ → Least
+least values = leastFrom values 0 7

@@ -1,0 +1,26 @@
+-- How the lengths are found: round k tells the nodes that hear one at the end of a shortest chain of k hearings. Assumes nothing.
+use mathlib.Core.Bool.{Bool, cond, _&&_}
+use mathlib.Core.List.{List, [], _∷_}
+use Prim.Native.Nat.{ℕ, _+_}
+use lib.Dec.{eqb, ltb}
+use lib.ListN.{length, set, replicate}
+use Rattle.octets.specs.Octets.{at}
+use Rattle.chains.specs.Lengths.{noChain}
+
+-- before the first round: the originator's chain of no hearings, and none of any other node
+unfoldable pub begun : ℕ → ℕ → List ℕ
+begun n from = set (replicate n noChain) from 0
+
+-- whether a place is that of a node of which that value is told
+unfoldable pub isTold : List ℕ → ℕ → ℕ → Bool
+isTold lengths place value = ltb place (length lengths) && eqb (at lengths place) value
+
+-- one hearing in round k: a node without a length so far that hears one of length k is told one more
+unfoldable pub noted : ℕ → ℕ → ℕ → List ℕ → List ℕ
+noted k sender node lengths = cond (isTold lengths sender k && isTold lengths node noChain) (set lengths node (k + 1)) lengths
+
+-- round k over all pairs
+unfoldable pub afterRound : ℕ → List ℕ → List ℕ → List ℕ
+afterRound k [] lengths = lengths
+afterRound k (last ∷ []) lengths = lengths
+afterRound k (sender ∷ node ∷ pairs) lengths = afterRound k pairs (noted k sender node lengths)

@@ -1,0 +1,154 @@
+// Shortest chains of hearings in a network of up to 255 nodes, and how far a report reaches.
+ghost use mathlib.Core.Path.{_≡_};
+ghost use Prim.Native.Nat.{_<_};
+ghost use lib.ListN.{length, replicate};
+ghost use Rattle.chains.specs.Lengths.{noChain, Found};
+ghost use Rattle.chains.specs.Reach.{isDelivered, isMissed, missed, least};
+ghost use Rattle.chains.specs.Rounds.{begun, isTold, noted, afterRound};
+use octets::byte_value;
+use octets::flag;
+
+// The most nodes that are served.
+pub const NODE_LIMIT: usize = 255;
+
+// Stands where a length would, for a node that no chain reaches.
+pub const NO_CHAIN: u8 = 255;
+
+// Writes for each node of a network how many hearings its shortest chain from the node at `from` has, or 255 where there is no chain. The network has as
+// many nodes as `lengths` has bytes; `pairs` says who hears whom, a sender's place and then the place of one that hears it, and so on. A pair with a place
+// that no node has says nothing. Where there are more than 255 nodes, or none at `from`, the answer is false and nothing is written. Document 02, W-208.
+pub fn find_lengths(pairs: &[u8], from: usize, lengths: &mut [u8]) -> bool
+    ensures { λ r. ⌜ Found (now (pairs .entry)) from (now (lengths .entry)) r (now (lengths .exit)) ⌝ }
+{
+    let nodes = lengths.len();
+    if nodes > NODE_LIMIT {
+        return false;
+    }
+    if from >= nodes {
+        return false;
+    }
+    begin(lengths, from);
+    let last = narrow(nodes - 1);
+    let mut k: u8 = 0;
+    while k < last {
+        round(pairs, k, lengths);
+        k += 1;
+    }
+    true
+}
+
+fn narrow(count: usize) -> u8
+    requires { ⌜ count < 255 ⌝ }
+    ensures { λ r. ⌜ r ≡ count ⌝ }
+{
+    count as u8
+}
+
+fn begin(lengths: &mut [u8], from: usize)
+    requires { ⌜ from < length (now lengths) ⌝ }
+    ensures { λ _. ⌜ now (lengths .exit) ≡ begun (length (now (lengths .entry))) from ⌝ }
+{
+    clear(lengths);
+    lengths[from] = 0;
+}
+
+fn clear(lengths: &mut [u8])
+    ensures { λ _. ⌜ now (lengths .exit) ≡ replicate (length (now (lengths .entry))) noChain ⌝ }
+{
+    let mut i: usize = 0;
+    while i < lengths.len() {
+        lengths[i] = NO_CHAIN;
+        i += 1;
+    }
+}
+
+fn round(pairs: &[u8], k: u8, lengths: &mut [u8])
+    requires { ⌜ k < 254 ⌝ }
+    ensures { λ _. ⌜ now (lengths .exit) ≡ afterRound k (now (pairs .entry)) (now (lengths .entry)) ⌝ }
+{
+    let mut i: usize = 0;
+    while pairs.len() - i > 1 {
+        note(lengths, byte_value(pairs[i]), byte_value(pairs[i + 1]), k);
+        i += 2;
+    }
+}
+
+fn note(lengths: &mut [u8], sender: usize, node: usize, k: u8)
+    requires { ⌜ k < 254 ⌝ }
+    ensures { λ _. ⌜ now (lengths .exit) ≡ noted k sender node (now (lengths .entry)) ⌝ }
+{
+    if !is_told(lengths, sender, k) {
+        return;
+    }
+    if !is_told(lengths, node, NO_CHAIN) {
+        return;
+    }
+    lengths[node] = k + 1;
+}
+
+fn is_told(lengths: &[u8], place: usize, value: u8) -> bool
+    ensures { λ r. ⌜ r ≡ isTold (now (lengths .entry)) place value ⌝ }
+{
+    if place < lengths.len() {
+        lengths[place] == value
+    } else {
+        false
+    }
+}
+
+// The least hop limit that reaches all nodes, or that none of 0 to 6 does.
+pub enum Least {
+    HopLimit(u8),
+    Unreachable,
+}
+
+// Whether a node of that length, as `find_lengths` writes it, is delivered a report with that hop limit: a length of 1 to the hop limit and one more.
+// The originator, of length 0, is not. Meant for hop limits from 0 to 6; any is answered. Document 02, W-208.
+pub fn is_delivered(hop_limit: u8, length: u8) -> bool
+    ensures { λ r. ⌜ r ≡ isDelivered «hop_limit» length ⌝ }
+{
+    if length == 0 {
+        return false;
+    }
+    if length == NO_CHAIN {
+        return false;
+    }
+    length - 1 <= hop_limit
+}
+
+// How many nodes other than the originator are not delivered a report with that hop limit. Document 02, W-208.
+pub fn missed(hop_limit: u8, lengths: &[u8]) -> usize
+    ensures { λ r. ⌜ r ≡ missed «hop_limit» (now (lengths .entry)) ⌝ }
+{
+    let mut count: usize = 0;
+    let mut i: usize = 0;
+    while i < lengths.len() {
+        count += byte_value(flag(is_missed(hop_limit, lengths[i])));
+        i += 1;
+    }
+    count
+}
+
+fn is_missed(hop_limit: u8, length: u8) -> bool
+    ensures { λ r. ⌜ r ≡ isMissed «hop_limit» length ⌝ }
+{
+    if length > 0 {
+        !is_delivered(hop_limit, length)
+    } else {
+        false
+    }
+}
+
+// The least hop limit of 0 to 6 at which no node is out of reach. Document 02, W-208.
+pub fn least_hop_limit(lengths: &[u8]) -> Least
+    ensures { λ r. ⌜ r ≡ least (now (lengths .entry)) ⌝ }
+{
+    let mut hop_limit: u8 = 0;
+    while hop_limit < 7 {
+        if missed(hop_limit, lengths) == 0 {
+            return Least::HopLimit(hop_limit);
+        }
+        hop_limit += 1;
+    }
+    Least::Unreachable
+}

@@ -1,0 +1,42 @@
+-- Document 02, W-208: the message and the nodes, and what it is that a node is delivered the payload. Assumes nothing.
+use mathlib.Core.Path.{_≡_}
+use mathlib.Core.Option.{some}
+use mathlib.Core.List.{List, [], _∷_, List·Memᴰ}
+use Prim.Native.Nat.{ℕ, _+_, _*_, _≤_}
+use lib.ListN.{length, take, drop, getElem?}
+use Rattle.pdu.specs.declared.Destination.the-variants.{Everyone}
+use Rattle.pdu.specs.Header.{headerOf}
+use Rattle.origin.specs.declared.Settings as asked
+use Rattle.origin.specs.Origination.{fresh}
+use Rattle.node.specs.Answers.{answerOf}
+use Rattle.flood.specs.Air.{Repeater, Nodes, Open, Originated, address, sends, onTheAir}
+use Rattle.flood.specs.Complete.{Heard}
+use Rattle.flood.specs.Flood.{Reception, others}
+
+-- A fresh message with path, no destination and hop limit 0 to 6, among the originator and the other nodes: different addresses, echo on; the others
+-- with repeating on, all lists off and without fault, and room for the longest repeat, which is the message with an address more for each hop.
+pub record Planned (nodes : List Repeater) (settings : asked.Settings) (payload : List ℕ) (room : ℕ) : Type 0 where
+  pub originated : Originated settings payload room
+  pub no-destination : settings .destination ≡ Everyone
+  pub hops : settings .«hop_limit» ≤ 6
+  pub network : Nodes nodes
+  pub others-open : (n : Repeater) → List·Memᴰ n (others address (settings .source) nodes) → Open (n .node)
+  pub others-roomy : (n : Repeater) → List·Memᴰ n (others address (settings .source) nodes)
+      → length (fresh settings payload) + 2 * settings .«hop_limit» ≤ n .room
+
+-- The node's own answer to what it received: delivery number 0, and the part of the received bytes that the answer names is the payload (One PDU at
+-- one node, 5).
+pub record Delivers (n : Repeater) (received payload : List ℕ) : Type 0 where
+  pub number : answerOf (n .node) (n .room) received .delivery ≡ 0
+  pub part : take (answerOf (n .node) (n .room) received .«delivered_length») (drop (answerOf (n .node) (n .room) received .«delivered_place») received)
+      ≡ payload
+
+-- Among the receptions there is one by that node, of a transmission already made, that delivers the payload and whose path count is that.
+pub record Delivered (nodes : List Repeater) (first : List ℕ) (receptions : List Reception) (n : Repeater) (payload : List ℕ) (count : ℕ) : Type 0 where
+  pub reception : Reception
+  pub taken : Heard sends nodes (first ∷ []) receptions (reception .node) (reception .transmission)
+  pub node-at : getElem? nodes (reception .node) ≡ some n
+  pub received : List ℕ
+  pub received-at : getElem? (onTheAir nodes first receptions) (reception .transmission) ≡ some received
+  pub delivers : Delivers n received payload
+  pub path-count : headerOf received .«path_count» ≡ count

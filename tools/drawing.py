@@ -1,0 +1,166 @@
+"""A network as a drawing, from its text and the answer of the program `reach`: the originator in the middle, around it a ring for each length of a
+shortest chain, and outside all rings the nodes that no chain reaches."""
+import math
+import re
+
+TITLE = re.compile(r'hop limit (\d), originator (\d+)')
+NODE = re.compile(r'node (\d+): (?:(the originator)|chain of (\d+) hearings?, (?:delivered with path count \d+|out of reach)|no chain, out of reach)')
+COLOURS = {'originator': '#1d3557', 'delivered': '#2a9d8f', 'out of reach': '#e76f51', 'no chain': '#9b2226'}
+SPACE, DISC, MARGIN, LEGEND = 84, 21, 40, 60
+STYLE = ('<style>text{font-family:sans-serif;font-size:12px}.node{fill:#fff;text-anchor:middle}.words{fill:#444}'
+         '.chain{stroke:#333;stroke-width:2;fill:none}.other{stroke:#bbb;stroke-width:1.2;fill:none}'
+         '.ring{fill:none;stroke:#ddd}.last{stroke:#2a9d8f;stroke-dasharray:6 4}</style>')
+
+
+def is_whole(answer):
+    """Whether a text is all that the program prints for a network."""
+    lines = answer.split('\n')
+    return TITLE.fullmatch(lines[0]) is not None and len(lines) > 5 and all(NODE.fullmatch(line) for line in lines[1:-5]) and lines[-1] == ''
+
+
+def lengths_of(answer):
+    """The hop limit, and for each node in order its length: 0 for the originator, None where there is no chain."""
+    lengths = {}
+    for node, originator, length in NODE.findall(answer):
+        lengths[int(node)] = 0 if originator else int(length) if length else None
+    return int(TITLE.match(answer).group(1)), lengths
+
+
+def hearings_of(text):
+    """Each pair of a sender and a node that hears it, once, without those of a node with itself."""
+    lines = [line.split('#')[0].replace(':', ' ').replace(',', ' ').split() for line in text.split('\n')]
+    lines = [[int(word) for word in line] for line in lines if line][1:]
+    return list(dict.fromkeys((sender, node) for sender, *nodes in lines for node in nodes if node != sender))
+
+
+def branches(lengths, hearings):
+    """For each node those whose shortest chain goes on from it; the first sender that is one hearing nearer counts."""
+    below, placed = {node: [] for node in lengths}, set()
+    for sender, node in sorted(hearings, key=lambda pair: list(lengths).index(pair[0])):
+        if lengths[sender] is not None and lengths[node] == lengths[sender] + 1 and node not in placed:
+            placed.add(node)
+            below[sender].append(node)
+    return below
+
+
+def angles_of(lengths, below):
+    """An angle for each node: each takes as much of the circle as the ends of its branches need, and those without a chain share it evenly."""
+    angles = {}
+
+    def ends(node):
+        return sum(ends(other) for other in below[node]) or 1
+
+    def spread(node, start, width):
+        angles[node] = start + width / 2
+        for other in below[node]:
+            part = width * ends(other) / ends(node)
+            spread(other, start, part)
+            start += part
+
+    alone = [node for node in lengths if lengths[node] is None]
+    spread(next(iter(lengths)), -math.pi / 2, 2 * math.pi)
+    for place, node in enumerate(alone):
+        angles[node] = math.pi / 2 + 2 * math.pi * place / len(alone)
+    return angles
+
+
+def rings_of(lengths):
+    """The radius of each ring, so that its nodes have room; the ring None is the outermost."""
+    counts = {}
+    for length in lengths.values():
+        counts[length] = counts.get(length, 0) + 1
+    radii, radius = {0: 0}, 0
+    for length in sorted(key for key in counts if key) + [None] * (None in counts):
+        radius = max(radius + SPACE, counts[length] * (2 * DISC + 8) / (2 * math.pi))
+        radii[length] = radius
+    return radii
+
+
+def move_apart(lengths, radii, angles):
+    """Moves the nodes of each ring along it until no two touch; the ring has room for them."""
+    for ring, radius in radii.items():
+        nodes = sorted((node for node in lengths if lengths[node] == ring), key=angles.get)
+        need = (2 * DISC + 6) / radius if radius else 0
+        for _ in range(400 if len(nodes) > 1 else 0):
+            for place, node in enumerate(nodes):
+                before = nodes[place - 1]
+                gap = angles[node] - angles[before] + (2 * math.pi if place == 0 else 0)
+                if gap < need:
+                    angles[node] += (need - gap) / 2
+                    angles[before] -= (need - gap) / 2
+
+
+def kind_of(length, hop_limit):
+    if length is None:
+        return 'no chain'
+    return 'originator' if length == 0 else 'delivered' if length <= hop_limit + 1 else 'out of reach'
+
+
+def rim(centre, towards):
+    """Where a line from a disc's centre towards a point leaves the disc."""
+    far = math.hypot(towards[0] - centre[0], towards[1] - centre[1]) or 1
+    return [c + (t - c) / far * (DISC + 3) for c, t in zip(centre, towards)]
+
+
+def arrow(start, end, middle, both, strong):
+    """A hearing from disc to disc; with two heads where each hears the other. One that is no step of a shortest chain is bent away from the middle."""
+    (x, y), (u, v) = start, end
+    span = math.hypot(u - x, v - y) or 1
+    bend = 0 if strong else min(span / 3, 70)
+    sides = [((x + u) / 2 + side * bend * (y - v) / span, (y + v) / 2 + side * bend * (u - x) / span) for side in (1, -1)]
+    (a, b) = max(sides, key=lambda point: math.hypot(point[0] - middle, point[1] - middle))
+    (x, y), (u, v) = rim(start, (a, b)), rim(end, (a, b))
+    look, tip = ('chain', 'strong') if strong else ('other', 'weak')
+    heads = f'marker-end="url(#{tip})"' + (f' marker-start="url(#{tip})"' if both else '')
+    return f'<path class="{look}" d="M{x:.1f} {y:.1f}Q{a:.1f} {b:.1f} {u:.1f} {v:.1f}" {heads}/>'
+
+
+def tip(name, colour):
+    return (f'<marker id="{name}" viewBox="0 0 10 10" refX="9" refY="5" markerWidth="7" markerHeight="7" orient="auto-start-reverse">'
+            f'<path d="M0 0L10 5L0 10z" fill="{colour}"/></marker>')
+
+
+def legend(hop_limit, lengths, left, top):
+    kinds = [kind_of(length, hop_limit) for length in lengths.values()]
+    missed = kinds.count('out of reach') + kinds.count('no chain')
+    yield (f'<text class="words" x="{left}" y="{top}">hop limit {hop_limit}: delivered over up to {hop_limit + 1} '
+           f'hearing{"s" if hop_limit else ""}; {missed} node{"" if missed == 1 else "s"} out of reach</text>')
+    for kind in COLOURS:
+        if kind in kinds:
+            yield f'<circle cx="{left + 6}" cy="{top + 20}" r="6" fill="{COLOURS[kind]}"/><text class="words" x="{left + 18}" y="{top + 24}">{kind}</text>'
+            left += 40 + 7 * len(kind)
+
+
+def hearing_lines(hearings, below, at, middle):
+    """An arrow for each hearing, or one for two that go both ways; the steps of shortest chains above the others."""
+    steps, pairs = {(sender, node) for sender in below for node in below[sender]}, set(hearings)
+    for sender, node in sorted(hearings, key=lambda pair: pair in steps):
+        other = (node, sender)
+        if other in pairs and (other in steps or ((sender, node) not in steps and node < sender)):
+            continue
+        yield arrow(at[sender], at[node], middle, other in pairs, (sender, node) in steps)
+
+
+def discs(hop_limit, lengths, at):
+    for node, length in lengths.items():
+        kind, (x, y) = kind_of(length, hop_limit), at[node]
+        words = f'{node}: chain of {length}, {kind}' if length else f'{node}: {kind}'
+        yield (f'<g><title>{words}</title><circle cx="{x:.1f}" cy="{y:.1f}" r="{DISC}" fill="{COLOURS[kind]}"/>'
+               f'<text class="node" x="{x:.1f}" y="{y + 4:.1f}">{node}</text></g>')
+
+
+def svg(text, answer):
+    hop_limit, lengths = lengths_of(answer)
+    hearings, radii = hearings_of(text), rings_of(lengths)
+    below = branches(lengths, hearings)
+    angles = angles_of(lengths, below)
+    move_apart(lengths, radii, angles)
+    half = max(max(radii.values()) + DISC + MARGIN, 200)
+    at = {node: (half + radii[length] * math.cos(angles[node]), half + radii[length] * math.sin(angles[node])) for node, length in lengths.items()}
+    width, height = f'{2 * half:.0f}', f'{2 * half + LEGEND:.0f}'
+    rings = [f'<circle class="ring{" last" * (length == hop_limit + 1)}" cx="{half:.1f}" cy="{half:.1f}" r="{radius:.1f}"/>'
+             for length, radius in radii.items() if length]
+    parts = [f'<svg xmlns="http://www.w3.org/2000/svg" width="{width}" height="{height}" viewBox="0 0 {width} {height}">', STYLE,
+             f'<defs>{tip("strong", "#333")}{tip("weak", "#bbb")}</defs>', '<rect width="100%" height="100%" fill="#fff"/>',
+             *rings, *hearing_lines(hearings, below, at, half), *discs(hop_limit, lengths, at), *legend(hop_limit, lengths, 16, 2 * half + 22), '</svg>', '']
+    return '\n'.join(parts)
