@@ -97,7 +97,8 @@ given-back Unknown = refl
 given-back (Known address) = refl
 
 pub last-sender : LastSender
-unfolding pduLine shown decimal decimalWithin digit repeated repeatNumber deliveryNumber stopFault listOrReadingFault firstFault faultOf lowAboveHigh holds readOf headerOf dropFault echoFault passFault
+unfolding pduLine shown decimal decimalWithin digit
+    repeated repeatNumber deliveryNumber stopFault listOrReadingFault firstFault faultOf lowAboveHigh holds readOf headerOf dropFault echoFault passFault
     deliveryFault repeatFault taken heardFrom answerOf addressesAt inPath lastOr _gives_ _orElse_
 last-sender =
     record {
