@@ -1,11 +1,12 @@
 -- W-208 from its parts.
-use mathlib.Core.Path.{_≡_, ap, sym, subst, _∙_}
+use mathlib.Core.Path.{_≡_, refl, ap, sym, subst, _∙_}
 use mathlib.Core.List.{List}
 use Prim.Native.Nat.{ℕ}
 use lib.ListN.{length, take, drop}
 use Rattle.node.specs.declared.Answer.{Answer}
 use Rattle.node.specs.Answers.{answerOf, Hears}
 use Rattle.flood.specs.Air.{Repeater}
+use Rattle.chains.specs.Lengths.{heard}
 use Rattle.coverage.specs.Delivery.{Delivers}
 use Rattle.coverage.proofs.Cases as cases
 use Rattle.coverage.proofs.Covered.{reach, schedule}
@@ -21,11 +22,13 @@ answered n received output left payload answer long hears delivers =
     (delivers .number, delivers .part)
 
 pub least-reach : LeastReach
+unfolding heard
 least-reach =
     record {
       reach = reach;
       schedule = schedule;
       told = told;
+      pair = (refl, refl);
       answered = answered;
       line-planned = cases.line-planned;
       line-taken = cases.line-taken;

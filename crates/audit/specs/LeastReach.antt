@@ -1,12 +1,12 @@
 -- Document 02, W-208, as one record; `proofs/LeastReach.antt` gives it from its parts.
 use Prim.Native.Nat.{ℕ, _≤_}
-use mathlib.Core.Bool.{Bool, true}
+use mathlib.Core.Bool.{Bool, true, false}
 use mathlib.Core.List.{List, [], _∷_, map}
 use mathlib.Core.Option.{some}
 use mathlib.Core.Path.{_≡_}
 use lib.ListN.{length, take, drop, getElem?}
 use Rattle.chains.specs.Chains.{ends}
-use Rattle.chains.specs.Lengths.{Found}
+use Rattle.chains.specs.Lengths.{heard, Found}
 use Rattle.origin.specs.declared.Settings as asked
 use Rattle.origin.specs.Origination.{fresh}
 use Rattle.node.specs.declared.Answer.{Answer}
@@ -36,6 +36,8 @@ pub record LeastReach : Type 0 where
       → (pairs : List ℕ) → Says pairs hears nodes → (from : ℕ) → getElem? (map address nodes) from ≡ some (settings .source)
       → (before lengths : List ℕ) → length before ≡ length nodes → Found pairs from before true lengths
       → Told nodes settings payload receptions lengths
+  -- a pair is a sender's place, and then the place of a node that hears it
+  pub pair : (heard (1 ∷ 2 ∷ []) 1 2 ≡ true) × (heard (1 ∷ 2 ∷ []) 2 1 ≡ false)
   -- a node of the model delivers what its function `hear` answers: number 0, and the payload at the answer's place
   pub answered : (n : Repeater) (received output left payload : List ℕ) (answer : Answer) → length output ≡ n .room
       → Hears (n .node) received output answer left → Delivers n received payload
