@@ -31,8 +31,8 @@
  * MANT_QUEUE_BYTES bytes of PDUs, and more for no more; fewer have room for all but four of them. Where a call changes the queue it writes the PDUs then
  * held and before them their two numbers, and keeps the bytes behind them; where it does not, no byte changes. So in a queue that began empty the numbers
  * are at all times those of the PDUs held. Bytes put together by hand get an answer too: held are the PDUs that can be read there one after the other, 32
- * at most, within as many bytes as the second number tells, or as there is room for where it tells more; mant_queue_level alone does not look at them, and
- * answers the two numbers as they stand.
+ * at most, within as many bytes as the second number tells, or as there is room for where it tells more; mant_queue_clear does not look at them, and
+ * mant_queue_level answers the two numbers as they stand.
  *
  * Exchange. What a decoder and an encoder that are two devices send each other (document 02, W-202; document 003, section 3, for the elements): one
  * element of type 20 that is all of the bytes, and in it an element of type 1024, the PDU's header, and one of type 1025, its payload, one of each, in
