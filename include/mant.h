@@ -3,7 +3,7 @@
  *
  * Every call answers for every input: nothing has to be checked before it. What each answers is proved of the code in the library, against the
  * definitions in the crates' specs/ folders; this header only declares it. No call keeps anything between calls, allocates, or does input or output.
- * The library needs no function of the C library. A call takes less than 640 bytes of stack, mant_hear less than 512.
+ * The library needs no function of the C library but memmove. A call takes less than 640 bytes of stack, mant_hear less than 512.
  *
  * Slices. A slice is passed as a pointer and then a length, which counts elements: bytes, or uint16_t values of a list or words of a table. Only so
  * many elements are ever read or written.

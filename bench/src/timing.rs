@@ -2,6 +2,7 @@
 //! change from round to round.
 
 use std::hint::black_box;
+use std::slice;
 use std::time::Instant;
 
 const PAGE: usize = 4_096;
@@ -35,9 +36,22 @@ pub trait Contender {
 impl<F: FnMut(&[u8], &mut [u8])> Contender for F {
     fn run(&mut self, times: u64, input: &[u8], output: &mut [u8]) {
         for _ in 0..times {
-            self(black_box(input), black_box(&mut *output));
+            self(hidden(input), hidden_mut(output));
         }
     }
+}
+
+/// The same slice, not known to the compiler. Pointer and length are hidden one
+/// by one: a pair goes through memory, and is waited for there.
+fn hidden(bytes: &[u8]) -> &[u8] {
+    // SAFETY: the slice's own pointer and length.
+    unsafe { slice::from_raw_parts(black_box(bytes.as_ptr()), black_box(bytes.len())) }
+}
+
+/// As `hidden`.
+fn hidden_mut(bytes: &mut [u8]) -> &mut [u8] {
+    // SAFETY: as above.
+    unsafe { slice::from_raw_parts_mut(black_box(bytes.as_mut_ptr()), black_box(bytes.len())) }
 }
 
 /// Best and median, in ns for one run.

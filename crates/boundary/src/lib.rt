@@ -5,12 +5,18 @@ use bound::Bound;
 use listening::Listened;
 use node::Answer;
 use pdu::Destination;
-use pdu::Header;
 use pdu::Sender;
 ghost use mathlib.Core.Path.{_≡_};
+ghost use mathlib.Core.Bool.{cond};
+ghost use Prim.Native.Nat.{_+_, _*_, _-_, _≤_};
+ghost use lib.Dec.{eqb};
+ghost use Rattle.octets.specs.Octets.{at, wordAt};
+ghost use Rattle.pdu.specs.Header.{isSet, pathBit, payloadLength, pathCountPlace, headerOf};
+ghost use Rattle.pdu.specs.Sizes.{headerLimit};
+ghost use Rattle.pdu.specs.Parts.{lastSender};
 ghost use Rattle.pdu.specs.declared.Sender.the-variants.{Unknown};
 ghost use Rattle.node.specs.Answers.{twice};
-ghost use Rattle.boundary.specs.Boundary.{hasDestination, destinationAddress, refusedHeader, shownHeader, destinationFromC, freshFromC};
+ghost use Rattle.boundary.specs.Boundary.{refusedHeader, shownHeader, destinationFromC, freshFromC};
 ghost use Rattle.boundary.specs.Boundary.{hasSender, senderAddress, senderFromC, answerInC, answerFromC};
 ghost use Rattle.boundary.specs.Boundary.{listenedInC, stepInC, boundInC, limitsInC};
 
@@ -110,34 +116,97 @@ pub struct MantLimits {
     pub batch: usize,
 }
 
-// The header of a PDU that was read, as C sees it: number 0, every field, the last sender, and the lengths of the header and the PDU.
-// Document 01, "Header, byte by byte", and "Sizes"; document 02, W-205.
-pub fn shown_header(header: Header, sender: Sender) -> MantHeader
-    ensures { λ r. ⌜ r ≡ shownHeader header sender ⌝ }
+// The header that bytes show, as C sees it: number 0, every field, the last sender, and the lengths of the header and the PDU, straight from the bytes.
+// Any bytes get an answer, whether or not they can be read; a byte that is not there counts as 0. Document 01, "Header, byte by byte", and "Sizes";
+// document 02, W-205.
+pub fn shown_header(bytes: &[u8]) -> MantHeader
+    ensures { λ r. ⌜ r ≡ shownHeader (headerOf (now (bytes .entry))) (lastSender (headerOf (now (bytes .entry))) (now (bytes .entry))) ⌝ }
 {
-    let destination = header.destination;
+    let byte0 = octets::byte(bytes, 0);
+    let byte1 = octets::byte(bytes, 1);
+    let byte2 = octets::byte(bytes, 2);
+    let payload_length = payload_length(byte2, octets::byte(bytes, 3));
+    let source = octets::word(bytes, 4);
+    let path_count = byte_if(byte0 / 2 % 2 == 1, bytes, path_count_place(byte0));
+    let header_length = header_length(byte0, path_count);
     MantHeader {
         number: 0,
-        protocol: header.protocol,
-        time_stamp_request: header.time_stamp_request,
-        path_bit: header.path_bit,
-        has_destination: has_destination(destination),
-        port: header.port,
-        encrypted: header.encrypted,
-        reserved: header.reserved,
-        ack: header.ack,
-        added_header: header.added_header,
-        hop_limit: header.hop_limit,
-        payload_length: header.payload_length,
-        source: header.source,
-        destination: destination_address(destination),
-        pdu_id: header.pdu_id,
-        path_count: header.path_count,
-        has_last_sender: has_sender(sender),
-        last_sender: sender_address(sender),
-        header_length: header.header_length(),
-        pdu_length: header.pdu_length(),
+        protocol: byte0 / 8 % 8,
+        time_stamp_request: byte0 / 4 % 2 == 1,
+        path_bit: byte0 / 2 % 2 == 1,
+        has_destination: byte0 % 2 == 1,
+        port: byte1 / 16,
+        encrypted: byte1 / 8 % 2 == 1,
+        reserved: byte1 / 2 % 4,
+        ack: byte1 % 2 == 1,
+        added_header: byte2 / 128 == 1,
+        hop_limit: byte2 / 16 % 8,
+        payload_length,
+        source,
+        destination: word_if(byte0 % 2 == 1, bytes, 6),
+        pdu_id: byte_if(
+            byte0 / 8 % 8 == 1,
+            bytes,
+            6 + 2 * octets::byte_value(byte0 % 2),
+        ),
+        path_count,
+        has_last_sender: byte0 / 2 % 2 == 1,
+        last_sender: last_address(bytes, byte0, path_count, source, header_length),
+        header_length,
+        pdu_length: header_length + octets::word_value(payload_length),
     }
+}
+
+fn payload_length(byte2: u8, byte3: u8) -> u16
+    ensures { λ r. ⌜ r ≡ payloadLength byte2 byte3 ⌝ }
+{
+    (byte2 % 16) as u16 * 256 + byte3 as u16
+}
+
+fn path_count_place(byte0: u8) -> usize
+    ensures { λ r. ⌜ (r ≡ pathCountPlace byte0) × (r ≤ 9) ⌝ }
+{
+    6 + 2 * octets::byte_value(byte0 % 2) + octets::byte_value(octets::flag(byte0 / 8 % 8 == 1))
+}
+
+fn header_length(byte0: u8, path_count: u8) -> usize
+    ensures { λ r. ⌜ (r ≡ pathCountPlace byte0 + pathBit byte0 + 2 * «path_count») × (r ≤ headerLimit) ⌝ }
+{
+    path_count_place(byte0) + octets::byte_value(byte0 / 2 % 2) + 2 * octets::byte_value(path_count)
+}
+
+fn byte_if(present: bool, bytes: &[u8], place: usize) -> u8
+    ensures { λ r. ⌜ r ≡ cond present (at (now (bytes .entry)) place) 0 ⌝ }
+{
+    if present {
+        octets::byte(bytes, place)
+    } else {
+        0
+    }
+}
+
+fn word_if(present: bool, bytes: &[u8], place: usize) -> u16
+    ensures { λ r. ⌜ r ≡ cond present (wordAt (now (bytes .entry)) place) 0 ⌝ }
+{
+    if present {
+        octets::word(bytes, place)
+    } else {
+        0
+    }
+}
+
+// The address of the last sender, 0 without the path bit: the last 2 bytes of the header, or the source where the path is empty.
+fn last_address(bytes: &[u8], byte0: u8, path_count: u8, source: u16, end: usize) -> u16
+    requires { ⌜ 2 ≤ end ⌝ }
+    ensures { λ r. ⌜ r ≡ cond (isSet (pathBit byte0)) (cond (eqb «path_count» 0) source (wordAt (now (bytes .entry)) (end - 2))) 0 ⌝ }
+{
+    if byte0 / 2 % 2 != 1 {
+        return 0;
+    }
+    if path_count == 0 {
+        return source;
+    }
+    octets::word(bytes, end - 2)
 }
 
 // A refusal of reading, as C sees it: its number, and 0 and false in every field. Document 01, "Numbers answered", 1 to 6.
@@ -165,24 +234,6 @@ pub fn refused_header(number: u8) -> MantHeader
         last_sender: 0,
         header_length: 0,
         pdu_length: 0,
-    }
-}
-
-fn has_destination(destination: Destination) -> bool
-    ensures { λ r. ⌜ r ≡ hasDestination destination ⌝ }
-{
-    match destination {
-        Destination::Everyone => false,
-        Destination::Address(_) => true,
-    }
-}
-
-fn destination_address(destination: Destination) -> u16
-    ensures { λ r. ⌜ r ≡ destinationAddress destination ⌝ }
-{
-    match destination {
-        Destination::Everyone => 0,
-        Destination::Address(address) => address,
     }
 }
 

@@ -31,7 +31,6 @@ use boundary::MantStep;
 use counting::Heard;
 use decision::Settings;
 use exchange::Exchange;
-use pdu::Reading;
 use pdu::Written;
 use queue::Level;
 use stations::Found;
@@ -47,8 +46,7 @@ pub extern "C" fn mant_read(bytes: &[u8]) -> MantHeader
     if number != 0 {
         return boundary::refused_header(number);
     }
-    let header = pdu::header_of(bytes);
-    boundary::shown_header(header, pdu::parts::last_sender(bytes, header))
+    boundary::shown_header(bytes)
 }
 
 // The address at place `i` of the path of the PDU at the start of `bytes`, the first at 0. 0 past the last one, and where there is no PDU.
@@ -57,11 +55,10 @@ pub extern "C" fn mant_read(bytes: &[u8]) -> MantHeader
 pub extern "C" fn mant_path_address(bytes: &[u8], i: usize) -> u16
     ensures { λ r. ⌜ r ≡ pathAddressIn (readOf (now (bytes .entry))) (now (bytes .entry)) i ⌝ }
 {
-    let reading = pdu::read(bytes);
-    let Reading::Pdu(header) = reading else {
+    if pdu::fault(bytes) != 0 {
         return 0;
-    };
-    pdu::parts::path_address(bytes, header, i)
+    }
+    pdu::parts::path_address(bytes, pdu::header_of(bytes), i)
 }
 
 // Whether an address is anywhere in the path of the PDU at the start of `bytes`. Without a path none is, nor where there is no PDU.
@@ -70,11 +67,10 @@ pub extern "C" fn mant_path_address(bytes: &[u8], i: usize) -> u16
 pub extern "C" fn mant_path_has(bytes: &[u8], address: u16) -> bool
     ensures { λ r. ⌜ r ≡ pathHas (readOf (now (bytes .entry))) (now (bytes .entry)) address ⌝ }
 {
-    let reading = pdu::read(bytes);
-    let Reading::Pdu(header) = reading else {
+    if pdu::fault(bytes) != 0 {
         return false;
-    };
-    pdu::parts::path_has(bytes, header, address)
+    }
+    pdu::parts::path_has(bytes, pdu::header_of(bytes), address)
 }
 
 // Writes the PDU at the start of `bytes` again, from what reading shows of it, and answers 0 and its length. Answers 1 to 6 where there is no

@@ -1,13 +1,14 @@
 // One PDU at one node: what is delivered, what is repeated, and the repeated PDU.
 ghost use mathlib.Core.Path.{_≡_};
-ghost use mathlib.Core.Bool.{cond};
+ghost use mathlib.Core.Bool.{true, cond};
 ghost use lib.Dec.{eqb};
+ghost use lib.ListN.{length};
 ghost use Rattle.octets.specs.Octets.{IsPart};
 ghost use Rattle.pdu.specs.declared.Reading.the-variants.{Pdu};
 ghost use Rattle.pdu.specs.Sizes.{headerLength, pduLength};
 ghost use Rattle.pdu.specs.Reading.{readOf};
 ghost use Rattle.pdu.specs.Parts.{lastSender};
-ghost use Rattle.lists.specs.Lists.{Lists, listsOf};
+ghost use Rattle.lists.specs.Lists.{Lists, listsOf, listFault};
 ghost use Rattle.decision.specs.Decision.{nodeOf, dropFault};
 ghost use Rattle.node.specs.Answers.{listOrReadingFault, twice, Hears};
 use decision::Settings;
@@ -48,7 +49,7 @@ pub fn hear<'a>(
         (now («destination_pass» .entry)) (now («destination_reject» .entry))))
         (now (received .entry)) (now (output .entry)) r (now (output .exit)) ⌝ }
 {
-    let fault = lists::fault(
+    let fault = list_fault(
         source_pass,
         source_reject,
         destination_pass,
@@ -75,6 +76,39 @@ pub fn hear<'a>(
         return twice(number, header.pdu_length(), sender);
     }
     decide(settings, received, header, sender, output)
+}
+
+// The fault of the lists. Where all four are empty there is none, and they are not handed on.
+fn list_fault<'a>(
+    source_pass: &'a [u16],
+    source_reject: &'a [u16],
+    destination_pass: &'a [u16],
+    destination_reject: &'a [u16],
+) -> u8
+    ensures { λ r. ⌜ r ≡ listFault (listsOf (now («source_pass» .entry)) (now («source_reject» .entry))
+        (now («destination_pass» .entry)) (now («destination_reject» .entry))) ⌝ }
+{
+    if are_empty(source_pass, source_reject) {
+        if are_empty(destination_pass, destination_reject) {
+            return 0;
+        }
+    }
+    lists::fault(
+        &source_pass[..],
+        &source_reject[..],
+        &destination_pass[..],
+        &destination_reject[..],
+    )
+}
+
+fn are_empty<'a>(first: &'a [u16], second: &'a [u16]) -> bool
+    ensures { λ r. ⌜ (r ≡ true → (length (now (first .entry)) ≡ 0) × (length (now (second .entry)) ≡ 0)) ⌝ }
+{
+    if first.len() == 0 {
+        second.len() == 0
+    } else {
+        false
+    }
 }
 
 // Delivery and repeating, of a PDU that no earlier number stopped.

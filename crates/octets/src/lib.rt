@@ -1,8 +1,9 @@
 // Bytes, the numbers in them, a part of them shown, and parts put into an output one after another.
 ghost use mathlib.Core.Path.{_≡_};
-ghost use Prim.Native.Nat.{_/_, _%_, _<_, _≤_};
+ghost use Prim.Native.Nat.{_+_, _/_, _%_, _<_, _≤_};
+ghost use lib.ListN.{length};
 ghost use Rattle.octets.specs.Numbers.{flag};
-ghost use Rattle.octets.specs.Octets.{at, wordAt, wordBytes, IsPart, Puts};
+ghost use Rattle.octets.specs.Octets.{at, wordAt, wordBytes, IsPart, over, Puts};
 
 // Byte `i`, and 0 past the end. Document 01, "Header, byte by byte", the table's column Byte; the 0 is this library's own choice.
 pub fn byte(bytes: &[u8], i: usize) -> u8
@@ -16,11 +17,22 @@ pub fn byte(bytes: &[u8], i: usize) -> u8
 pub fn word(bytes: &[u8], i: usize) -> u16
     ensures { λ r. ⌜ r ≡ wordAt (now (bytes .entry)) i ⌝ }
 {
-    if i < bytes.len() {
-        wide(bytes[i]) * 256 + wide(byte(bytes, i + 1))
-    } else {
-        0
+    let end = bytes.len();
+    if end < 2 {
+        return cut_word(bytes, i);
     }
+    if end - 2 < i {
+        return cut_word(bytes, i);
+    }
+    wide(bytes[i]) * 256 + wide(bytes[i + 1])
+}
+
+// The same number where its less significant byte is past the end.
+fn cut_word(bytes: &[u8], i: usize) -> u16
+    requires { ⌜ length (now bytes) ≤ i + 1 ⌝ }
+    ensures { λ r. ⌜ r ≡ wordAt (now (bytes .entry)) i ⌝ }
+{
+    wide(byte(bytes, i)) * 256
 }
 
 fn wide(x: u8) -> u16
@@ -90,8 +102,24 @@ pub fn put(output: &mut [u8], place: usize, part: &[u8]) -> usize
     if output.len() - place < part.len() {
         return place;
     }
-    bytes::copy(part, &mut output[place..]);
+    copy(part, &mut output[place..]);
     place + part.len()
+}
+
+// Copies the part to the start of an output that has room for it. A short part goes through an array that the back end does away with: it makes one move
+// of memory of the two copies, and of a copy without the array a loop, which is slow for few bytes.
+fn copy(part: &[u8], output: &mut [u8])
+    requires { ⌜ length (now part) ≤ length (now output) ⌝ }
+    ensures { λ _. ⌜ now (output .exit) ≡ over (now (part .entry)) (now (output .entry)) ⌝ }
+{
+    let size = part.len();
+    if 256 < size {
+        bytes::copy(part, output);
+    } else {
+        let mut block = [0u8; 256];
+        bytes::copy(part, &mut block);
+        bytes::copy(&block[..size], output);
+    }
 }
 
 // Puts the two bytes of a number into the output at `place`, as `put` does.

@@ -152,17 +152,26 @@ pub fn destination_flag(destination: Destination) -> u8
 pub fn read(bytes: &[u8]) -> Reading
     ensures { λ r. ⌜ r ≡ readOf (now (bytes .entry)) ⌝ }
 {
-    let number = fault(bytes);
-    if number != 0 {
-        return Reading::Refused(refusal_of(number));
+    if bytes.len() < Header::FIXED_LENGTH {
+        return Reading::Refused(Refusal::TooShort);
     }
-    // Not `header_of`: with the boundary's `mant_read` as its only caller in the static library, the back end inlines it there.
-    Reading::Pdu(header_from(
+    let first = first_byte_fault(bytes[0]);
+    if first != 0 {
+        return Reading::Refused(refusal_of(first));
+    }
+    let header = header_from(
         bytes,
         destination_in(bytes),
         pdu_id_in(bytes),
         path_count_in(bytes),
-    ))
+    );
+    if bytes.len() < header.header_length() {
+        return Reading::Refused(Refusal::HeaderCut);
+    }
+    if bytes.len() < header.pdu_length() {
+        return Reading::Refused(Refusal::PayloadCut);
+    }
+    Reading::Pdu(header)
 }
 
 // The number of the first thing wrong with the bytes as a PDU, 1 to 6, and 0 where they begin with one. Any bytes get an answer; bytes after the PDU

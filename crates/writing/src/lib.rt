@@ -1,7 +1,6 @@
 // Writing a PDU from its fields.
 use pdu::Destination;
 use pdu::Header;
-use pdu::Reading;
 use pdu::Written;
 ghost use mathlib.Core.Path.{_≡_};
 ghost use mathlib.Core.List.{[], _∷_};
@@ -23,14 +22,11 @@ pub fn write_again(bytes: &[u8], output: &mut [u8]) -> Written
     ensures { λ r. ⌜ (r ≡ writeAgain (now (bytes .entry)) (length (now (output .entry))))
         × (now (output .exit) ≡ writtenAgain (now (bytes .entry)) (now (output .entry))) ⌝ }
 {
-    let reading = pdu::read(bytes);
-    match reading {
-        Reading::Refused(refusal) => Written {
-            number: pdu::refusal_number(refusal),
-            length: 0,
-        },
-        Reading::Pdu(header) => write_shown(bytes, header, output),
+    let number = pdu::fault(bytes);
+    if number != 0 {
+        return Written { number, length: 0 };
     }
+    write_shown(bytes, pdu::header_of(bytes), output)
 }
 
 fn write_shown(bytes: &[u8], header: Header, output: &mut [u8]) -> Written

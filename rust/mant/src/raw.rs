@@ -249,11 +249,13 @@ extern "C" {
         destination_pass: *const u16, destination_pass_length: usize, destination_reject: *const u16, destination_reject_length: usize,
         received: *const u8, received_length: usize, output: *mut u8, output_length: usize,
     ) -> Answer;
+    // The cursor goes as its two fields. By then the registers are taken on both processors, so either way it lies on the stack, 8 bytes for each; as a
+    // struct it would be copied there whole right after its fields were written one by one, which is slow.
     fn mant_step(
         settings: Node,
         source_pass: *const u16, source_pass_length: usize, source_reject: *const u16, source_reject_length: usize,
         destination_pass: *const u16, destination_pass_length: usize, destination_reject: *const u16, destination_reject_length: usize,
-        batch: *const u8, batch_length: usize, cursor: Cursor, output: *mut u8, output_length: usize,
+        batch: *const u8, batch_length: usize, cursor_place: usize, cursor_ended: bool, output: *mut u8, output_length: usize,
     ) -> Step;
     fn mant_stations_capacity(table: *const u16, table_words: usize) -> usize;
     fn mant_stations_held(table: *const u16, table_words: usize) -> usize;
@@ -417,7 +419,8 @@ pub fn step(settings: Node, lists: Lists, batch: &[u8], cursor: Cursor, output: 
             d.len(),
             batch.as_ptr(),
             batch.len(),
-            cursor,
+            cursor.place,
+            cursor.ended,
             output.as_mut_ptr(),
             output.len(),
         )

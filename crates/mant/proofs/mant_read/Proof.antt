@@ -3,13 +3,11 @@ use mathlib.Core.List.{List}
 use mathlib.Core.Path.{_≡_, ap, sym, _∙_}
 use native.Mathlib.Omega.{arith}
 use denote.Ref.{now}
-use Rattle.pdu.specs.declared.Header.{Header}
 use Rattle.pdu.specs.declared.Reading.{Reading}
 use Rattle.pdu.specs.declared.Reading.the-variants.{Pdu, Refused}
 use Rattle.pdu.specs.Reading.{readOf, readingNumber}
-use Rattle.pdu.specs.Parts.{lastSender}
 use Rattle.pdu.proofs.Number.{read-0}
-use Rattle.boundary.specs.Boundary.{headerInC, refusedHeader, shownHeader}
+use Rattle.boundary.specs.Boundary.{headerInC, refusedHeader}
 use borrow.Author.Needs.{needs}
 use Rattle.mant.proofs.mant_read.Statement.{statement}
 use Rattle.mant.proofs.mant_read.Tie as tie
@@ -31,32 +29,17 @@ returns c =
     let bytes = now (c .before .before .before .before .args .bytes) in
     c .refused-header .ensures ∙ refused-is (readOf bytes) bytes (c .before .before .fault .ensures) (λ none. omega arith)
 
-header-of-requires : tie.Need-header-of-requires
-header-of-requires c κs = search needs
-
-last-sender-requires : tie.Need-last-sender-requires
-last-sender-requires c κs = search needs
-
 shown-header-requires : tie.Need-shown-header-requires
 shown-header-requires c κs = search needs
 
 returns-2 : tie.Need-returns-2
 returns-2 c =
-    let e = c .before .before .before .before in
+    let e = c .before .before in
     let bytes = now (e .before .before .args .bytes) in
     let none : readingNumber (readOf bytes) ≡ 0 = omega (arith, e .fault .ensures) in
-    c .shown-header .ensures ∙ ap (shownHeader (c .before .before .header-of .result)) (c .before .last-sender .ensures)
-    ∙ ap (λ (header : Header). shownHeader header (lastSender header bytes)) (c .before .before .header-of .ensures)
-    ∙ sym (ap (λ (reading : Reading). headerInC reading bytes) (read-0 bytes none))
+    c .shown-header .ensures ∙ sym (ap (λ (reading : Reading). headerInC reading bytes) (read-0 bytes none))
 
 pub mant-read-spec : {M : Type 1} → statement M
 mant-read-spec =
     tie.close
-    (tie.spec
-    fault-requires
-    refused-header-requires
-    returns
-    header-of-requires
-    last-sender-requires
-    shown-header-requires
-    returns-2)
+    (tie.spec fault-requires refused-header-requires returns shown-header-requires returns-2)

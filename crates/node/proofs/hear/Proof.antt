@@ -8,8 +8,8 @@ use borrow.Author.Needs.{needs}
 use Rattle.node.proofs.hear.Statement.{statement}
 use Rattle.node.proofs.hear.Tie as tie
 
-fault-requires : tie.Need-fault-requires
-fault-requires c κs = search needs
+list-fault-requires : tie.Need-list-fault-requires
+list-fault-requires c κs = search needs
 
 twice-requires : tie.Need-twice-requires
 twice-requires c κs = search needs
@@ -20,7 +20,7 @@ returns c =
     let a = lists .before .before .before .before .before .before .before .args in
     let node = nodeOf (a .settings)
     (listsOf (now (a .source-pass)) (now (a .source-reject)) (now (a .destination-pass)) (now (a .destination-reject))) in
-    let right = fault-given node (now (a .received)) (now (a .output)) (lists .fault .result) (c .before .if1 .taken) (lists .fault .ensures) in
+    let right = fault-given node (now (a .received)) (now (a .output)) (lists .list-fault .result) (c .before .if1 .taken) (lists .list-fault .ensures) in
     (c .twice .ensures ∙ right .0, right .1)
 
 read-requires : tie.Need-read-requires
@@ -46,7 +46,7 @@ returns-2 c =
     let a = lists .before .before .before .before .before .before .before .args in
     let node = nodeOf (a .settings)
     (listsOf (now (a .source-pass)) (now (a .source-reject)) (now (a .destination-pass)) (now (a .destination-reject))) in
-    let clean : listFault (node .lists) ≡ 0 = sym (lists .fault .ensures) ∙ reads .before .if1 .left in
+    let clean : listFault (node .lists) ≡ 0 = sym (lists .list-fault .ensures) ∙ reads .before .if1 .left in
     let refused = refusal-number _ _ (number .before .enum-told .given .1) (number .reading-number .ensures) in
     let given = number .reading-number .ensures ∙ ap readingNumber (reads .read .ensures) in
     let right = refusal-given node (now (a .received)) (now (a .output)) clean (number .reading-number .result) refused given in
@@ -75,7 +75,7 @@ returns-3 c =
     let a = lists .before .before .before .before .before .before .before .args in
     let node = nodeOf (a .settings)
     (listsOf (now (a .source-pass)) (now (a .source-reject)) (now (a .destination-pass)) (now (a .destination-reject))) in
-    let clean : listFault (node .lists) ≡ 0 = sym (lists .fault .ensures) ∙ reads .before .if1 .left in
+    let clean : listFault (node .lists) ≡ 0 = sym (lists .list-fault .ensures) ∙ reads .before .if1 .left in
     let read = sym (reads .read .ensures) ∙ header .reading .given .1 in
     let right =
     stopped node (now (a .received)) (now (a .output)) clean (header .reading .given .0 .0) read (drops .drop-fault .result)
@@ -103,7 +103,7 @@ returns-4 c =
     let a = lists .before .before .before .before .before .before .before .args in
     let node = nodeOf (a .settings)
     (listsOf (now (a .source-pass)) (now (a .source-reject)) (now (a .destination-pass)) (now (a .destination-reject))) in
-    let clean : listFault (node .lists) ≡ 0 = sym (lists .fault .ensures) ∙ reads .before .if1 .left in
+    let clean : listFault (node .lists) ≡ 0 = sym (lists .list-fault .ensures) ∙ reads .before .if1 .left in
     let read = sym (reads .read .ensures) ∙ header .reading .given .1 in
     decides .decide .ensures (node .lists) (is-readable node (now (a .received)) (now (a .output)) clean (header .reading .given .0 .0) read)
     (sym (drops .drop-fault .ensures) ∙ decides .before .before .if2 .left)
@@ -112,7 +112,7 @@ pub hear-spec : {M : Type 1} → statement M
 hear-spec =
     tie.close
     (tie.spec
-    fault-requires
+    list-fault-requires
     twice-requires
     returns
     read-requires
