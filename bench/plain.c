@@ -9,7 +9,7 @@ typedef struct {
     uint8_t number, protocol;
     bool time_stamp_request, path_bit, has_destination;
     uint8_t port;
-    bool encrypted;
+    bool has_encrypted, encrypted;
     uint8_t reserved;
     bool ack, added_header;
     uint8_t hop_limit;
@@ -31,12 +31,14 @@ typedef struct {
 } Exchange;
 
 typedef struct {
+    uint64_t edition;
     uint16_t source;
     bool has_destination;
     uint16_t destination;
     uint64_t hop_limit, port;
     bool time_stamp_request, with_path, reliable;
     uint8_t pdu_id;
+    bool encrypted;
 } Fresh;
 
 typedef struct {
@@ -90,12 +92,21 @@ static void put_word(uint8_t *at, uint16_t value)
     at[1] = (uint8_t)value;
 }
 
-Header plain_read(const uint8_t *bytes, size_t length)
+static bool is_edition(uint64_t edition)
+{
+    return edition == 11 || edition == 12;
+}
+
+Header plain_read(uint64_t edition, const uint8_t *bytes, size_t length)
 {
     const Header none = {0};
     Header header = {0};
     size_t at = 6;
 
+    if (!is_edition(edition)) {
+        header.number = 17;
+        return header;
+    }
     if (length < 6) {
         header.number = 1;
         return header;
@@ -120,8 +131,9 @@ Header plain_read(const uint8_t *bytes, size_t length)
     header.time_stamp_request = bytes[0] >> 2 & 1;
     header.path_bit = bytes[0] >> 1 & 1;
     header.port = bytes[1] >> 4;
-    header.encrypted = bytes[1] >> 3 & 1;
-    header.reserved = bytes[1] >> 1 & 3;
+    header.has_encrypted = edition == 12;
+    header.encrypted = edition == 12 && (bytes[1] >> 3 & 1);
+    header.reserved = bytes[1] >> 1 & (edition == 12 ? 3 : 7);
     header.ack = bytes[1] & 1;
     header.added_header = bytes[2] >> 7;
     header.hop_limit = bytes[2] >> 4 & 7;
@@ -175,6 +187,9 @@ Written plain_originate(Fresh settings, const uint8_t *payload, size_t payload_l
     size_t header_length = 6 + (settings.has_destination ? 2 : 0) + (settings.reliable ? 1 : 0) + (settings.with_path ? 1 : 0);
     size_t at = 6;
 
+    if (!is_edition(settings.edition)) {
+        return (Written){17, 0};
+    }
     if (settings.hop_limit > 7) {
         return (Written){10, 0};
     }
@@ -187,11 +202,14 @@ Written plain_originate(Fresh settings, const uint8_t *payload, size_t payload_l
     if (settings.reliable && !settings.has_destination) {
         return (Written){13, 0};
     }
+    if (settings.encrypted && settings.edition == 11) {
+        return (Written){16, 0};
+    }
     if (output_length < header_length + payload_length) {
         return (Written){14, 0};
     }
     output[0] = (uint8_t)(settings.reliable << 3 | settings.time_stamp_request << 2 | settings.with_path << 1 | settings.has_destination);
-    output[1] = (uint8_t)(settings.port << 4);
+    output[1] = (uint8_t)(settings.port << 4 | settings.encrypted << 3);
     output[2] = (uint8_t)(settings.hop_limit << 4 | payload_length >> 8);
     output[3] = (uint8_t)payload_length;
     put_word(output + 4, settings.source);
@@ -242,15 +260,18 @@ static Answer twice(uint8_t number, Header header)
     return (Answer){number, number, header.has_last_sender, header.last_sender, 0, 0, 0, header.pdu_length};
 }
 
-Answer plain_hear(Node node, const List lists[4], const uint8_t *received, size_t length, uint8_t *output, size_t output_length)
+Answer plain_hear(uint64_t edition, Node node, const List lists[4], const uint8_t *received, size_t length, uint8_t *output, size_t output_length)
 {
+    if (!is_edition(edition)) {
+        return twice(17, (Header){0});
+    }
     for (int i = 0; i < 4; i++) {
         uint8_t fault = list_fault(lists[i]);
         if (fault != 0) {
             return twice(fault, (Header){0});
         }
     }
-    Header header = plain_read(received, length);
+    Header header = plain_read(edition, received, length);
     if (header.number != 0) {
         return twice(header.number, header);
     }
@@ -316,17 +337,18 @@ Answer plain_hear(Node node, const List lists[4], const uint8_t *received, size_
 }
 
 /* The whole walk: how many PDUs were answered for, and where it ended. */
-size_t plain_walk(Node node, const List lists[4], const uint8_t *batch, size_t length, uint8_t *output, size_t output_length, size_t *end)
+size_t plain_walk(uint64_t edition, Node node, const List lists[4], const uint8_t *batch, size_t length, uint8_t *output, size_t output_length,
+                  size_t *end)
 {
     size_t count = 0;
     size_t at = 0;
 
     *end = 0;
-    if (length > 16384) {
+    if (length > 16384 && is_edition(edition)) {
         return 0;
     }
     while (at < length) {
-        Answer answer = plain_hear(node, lists, batch + at, length - at, output, output_length);
+        Answer answer = plain_hear(edition, node, lists, batch + at, length - at, output, output_length);
         count++;
         if (answer.taken == 0) {
             break;
@@ -380,9 +402,10 @@ uint8_t plain_count(Table *table, Heard heard)
     return 0;
 }
 
-Listened plain_hear_and_count(Node node, const List lists[4], const uint8_t *received, size_t length, uint8_t *output, size_t output_length, Table *table)
+Listened plain_hear_and_count(uint64_t edition, Node node, const List lists[4], const uint8_t *received, size_t length, uint8_t *output,
+                              size_t output_length, Table *table)
 {
-    Listened listened = {plain_hear(node, lists, received, length, output, output_length), 0};
+    Listened listened = {plain_hear(edition, node, lists, received, length, output, output_length), 0};
 
     if (listened.answer.taken != 0) {
         bool path_bit = received[0] >> 1 & 1;
@@ -417,7 +440,7 @@ Level plain_queue_level(const Ring *ring)
 
 uint8_t plain_queue_add(Ring *ring, const uint8_t *pdu, size_t length)
 {
-    Header header = plain_read(pdu, length);
+    Header header = plain_read(12, pdu, length);
     size_t end, before_the_end;
 
     if (header.number != 0 || header.pdu_length != length) {
@@ -567,7 +590,7 @@ static Header read_joined(const uint8_t *bytes, Exchange found)
 
     memcpy(start, bytes + found.header_place, first);
     memcpy(start + first, bytes + found.payload_place, second);
-    return plain_read(start, found.header_length + found.payload_length);
+    return plain_read(12, start, found.header_length + found.payload_length);
 }
 
 Exchange plain_read_exchange(const uint8_t *bytes, size_t length)
@@ -618,7 +641,7 @@ static uint8_t *put_element(uint8_t *at, unsigned type, const uint8_t *value, si
 
 Written plain_write_exchange(const uint8_t *bytes, size_t length, uint8_t *output, size_t output_length)
 {
-    Header header = plain_read(bytes, length);
+    Header header = plain_read(12, bytes, length);
     size_t inner, whole;
 
     if (header.number != 0) {

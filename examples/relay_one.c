@@ -38,7 +38,7 @@ int main(void)
     uint8_t fresh[MANT_PDU_LIMIT];
     uint8_t repeated[MANT_PDU_LIMIT];
 
-    MantFresh settings = {.source = 1000, .has_destination = true, .destination = 1600, .hop_limit = 263, .with_path = true};
+    MantFresh settings = {.edition = MANT_EDITION_1_2, .source = 1000, .has_destination = true, .destination = 1600, .hop_limit = 263, .with_path = true};
     MantWritten written = mant_originate(settings, payload, sizeof payload, fresh, sizeof fresh);
     print_number("hop limit 263", written.number);
 
@@ -49,19 +49,19 @@ int main(void)
 
     /* Four lists that are off and empty. */
     const MantNode node = {.own = 2000, .echo = true, .repeating = true};
-    MantAnswer answer = mant_hear(node, NULL, 0, NULL, 0, NULL, 0, NULL, 0, fresh, written.length, repeated, sizeof repeated);
+    MantAnswer answer = mant_hear(MANT_EDITION_1_2, node, NULL, 0, NULL, 0, NULL, 0, NULL, 0, fresh, written.length, repeated, sizeof repeated);
     print_number("delivery at node 2000", answer.delivery);
     print_number("repeat at node 2000", answer.repeat);
     print_sender("node 2000 heard it", answer.has_last_sender, answer.last_sender);
     print_hex("repeated", repeated, answer.repeated_length);
 
-    MantHeader header = mant_read(repeated, answer.repeated_length);
+    MantHeader header = mant_read(MANT_EDITION_1_2, repeated, answer.repeated_length);
     printf("its hop limit is %u, its path has %u address: %u\n", header.hop_limit, header.path_count,
            mant_path_address(repeated, answer.repeated_length, 0));
     print_sender("the repeat is heard", header.has_last_sender, header.last_sender);
 
     /* The node hears its own repeat. */
-    answer = mant_hear(node, NULL, 0, NULL, 0, NULL, 0, NULL, 0, repeated, answer.repeated_length, fresh, sizeof fresh);
+    answer = mant_hear(MANT_EDITION_1_2, node, NULL, 0, NULL, 0, NULL, 0, NULL, 0, repeated, answer.repeated_length, fresh, sizeof fresh);
     print_number("repeat of the repeat", answer.repeat);
     return 0;
 }

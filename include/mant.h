@@ -13,6 +13,11 @@
  * An output shares no memory with another slice of the call, nor does a table or a queue. Structs are those declared here, passed by value and so
  * aligned by the compiler, and a bool in them holds 0 or 1, as C's does unless it was written by other means, such as memcpy.
  *
+ * Edition. In edition 1.1 of the protocol the three bits after the port are one reserved number; in 1.2 the first of them is the encrypted flag
+ * (document 02, W-209). What shows or sets these bits takes the edition as a number, MANT_EDITION_1_1 or MANT_EDITION_1_2, and so does a node. Any
+ * other number, also one that would be 11 or 12 if it were cut to fewer bits, is answered 17 before all else is looked at. A node answers and repeats
+ * the same, byte for byte, under both. What tells of paths, exchanges and queues shows none of these bits, and so takes no edition.
+ *
  * Output. It changes only where a PDU, an exchange or what was taken from a queue is written (number 0), or, at a node, where the repeat number is 0.
  * It then begins with that, and keeps its bytes past the end of it. With every other number the output is left as it was. MANT_PDU_LIMIT bytes are room
  * for every PDU, MANT_EXCHANGE_LIMIT for every exchange, MANT_QUEUE_BYTES for all that a queue holds.
@@ -72,6 +77,8 @@ enum MantNumber {
     MANT_RELIABLE_WITHOUT_DESTINATION = 13, /* reliable service needs a destination */
     MANT_OUTPUT_TOO_SHORT = 14,             /* the output has no room for the PDU, or for its exchange */
     MANT_RESERVED_ABOVE_3 = 15,             /* reserved bits above 3: a number of this library's own, for a header put together by hand */
+    MANT_NO_ENCRYPTED_FLAG = 16,            /* encryption is asked for, and edition 1.1 has no encrypted flag */
+    MANT_UNKNOWN_EDITION = 17,              /* the edition is neither 11, which is 1.1, nor 12, which is 1.2 */
     MANT_LOW_ABOVE_HIGH = 20,               /* a list has a range whose low is above its high */
     MANT_LIST_ODD = 21,                     /* the last value of a list has no partner */
     MANT_LIST_TOO_LONG = 22,                /* a list has more than 128 values */
@@ -124,6 +131,8 @@ static inline const char *mant_meaning(uint8_t number)
     case MANT_RELIABLE_WITHOUT_DESTINATION: return "reliable service needs a destination";
     case MANT_OUTPUT_TOO_SHORT: return "the output has no room for the PDU, or for its exchange";
     case MANT_RESERVED_ABOVE_3: return "reserved bits above 3: a number of this library's own, for a header put together by hand";
+    case MANT_NO_ENCRYPTED_FLAG: return "encryption is asked for, and edition 1.1 has no encrypted flag";
+    case MANT_UNKNOWN_EDITION: return "the edition is neither 11, which is 1.1, nor 12, which is 1.2";
     case MANT_LOW_ABOVE_HIGH: return "a list has a range whose low is above its high";
     case MANT_LIST_ODD: return "the last value of a list has no partner";
     case MANT_LIST_TOO_LONG: return "a list has more than 128 values";
@@ -179,17 +188,22 @@ static inline const char *mant_meaning(uint8_t number)
 /* The most bytes that mant_write_exchange writes. */
 #define MANT_EXCHANGE_LIMIT 4626
 
+/* The editions as numbers; no other number is one. */
+#define MANT_EDITION_1_1 11
+#define MANT_EDITION_1_2 12
+
 /* The header of a PDU, in the order of its bits. A destination, PDU ID or path count that the PDU does not have is 0. With a number other than 0
    every field after it is 0 or false. */
 typedef struct MantHeader {
-    uint8_t number;           /* 0, or 1 to 6 */
+    uint8_t number;           /* 0; else 17, or 1 to 6 */
     uint8_t protocol;         /* 0 best efforts, 1 reliable */
     bool time_stamp_request;
     bool path_bit;
     bool has_destination;     /* without one the PDU is for everyone */
     uint8_t port;
+    bool has_encrypted;       /* false under edition 1.1, which has no encrypted flag; `encrypted` is false then */
     bool encrypted;
-    uint8_t reserved;
+    uint8_t reserved;         /* 0 to 3; under edition 1.1 all three bits, 0 to 7 */
     bool ack;
     bool added_header;
     uint8_t hop_limit;
@@ -219,8 +233,10 @@ typedef struct MantExchange {
     size_t payload_length;
 } MantExchange;
 
-/* What is asked of a fresh PDU. Hop limit and port are wider than their bits, so that 263 arrives as 263 and is refused. */
+/* What is asked of a fresh PDU. Edition, hop limit and port are wider than they need be, so that 263 arrives as 263 and is refused. An edition that
+   is not set is 0, and refused with 17. */
 typedef struct MantFresh {
+    uint64_t edition;         /* MANT_EDITION_1_1 or MANT_EDITION_1_2 */
     uint16_t source;
     bool has_destination;     /* false: for everyone, and `destination` does not count */
     uint16_t destination;
@@ -230,6 +246,7 @@ typedef struct MantFresh {
     bool with_path;           /* every node that repeats the PDU adds its address */
     bool reliable;            /* needs a destination */
     uint8_t pdu_id;           /* written for reliable service only */
+    bool encrypted;           /* the payload is encrypted already: sets the flag, which edition 1.1 does not have */
 } MantFresh;
 
 /* What a node is set to. Each of its four lists is on or off; a pass list that is on and empty passes nothing. */
@@ -247,12 +264,12 @@ typedef struct MantNode {
 typedef struct MantAnswer {
     uint8_t delivery;         /* 0: delivered; else why not */
     uint8_t repeat;           /* 0: repeated; else why not */
-    bool has_last_sender;     /* false: who sent it last is unknown: no path bit, a list at fault, or no PDU can be read */
+    bool has_last_sender;     /* false: who sent it last is unknown: no path bit, or the PDU was not read */
     uint16_t last_sender;     /* who the PDU was heard from: the last path address, or the source if the path is empty; 0 where it is unknown */
     size_t delivered_place;   /* where the payload lies in the received bytes; 0 where nothing is delivered */
     size_t delivered_length;  /* 0 where nothing is delivered, and for an empty payload */
     size_t repeated_length;   /* how many bytes were written to the output; 0 where nothing is repeated */
-    size_t taken;             /* where the next PDU begins in the received bytes; 0 where a list is at fault or no PDU can be read */
+    size_t taken;             /* where the next PDU begins in the received bytes; 0 where this one was not read: with 17, 20 to 22 and 1 to 6 */
 } MantAnswer;
 
 /* Where a walk over a batch has come to. A walk begins with place 0 and not ended. */
@@ -342,7 +359,7 @@ typedef struct MantLimits {
 MANT_SIZE(MantHeader, 40);
 MANT_SIZE(MantWritten, 16);
 MANT_SIZE(MantExchange, 40);
-MANT_SIZE(MantFresh, 32);
+MANT_SIZE(MantFresh, 40);
 MANT_SIZE(MantNode, 8);
 MANT_SIZE(MantAnswer, 40);
 MANT_SIZE(MantCursor, 16);
@@ -357,9 +374,9 @@ MANT_SIZE(MantBound, 16);
 MANT_SIZE(MantLimits, 56);
 #undef MANT_SIZE
 
-/* The header of the PDU at the start of the bytes and its last sender, or the number, 1 to 6, of why there is none there. Bytes after the PDU are not
-   looked at. */
-MantHeader mant_read(const uint8_t *bytes, size_t bytes_length);
+/* The header of the PDU at the start of the bytes as the edition shows it, and its last sender; 17 for an edition that is none, and then the number, 1
+   to 6, of why there is no PDU there. Bytes after the PDU are not looked at. */
+MantHeader mant_read(uint64_t edition, const uint8_t *bytes, size_t bytes_length);
 
 /* The address at a place of the path of the PDU at the start of the bytes, the first at 0. Answers 0 past the last one and where there is no PDU;
    an address can be 0 too, so ask mant_read for path_count. */
@@ -368,9 +385,9 @@ uint16_t mant_path_address(const uint8_t *bytes, size_t bytes_length, size_t pla
 /* Whether an address is anywhere in the path of the PDU at the start of the bytes. Without a path none is, nor where there is no PDU. */
 bool mant_path_has(const uint8_t *bytes, size_t bytes_length, uint16_t address);
 
-/* Writes the PDU at the start of the bytes again, from what reading shows of it: the same bytes. Answers 1 to 6 where there is no PDU, 14 where
-   the output is too short. Leaves the output alone unless the number is 0. */
-MantWritten mant_write_again(const uint8_t *bytes, size_t bytes_length, uint8_t *output, size_t output_length);
+/* Writes the PDU at the start of the bytes again, from what reading shows of it under the edition: the same bytes under both. Answers 17 for an edition
+   that is none, 1 to 6 where there is no PDU, 14 where the output is too short. Leaves the output alone unless the number is 0. */
+MantWritten mant_write_again(uint64_t edition, const uint8_t *bytes, size_t bytes_length, uint8_t *output, size_t output_length);
 
 /* Where header and payload lie in the exchange that the bytes are, all of them. The whole of the bytes is judged first, also what is passed over: 57
    where an element does not end within the run it stands in, 58 where one is at level 5, for the one that begins first, and 58 where it is both. Then 59
@@ -383,7 +400,8 @@ MantExchange mant_read_exchange(const uint8_t *bytes, size_t bytes_length);
    at. */
 MantWritten mant_write_exchange(const uint8_t *bytes, size_t bytes_length, uint8_t *output, size_t output_length);
 
-/* Writes a fresh PDU with this payload. Answers 10 to 14, the first that applies, where it can't. Leaves the output alone unless the number is 0. */
+/* Writes a fresh PDU with this payload. Answers 17, 10 to 13, 16 or 14, the first in this order that applies, where it can't. Leaves the output alone
+   unless the number is 0. */
 MantWritten mant_originate(MantFresh settings, const uint8_t *payload, size_t payload_length, uint8_t *output, size_t output_length);
 
 /* What is wrong with the lists of a node: the number of the first list that has a fault, in this order, or 0. In each list 22, 21, then 20. A list
@@ -395,28 +413,29 @@ uint8_t mant_list_fault(const uint16_t *source_pass, size_t source_pass_length, 
 /* Whether an address is in some range of a list. An empty list holds none; a last value without a partner is no range. */
 bool mant_list_holds(const uint16_t *list, size_t list_length, uint16_t address);
 
-/* What a node answers for the PDU at the start of the received bytes: a number for delivery and one for repeating. Faults of the lists (20 to 22),
+/* What a node answers for the PDU at the start of the received bytes: a number for delivery and one for repeating. 17, faults of the lists (20 to 22),
    of reading (1 to 6), 30, 42, 31 to 34 and 40, the first of them in this order, are given as both, and nothing is delivered then. The lists are
    checked even where they are off. With echo on, 30 is given where the path holds the own address, and 42 where the source is the own address, with
    the path bit or without (document 02, W-203); with echo off, neither. The delivered payload is the delivered_length bytes from received +
    delivered_place on. With length 0 there are none, and that place may be the end of the received bytes. The repeated PDU is written to the output
-   where the repeat number is 0; with any other the output is left alone. The last sender is told with every number but those of the lists and of
-   reading, so also where the PDU is dropped (document 02, W-205). */
-MantAnswer mant_hear(MantNode settings, const uint16_t *source_pass, size_t source_pass_length, const uint16_t *source_reject,
+   where the repeat number is 0; with any other the output is left alone. The last sender is told with every number but 17 and those of the lists
+   and of reading, so also where the PDU is dropped (document 02, W-205). */
+MantAnswer mant_hear(uint64_t edition, MantNode settings, const uint16_t *source_pass, size_t source_pass_length, const uint16_t *source_reject,
                      size_t source_reject_length, const uint16_t *destination_pass, size_t destination_pass_length,
                      const uint16_t *destination_reject, size_t destination_reject_length, const uint8_t *received, size_t received_length,
                      uint8_t *output, size_t output_length);
 
 /* One step of the walk over PDUs that lie back to back: what mant_hear answers for the PDU at the cursor, whose first byte is
-   batch[cursor.place], and the cursor of the next. After a list fault or a PDU that can't be read the next cursor has ended, at the same place. Any
-   cursor may be given; one past the end, or one that has ended, gets MANT_ENDED. A batch over the size limit gets MANT_REFUSED at every cursor, so
-   go on only while the kind is MANT_ANSWERED. The output is changed as by mant_hear, and left alone with kinds 1 and 2.
+   batch[cursor.place], and the cursor of the next. After 17, a list fault or a PDU that can't be read the next cursor has ended, at the same
+   place. Any cursor may be given; one past the end, or one that has ended, gets MANT_ENDED. A batch over the size limit gets MANT_REFUSED at every
+   cursor, so go on only while the kind is MANT_ANSWERED. 17 comes before that: under an edition that is none, a batch of any length is answered 17 where
+   it begins, and MANT_ENDED after it. The output is changed as by mant_hear, and left alone with kinds 1 and 2.
 
    In the loop below, the PDU that was answered began at s.next.place - s.answer.taken, also where taken is 0. The places in the answer count from
    there: a delivered payload begins at batch + (s.next.place - s.answer.taken) + s.answer.delivered_place.
 
        for (MantStep s = mant_step(.., (MantCursor){0, false}, ..); s.kind == MANT_ANSWERED; s = mant_step(.., s.next, ..)) { .. } */
-MantStep mant_step(MantNode settings, const uint16_t *source_pass, size_t source_pass_length, const uint16_t *source_reject,
+MantStep mant_step(uint64_t edition, MantNode settings, const uint16_t *source_pass, size_t source_pass_length, const uint16_t *source_reject,
                    size_t source_reject_length, const uint16_t *destination_pass, size_t destination_pass_length,
                    const uint16_t *destination_reject, size_t destination_reject_length, const uint8_t *batch, size_t batch_length,
                    MantCursor cursor, uint8_t *output, size_t output_length);
@@ -450,10 +469,11 @@ uint8_t mant_count_answer(uint16_t *table, size_t table_words, const uint8_t *re
 /* What mant_hear answers and writes to the output, and the PDU counted in the table as by mant_count_answer, so that no PDU is forgotten. Every PDU
    that could be read is counted, also one that a list then stops and one for whose repeat the output is too short. With table number 55 the PDU is
    delivered and repeated all the same. */
-MantListened mant_hear_and_count(MantNode settings, const uint16_t *source_pass, size_t source_pass_length, const uint16_t *source_reject,
-                                 size_t source_reject_length, const uint16_t *destination_pass, size_t destination_pass_length,
-                                 const uint16_t *destination_reject, size_t destination_reject_length, const uint8_t *received,
-                                 size_t received_length, uint8_t *output, size_t output_length, uint16_t *table, size_t table_words);
+MantListened mant_hear_and_count(uint64_t edition, MantNode settings, const uint16_t *source_pass, size_t source_pass_length,
+                                 const uint16_t *source_reject, size_t source_reject_length, const uint16_t *destination_pass,
+                                 size_t destination_pass_length, const uint16_t *destination_reject, size_t destination_reject_length,
+                                 const uint8_t *received, size_t received_length, uint8_t *output, size_t output_length, uint16_t *table,
+                                 size_t table_words);
 
 /* How many PDUs and bytes a queue holds: the two numbers that it keeps (W-207), without a look at its PDUs, so that the cost is the same for any number of
    them. A byte of the four that is not there counts as 0. Document 02, W-206, as all that take a queue. */

@@ -8,6 +8,7 @@
 
 #include "mant.h"
 
+#define EDITION MANT_EDITION_1_2
 #define NO_LISTS NULL, 0, NULL, 0, NULL, 0, NULL, 0
 #define CHECK(fact) check(fact, #fact, __LINE__)
 
@@ -31,29 +32,29 @@ static const MantNode node = {.own = 2000, .echo = true, .repeating = true};
 static void null_slices(void)
 {
     const MantNode passing = {.own = 1, .source_pass = true};
-    const MantFresh fresh = {.source = 5};
+    const MantFresh fresh = {.edition = EDITION, .source = 5};
     const uint8_t shortest[6] = {0, 0, 0, 0, 0, 5};
     uint8_t output[8] = {9, 9, 9, 9, 9, 9, 9, 9};
-    CHECK(mant_read(NULL, 0).number == MANT_TOO_SHORT);
+    CHECK(mant_read(EDITION, NULL, 0).number == MANT_TOO_SHORT);
     CHECK(mant_path_address(NULL, 0, 0) == 0);
     CHECK(!mant_path_has(NULL, 0, 0));
-    CHECK(mant_write_again(NULL, 0, NULL, 0).number == MANT_TOO_SHORT);
-    CHECK(mant_write_again(example, 20, NULL, 0).number == MANT_OUTPUT_TOO_SHORT);
+    CHECK(mant_write_again(EDITION, NULL, 0, NULL, 0).number == MANT_TOO_SHORT);
+    CHECK(mant_write_again(EDITION, example, 20, NULL, 0).number == MANT_OUTPUT_TOO_SHORT);
     CHECK(mant_originate(fresh, NULL, 0, NULL, 0).number == MANT_OUTPUT_TOO_SHORT);
     CHECK(mant_originate(fresh, NULL, 0, output, 8).length == 6 && memcmp(output, shortest, 6) == 0 && output[6] == 9 && output[7] == 9);
     CHECK(mant_list_fault(NO_LISTS) == 0);
     CHECK(!mant_list_holds(NULL, 0, 0));
-    CHECK(mant_hear(node, NO_LISTS, NULL, 0, NULL, 0).repeat == MANT_TOO_SHORT);
-    CHECK(mant_hear(node, NO_LISTS, example, 20, NULL, 0).delivery == MANT_REPEAT_OUTPUT_TOO_SHORT);
-    CHECK(mant_hear(passing, NO_LISTS, example, 20, NULL, 0).delivery == MANT_SOURCE_NOT_PASSED);
-    CHECK(mant_step(node, NO_LISTS, NULL, 0, (MantCursor){0, false}, NULL, 0).kind == MANT_ENDED);
+    CHECK(mant_hear(EDITION, node, NO_LISTS, NULL, 0, NULL, 0).repeat == MANT_TOO_SHORT);
+    CHECK(mant_hear(EDITION, node, NO_LISTS, example, 20, NULL, 0).delivery == MANT_REPEAT_OUTPUT_TOO_SHORT);
+    CHECK(mant_hear(EDITION, passing, NO_LISTS, example, 20, NULL, 0).delivery == MANT_SOURCE_NOT_PASSED);
+    CHECK(mant_step(EDITION, node, NO_LISTS, NULL, 0, (MantCursor){0, false}, NULL, 0).kind == MANT_ENDED);
 }
 
 static void null_table(void)
 {
     const MantHeard heard = {.source = 1000};
     MantFound f = mant_station_at(NULL, 0, 0);
-    MantListened l = mant_hear_and_count(node, NO_LISTS, example, 20, NULL, 0, NULL, 0);
+    MantListened l = mant_hear_and_count(EDITION, node, NO_LISTS, example, 20, NULL, 0, NULL, 0);
     CHECK(mant_stations_capacity(NULL, 0) == 0 && mant_stations_held(NULL, 0) == 0);
     CHECK(f.number == 56 && f.station.address == 0 && f.station.reads == 0 && !f.station.has_path && f.station.shortest_path == 0);
     CHECK(mant_station_of(NULL, 0, 0).number == 56 && mant_remove_station(NULL, 0, 0) == 56);
@@ -66,17 +67,17 @@ static void reading_and_writing(void)
 {
     const uint8_t every[15] = {0x0F, 0xBF, 0xF0, 0x01, 1, 2, 3, 4, 5, 2, 6, 7, 8, 9, 10};
     uint8_t output[16];
-    MantHeader h = mant_read(every, 15);
+    MantHeader h = mant_read(EDITION, every, 15);
     CHECK(h.number == 0 && h.protocol == 1 && h.time_stamp_request && h.path_bit && h.has_destination && h.port == 11);
-    CHECK(h.encrypted && h.reserved == 3 && h.ack && h.added_header && h.hop_limit == 7 && h.payload_length == 1);
+    CHECK(h.has_encrypted && h.encrypted && h.reserved == 3 && h.ack && h.added_header && h.hop_limit == 7 && h.payload_length == 1);
     CHECK(h.source == 258 && h.destination == 772 && h.pdu_id == 5 && h.path_count == 2 && h.header_length == 14 && h.pdu_length == 15);
     CHECK(h.has_last_sender && h.last_sender == 2057);
     CHECK(mant_path_address(every, 15, 1) == 2057 && mant_path_address(every, 15, 2) == 0);
     CHECK(mant_path_has(every, 15, 1543) && !mant_path_has(every, 15, 2570));
     memset(output, 77, 16);
-    MantWritten w = mant_write_again(every, 15, output, 16);
+    MantWritten w = mant_write_again(EDITION, every, 15, output, 16);
     CHECK(w.number == 0 && w.length == 15 && memcmp(output, every, 15) == 0 && output[15] == 77);
-    h = mant_read(every, 14);
+    h = mant_read(EDITION, every, 14);
     CHECK(h.number == MANT_PAYLOAD_CUT && h.protocol == 0 && !h.path_bit && !h.has_destination && h.port == 0);
     CHECK(h.source == 0 && h.destination == 0 && h.path_count == 0 && h.header_length == 0 && h.pdu_length == 0);
     CHECK(!h.has_last_sender && h.last_sender == 0);
@@ -89,13 +90,13 @@ static void last_senders(void)
     const uint8_t from_zero[7] = {0x02, 0, 0, 0, 0, 0, 0};
     const uint8_t by_zero[11] = {0x02, 0, 0, 0, 0x03, 0xE8, 2, 0x07, 0xD0, 0, 0};
     const uint8_t without[6] = {0, 0, 0, 0, 0x03, 0xE8};
-    MantHeader h = mant_read(fresh, 7);
+    MantHeader h = mant_read(EDITION, fresh, 7);
     CHECK(h.has_last_sender && h.last_sender == 1000);
-    h = mant_read(from_zero, 7);
+    h = mant_read(EDITION, from_zero, 7);
     CHECK(h.has_last_sender && h.last_sender == 0);
-    h = mant_read(by_zero, 11);
+    h = mant_read(EDITION, by_zero, 11);
     CHECK(h.has_last_sender && h.last_sender == 0 && h.path_count == 2);
-    h = mant_read(without, 6);
+    h = mant_read(EDITION, without, 6);
     CHECK(h.number == 0 && !h.has_last_sender && h.last_sender == 0);
 }
 
@@ -110,14 +111,14 @@ static void answers_tell_senders(void)
     const uint16_t wrong[2] = {2, 1};
     const MantNode passing = {.own = 2000, .repeating = true, .source_pass = true};
     uint8_t repeated[22], output[30];
-    MantAnswer a = mant_hear(node, NO_LISTS, example, 20, repeated, sizeof repeated);
+    MantAnswer a = mant_hear(EDITION, node, NO_LISTS, example, 20, repeated, sizeof repeated);
     CHECK(is_heard_from(a, MANT_FOR_ANOTHER, 1000) && a.repeated_length == 22);
-    CHECK(is_heard_from(mant_hear(node, NO_LISTS, repeated, 22, output, sizeof output), MANT_ECHO, 2000));
-    CHECK(is_heard_from(mant_hear(passing, NO_LISTS, example, 20, output, sizeof output), MANT_SOURCE_NOT_PASSED, 1000));
-    CHECK(is_heard_from(mant_hear(node, NO_LISTS, example, 20, output, 21), MANT_REPEAT_OUTPUT_TOO_SHORT, 1000));
-    a = mant_hear(node, NO_LISTS, example, 19, output, sizeof output);
+    CHECK(is_heard_from(mant_hear(EDITION, node, NO_LISTS, repeated, 22, output, sizeof output), MANT_ECHO, 2000));
+    CHECK(is_heard_from(mant_hear(EDITION, passing, NO_LISTS, example, 20, output, sizeof output), MANT_SOURCE_NOT_PASSED, 1000));
+    CHECK(is_heard_from(mant_hear(EDITION, node, NO_LISTS, example, 20, output, 21), MANT_REPEAT_OUTPUT_TOO_SHORT, 1000));
+    a = mant_hear(EDITION, node, NO_LISTS, example, 19, output, sizeof output);
     CHECK(a.delivery == MANT_PAYLOAD_CUT && !a.has_last_sender && a.last_sender == 0);
-    a = mant_hear(node, wrong, 2, NULL, 0, NULL, 0, NULL, 0, example, 20, output, sizeof output);
+    a = mant_hear(EDITION, node, wrong, 2, NULL, 0, NULL, 0, NULL, 0, example, 20, output, sizeof output);
     CHECK(a.delivery == MANT_LOW_ABOVE_HIGH && !a.has_last_sender && a.last_sender == 0);
 }
 
@@ -184,7 +185,7 @@ static void origination(void)
 {
     uint8_t payload[MANT_PAYLOAD_LIMIT + 1] = {1}, output[MANT_PDU_LIMIT];
     const uint8_t expected[11] = {0x0F, 0xF0, 0x70, 0x01, 1, 2, 3, 4, 99, 0, 1};
-    MantFresh f = {.source = 258, .has_destination = true, .destination = 772, .hop_limit = 7, .port = 15};
+    MantFresh f = {.edition = EDITION, .source = 258, .has_destination = true, .destination = 772, .hop_limit = 7, .port = 15};
     f.time_stamp_request = f.with_path = f.reliable = true;
     f.pdu_id = 99;
     CHECK(mant_originate(f, payload, 1, output, 11).length == 11 && memcmp(output, expected, 11) == 0);
@@ -199,6 +200,78 @@ static void origination(void)
     CHECK(mant_originate(f, payload, 1, output, 11).number == MANT_HOP_LIMIT_ABOVE_7);
 }
 
+/* The three bits after the port, 101: under 1.1 one number, under 1.2 the flag and another. Written again and repeated they are the same under both. */
+static void editions(void)
+{
+    const uint64_t both[2] = {MANT_EDITION_1_1, MANT_EDITION_1_2};
+    const uint8_t pdu[6] = {0, 0xBA, 0x20, 0, 0, 5}, repeated[7] = {0, 0xBA, 0x10, 0, 0, 5, 77};
+    uint8_t output[7];
+    MantHeader h = mant_read(MANT_EDITION_1_1, pdu, 6);
+    CHECK(h.number == 0 && h.port == 11 && !h.has_encrypted && !h.encrypted && h.reserved == 5 && !h.ack && h.hop_limit == 2 && h.source == 5);
+    h = mant_read(MANT_EDITION_1_2, pdu, 6);
+    CHECK(h.number == 0 && h.port == 11 && h.has_encrypted && h.encrypted && h.reserved == 1 && !h.ack && h.hop_limit == 2 && h.source == 5);
+    for (size_t i = 0; i < 2; i++) {
+        memset(output, 77, sizeof output);
+        CHECK(mant_write_again(both[i], pdu, 6, output, 7).length == 6 && memcmp(output, pdu, 6) == 0 && output[6] == 77);
+        CHECK(mant_hear(both[i], node, NO_LISTS, pdu, 6, output, 7).repeated_length == 6 && memcmp(output, repeated, 7) == 0);
+    }
+}
+
+static bool is_17(MantAnswer a)
+{
+    return a.delivery == MANT_UNKNOWN_EDITION && a.repeat == 17 && !a.has_last_sender && a.last_sender == 0 && a.delivered_place == 0
+           && a.delivered_length == 0 && a.repeated_length == 0 && a.taken == 0;
+}
+
+/* Numbers that are no edition are answered 17 before all else, also those that look like one in 32 bits. */
+static void no_editions(void)
+{
+    const uint64_t others[7] = {0, 1, 10, 13, UINT64_C(0x10000000B), UINT64_C(0x10000000C), UINT64_MAX};
+    const uint16_t wrong[3] = {2, 1, 0};
+    static uint8_t batch[MANT_BATCH_LIMIT + 1];
+    uint16_t table[5] = {0, 1, 2, 3, 4};
+    uint8_t output[22], untouched[22];
+    memset(output, 77, sizeof output);
+    memset(untouched, 77, sizeof untouched);
+    for (size_t i = 0; i < 7; i++) {
+        const MantFresh fresh = {.edition = others[i], .hop_limit = 8, .port = 16, .reliable = true, .encrypted = true};
+        MantHeader h = mant_read(others[i], example, 20);
+        CHECK(h.number == 17 && h.source == 0 && !h.path_bit && !h.has_encrypted && !h.has_last_sender && h.pdu_length == 0);
+        CHECK(mant_read(others[i], NULL, 0).number == 17 && mant_write_again(others[i], NULL, 0, NULL, 0).number == 17);
+        MantWritten w = mant_write_again(others[i], example, 20, output, sizeof output);
+        CHECK(w.number == 17 && w.length == 0);
+        w = mant_originate(fresh, batch, sizeof batch, output, sizeof output);
+        CHECK(w.number == 17 && w.length == 0);
+        CHECK(is_17(mant_hear(others[i], node, NO_LISTS, example, 20, output, sizeof output)));
+        CHECK(is_17(mant_hear(others[i], node, wrong, 3, NULL, 0, NULL, 0, NULL, 0, NULL, 0, output, sizeof output)));
+        MantListened l = mant_hear_and_count(others[i], node, NO_LISTS, example, 20, output, sizeof output, table, 5);
+        CHECK(is_17(l.answer) && l.table_number == 0 && table[0] == 0 && table[1] == 1);
+        MantStep s = mant_step(others[i], node, NO_LISTS, batch, sizeof batch, (MantCursor){3, false}, output, sizeof output);
+        CHECK(s.kind == MANT_ANSWERED && is_17(s.answer) && s.next.place == 3 && s.next.ended);
+        s = mant_step(others[i], node, NO_LISTS, batch, sizeof batch, s.next, output, sizeof output);
+        CHECK(s.kind == MANT_ENDED && s.answer.delivery == MANT_NO_NUMBER && s.next.place == 3 && s.next.ended);
+        CHECK(mant_step(others[i], node, NO_LISTS, NULL, 0, (MantCursor){0, false}, NULL, 0).kind == MANT_ENDED);
+    }
+    CHECK(memcmp(output, untouched, sizeof output) == 0);
+}
+
+/* The encrypted flag: set under 1.2; under 1.1 refused after 13 and before 14. */
+static void encrypted_payloads(void)
+{
+    const uint8_t expected[7] = {0, 0x38, 0x20, 1, 0, 5, 9}, payload[1] = {9};
+    MantFresh f = {.edition = MANT_EDITION_1_1, .source = 5, .hop_limit = 2, .port = 3, .reliable = true, .encrypted = true};
+    uint8_t output[7] = {0};
+    CHECK(mant_originate(f, payload, 1, output, 0).number == MANT_RELIABLE_WITHOUT_DESTINATION);
+    f.reliable = false;
+    CHECK(mant_originate(f, payload, 1, output, 0).number == MANT_NO_ENCRYPTED_FLAG && mant_originate(f, payload, 1, output, 7).number == 16);
+    f.encrypted = false;
+    CHECK(mant_originate(f, payload, 1, output, 0).number == MANT_OUTPUT_TOO_SHORT && mant_originate(f, payload, 1, output, 7).length == 7);
+    CHECK(output[1] == 0x30);
+    f.edition = MANT_EDITION_1_2;
+    f.encrypted = true;
+    CHECK(mant_originate(f, payload, 1, output, 7).length == 7 && memcmp(output, expected, 7) == 0);
+}
+
 static void lists_and_walk(void)
 {
     const uint16_t list[4] = {900, 1100, 5, 5}, wrong[2] = {2, 1};
@@ -208,20 +281,20 @@ static void lists_and_walk(void)
     CHECK(mant_list_holds(list, 4, 1100) && !mant_list_holds(list, 4, 6) && !mant_list_holds(list, 3, 5));
     CHECK(mant_list_fault(list, 4, list, 3, wrong, 2, NULL, 0) == MANT_LIST_ODD);
     CHECK(mant_list_fault(list, 4, list, 4, NULL, 0, wrong, 2) == MANT_LOW_ABOVE_HIGH);
-    CHECK(mant_hear(rejecting, NULL, 0, list, 4, NULL, 0, NULL, 0, example, 20, output, sizeof output).repeat == MANT_SOURCE_REJECTED);
+    CHECK(mant_hear(EDITION, rejecting, NULL, 0, list, 4, NULL, 0, NULL, 0, example, 20, output, sizeof output).repeat == MANT_SOURCE_REJECTED);
     memcpy(batch, example, 20);
     batch[25] = 5;
-    MantStep s = mant_step(node, NO_LISTS, batch, 26, (MantCursor){0, false}, output, sizeof output);
+    MantStep s = mant_step(EDITION, node, NO_LISTS, batch, 26, (MantCursor){0, false}, output, sizeof output);
     CHECK(s.kind == MANT_ANSWERED && s.answer.delivery == 39 && s.answer.repeat == 0 && s.answer.repeated_length == 22);
     CHECK(s.answer.delivered_place == 0 && s.answer.delivered_length == 0 && s.answer.taken == 20 && s.next.place == 20 && !s.next.ended);
     CHECK(s.answer.has_last_sender && s.answer.last_sender == 1000);
-    s = mant_step(node, NO_LISTS, batch, 26, s.next, output, sizeof output);
+    s = mant_step(EDITION, node, NO_LISTS, batch, 26, s.next, output, sizeof output);
     CHECK(s.answer.delivery == 0 && s.answer.repeat == 37 && s.answer.delivered_place == 6 && s.answer.delivered_length == 0 && s.next.place == 26);
     CHECK(!s.answer.has_last_sender && s.answer.last_sender == 0);
-    s = mant_step(node, NO_LISTS, batch, 26, s.next, output, sizeof output);
+    s = mant_step(EDITION, node, NO_LISTS, batch, 26, s.next, output, sizeof output);
     CHECK(s.kind == MANT_ENDED && s.answer.delivery == MANT_NO_NUMBER && s.answer.repeat == 255 && s.answer.taken == 0);
     CHECK(!s.answer.has_last_sender && s.answer.last_sender == 0 && s.next.place == 26 && s.next.ended);
-    s = mant_step(node, NO_LISTS, batch, sizeof batch, (MantCursor){3, false}, output, sizeof output);
+    s = mant_step(EDITION, node, NO_LISTS, batch, sizeof batch, (MantCursor){3, false}, output, sizeof output);
     CHECK(s.kind == MANT_REFUSED && s.answer.delivery == MANT_BATCH_TOO_LONG && s.answer.repeat == 54 && s.answer.taken == 0 && s.next.place == 3);
 }
 
@@ -237,16 +310,16 @@ static void hearing_and_counting(void)
     uint16_t table[MANT_STATION_WORDS] = {0};
     uint8_t output[MANT_PDU_LIMIT], again[MANT_PDU_LIMIT];
     const uint8_t without_path[6] = {0, 0, 0, 0, 0x03, 0xE8};
-    MantListened l = mant_hear_and_count(node, NO_LISTS, without_path, 6, output, sizeof output, table, MANT_STATION_WORDS);
+    MantListened l = mant_hear_and_count(EDITION, node, NO_LISTS, without_path, 6, output, sizeof output, table, MANT_STATION_WORDS);
     CHECK(l.answer.delivery == 0 && l.answer.repeat == MANT_HOP_LIMIT_0 && l.answer.delivered_place == 6 && l.answer.taken == 6 && l.table_number == 0);
     CHECK(is_station(mant_station_of(table, MANT_STATION_WORDS, 1000), 1000, 1, 0, false, 0));
-    l = mant_hear_and_count(node, NO_LISTS, example, 20, output, sizeof output, table, MANT_STATION_WORDS);
+    l = mant_hear_and_count(EDITION, node, NO_LISTS, example, 20, output, sizeof output, table, MANT_STATION_WORDS);
     CHECK(l.answer.delivery == 39 && l.answer.repeat == 0 && l.answer.repeated_length == 22 && l.answer.taken == 20 && l.table_number == 0);
     CHECK(is_station(mant_station_at(table, MANT_STATION_WORDS, 0), 1000, 2, 0, true, 0));
-    MantAnswer a = mant_hear(node, NO_LISTS, output, 22, again, sizeof again);
+    MantAnswer a = mant_hear(EDITION, node, NO_LISTS, output, 22, again, sizeof again);
     CHECK(a.delivery == MANT_ECHO && mant_count_answer(table, MANT_STATION_WORDS, output, 22, a) == 0);
     CHECK(is_station(mant_station_of(table, MANT_STATION_WORDS, 1000), 1000, 3, 1, true, 0));
-    l = mant_hear_and_count(node, NO_LISTS, example, 19, output, sizeof output, table, MANT_STATION_WORDS);
+    l = mant_hear_and_count(EDITION, node, NO_LISTS, example, 19, output, sizeof output, table, MANT_STATION_WORDS);
     CHECK(l.answer.delivery == MANT_PAYLOAD_CUT && l.table_number == 0 && mant_station_of(table, MANT_STATION_WORDS, 1000).station.reads == 3);
     CHECK(mant_remove_station(table, MANT_STATION_WORDS, 1001) == 56 && mant_stations_held(table, MANT_STATION_WORDS) == 1);
     CHECK(mant_remove_station(table, MANT_STATION_WORDS, 1000) == 0 && mant_stations_held(table, MANT_STATION_WORDS) == 0);
@@ -263,15 +336,15 @@ static void own_reports(void)
     uint8_t output[24], untouched[24];
     memset(output, 77, sizeof output);
     memset(untouched, 77, sizeof untouched);
-    MantListened l = mant_hear_and_count(originator, NO_LISTS, example, 20, output, sizeof output, table, MANT_STATION_WORDS);
+    MantListened l = mant_hear_and_count(EDITION, originator, NO_LISTS, example, 20, output, sizeof output, table, MANT_STATION_WORDS);
     CHECK(l.answer.delivery == MANT_OWN_REPORT && l.answer.repeat == 42 && l.answer.delivered_length == 0 && l.answer.repeated_length == 0);
     CHECK(l.answer.taken == 20 && l.table_number == 0 && memcmp(output, untouched, sizeof output) == 0);
-    MantAnswer a = mant_hear(passing, NO_LISTS, without_path, 6, output, sizeof output);
+    MantAnswer a = mant_hear(EDITION, passing, NO_LISTS, without_path, 6, output, sizeof output);
     CHECK(a.delivery == 42 && a.repeat == 42 && a.taken == 6 && mant_count_answer(table, MANT_STATION_WORDS, without_path, 6, a) == 0);
     CHECK(is_station(mant_station_of(table, MANT_STATION_WORDS, 1000), 1000, 2, 2, true, 0));
-    a = mant_hear(passing, NO_LISTS, with_both, 9, output, sizeof output);
+    a = mant_hear(EDITION, passing, NO_LISTS, with_both, 9, output, sizeof output);
     CHECK(a.delivery == MANT_ECHO && a.repeat == MANT_ECHO && memcmp(output, untouched, sizeof output) == 0);
-    a = mant_hear(without_echo, NO_LISTS, without_path, 6, output, sizeof output);
+    a = mant_hear(EDITION, without_echo, NO_LISTS, without_path, 6, output, sizeof output);
     CHECK(a.delivery == 0 && a.repeat == 0 && a.repeated_length == 6 && memcmp(output, without_path, 6) == 0 && output[6] == 77);
 }
 
@@ -450,6 +523,9 @@ int main(void)
     reading_exchanges();
     writing_exchanges();
     origination();
+    editions();
+    no_editions();
+    encrypted_payloads();
     lists_and_walk();
     hearing_and_counting();
     own_reports();

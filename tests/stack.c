@@ -14,6 +14,7 @@
 #define LIMIT 640
 #define PAINTED 16384
 #define STACK_POINTER "mov %%rsp, %0"
+#define EDITION MANT_EDITION_1_2
 #define NO_LISTS NULL, 0, NULL, 0, NULL, 0, NULL, 0
 #define LISTS list, 128, list, 128, list, 128, list, 128
 #define LENT pdu, sizeof pdu, output, sizeof output
@@ -22,7 +23,8 @@
 
 static const MantNode node = {.own = 2000, .echo = true, .repeating = true};
 static const MantNode listing = {.own = 2000, .echo = true, .repeating = true, .source_pass = true, .destination_pass = true};
-static const MantFresh fresh = {.source = 1000, .has_destination = true, .destination = 1600, .hop_limit = 1, .with_path = true, .reliable = true};
+static const MantFresh fresh = {.edition = EDITION, .source = 1000, .has_destination = true, .destination = 1600, .hop_limit = 1, .with_path = true,
+                                .reliable = true};
 static const uint8_t shortest[6] = {0, 0, 0, 0, 0, 5};
 static const uint8_t deep[12] = {20, 8, 10, 6, 11, 4, 20, 2, 0, 9, 0, 9};
 static const MantHeard heard = {.source = 1000, .path_bit = true};
@@ -41,18 +43,18 @@ static bool meant = true;
         meant = (fact) && meant;                       \
     }
 
-CALL(read_call, mant_read(pdu, sizeof pdu).path_count == 254)
+CALL(read_call, mant_read(EDITION, pdu, sizeof pdu).path_count == 254)
 CALL(path_address_call, mant_path_address(pdu, sizeof pdu, 253) == 1799)
 CALL(path_has_call, !mant_path_has(pdu, sizeof pdu, 1))
-CALL(write_again_call, mant_write_again(LENT).length == PDU_LENGTH)
+CALL(write_again_call, mant_write_again(EDITION, LENT).length == PDU_LENGTH)
 CALL(originate_call, mant_originate(fresh, pdu, MANT_PAYLOAD_LIMIT, output, sizeof output).length == 4105)
 CALL(list_fault_call, mant_list_fault(LISTS) == 0)
 CALL(list_holds_call, !mant_list_holds(list, MANT_LIST_LIMIT, 1))
-CALL(hear_cut_call, mant_hear(node, NO_LISTS, pdu, 20, output, sizeof output).repeat == MANT_HEADER_CUT)
-CALL(hear_call, mant_hear(node, NO_LISTS, LENT).repeated_length == MANT_PDU_LIMIT)
-CALL(hear_listed_call, (answer = mant_hear(listing, LISTS, LENT)).repeated_length == MANT_PDU_LIMIT)
-CALL(step_call, mant_step(node, NO_LISTS, pdu, sizeof pdu, start, output, sizeof output).answer.repeat == 0)
-CALL(step_listed_call, mant_step(listing, LISTS, pdu, sizeof pdu, start, output, sizeof output).answer.repeat == 0)
+CALL(hear_cut_call, mant_hear(EDITION, node, NO_LISTS, pdu, 20, output, sizeof output).repeat == MANT_HEADER_CUT)
+CALL(hear_call, mant_hear(EDITION, node, NO_LISTS, LENT).repeated_length == MANT_PDU_LIMIT)
+CALL(hear_listed_call, (answer = mant_hear(EDITION, listing, LISTS, LENT)).repeated_length == MANT_PDU_LIMIT)
+CALL(step_call, mant_step(EDITION, node, NO_LISTS, pdu, sizeof pdu, start, output, sizeof output).answer.repeat == 0)
+CALL(step_listed_call, mant_step(EDITION, listing, LISTS, pdu, sizeof pdu, start, output, sizeof output).answer.repeat == 0)
 CALL(most_transmissions_call, mant_most_transmissions(8, 7).value == 109601)
 CALL(most_bytes_call, mant_most_bytes(3, 1, 10).value == 46)
 CALL(limits_call, mant_limits().pdu == MANT_PDU_LIMIT)
@@ -60,8 +62,8 @@ CALL(capacity_call, mant_stations_capacity(table, MANT_STATION_WORDS) == MANT_ST
 CALL(held_call, mant_stations_held(table, MANT_STATION_WORDS) == 0)
 CALL(count_heard_call, mant_count_heard(table, MANT_STATION_WORDS, heard) == 0)
 CALL(count_answer_call, mant_count_answer(table, MANT_STATION_WORDS, pdu, sizeof pdu, answer) == 0)
-CALL(hear_and_count_call, mant_hear_and_count(node, NO_LISTS, LENT, table, MANT_STATION_WORDS).answer.repeat == 0)
-CALL(hear_and_count_listed_call, mant_hear_and_count(listing, LISTS, LENT, table, MANT_STATION_WORDS).answer.repeat == 0)
+CALL(hear_and_count_call, mant_hear_and_count(EDITION, node, NO_LISTS, LENT, table, MANT_STATION_WORDS).answer.repeat == 0)
+CALL(hear_and_count_listed_call, mant_hear_and_count(EDITION, listing, LISTS, LENT, table, MANT_STATION_WORDS).answer.repeat == 0)
 CALL(station_at_call, mant_station_at(table, MANT_STATION_WORDS, 0).station.reads == 4)
 CALL(station_of_call, mant_station_of(table, MANT_STATION_WORDS, 1000).station.reads == 4)
 CALL(remove_station_call, mant_remove_station(table, MANT_STATION_WORDS, 1000) == 0)

@@ -1,6 +1,6 @@
 //! Counting in a full table of stations, all of them held.
 
-use crate::inputs::{self, NODE, SETTINGS};
+use crate::inputs::{self, EDITION, NODE, SETTINGS};
 use crate::plain;
 use crate::timing::{measure, Measured};
 use crate::{copy, NO_LISTS, ROOM};
@@ -132,17 +132,25 @@ pub fn hearing_and_counting() -> [Measured; 4] {
         ROOM,
         [
             &mut |input: &[u8], output: &mut [u8]| {
-                let (node, table) = (black_box(NODE), &mut library);
-                black_box(raw::hear_and_count(node, NO_LISTS, input, output, table));
+                let (edition, node) = (black_box(EDITION), black_box(NODE));
+                let table = &mut library;
+                black_box(raw::hear_and_count(
+                    edition, node, NO_LISTS, input, output, table,
+                ));
             },
             &mut |input: &[u8], output: &mut [u8]| {
-                let (settings, lists) = (black_box(&SETTINGS), Lists::EMPTY);
-                let stations = &mut reference;
-                black_box(hear_and_count(settings, &lists, input, output, stations));
+                let (edition, settings) = (black_box(EDITION), black_box(&SETTINGS));
+                let (lists, stations) = (Lists::EMPTY, &mut reference);
+                black_box(hear_and_count(
+                    edition, settings, &lists, input, output, stations,
+                ));
             },
             &mut |input: &[u8], output: &mut [u8]| {
-                let (node, table) = (black_box(NODE), &mut plain);
-                black_box(plain::hear_and_count(node, NO_LISTS, input, output, table));
+                let (edition, node) = (black_box(EDITION), black_box(NODE));
+                let table = &mut plain;
+                black_box(plain::hear_and_count(
+                    edition, node, NO_LISTS, input, output, table,
+                ));
             },
             &mut |input: &[u8], output: &mut [u8]| copy(input, output, length),
         ],
@@ -168,11 +176,14 @@ pub fn check_plain() {
     let pdu = inputs::example();
     for length in 0..=pdu.len() {
         let cut = &pdu[..length];
-        let library = raw::hear_and_count(NODE, NO_LISTS, cut, &mut one, &mut full.library);
-        let plain = plain::hear_and_count(NODE, NO_LISTS, cut, &mut other, &mut full.plain);
+        let table = &mut full.library;
+        let library = raw::hear_and_count(EDITION, NODE, NO_LISTS, cut, &mut one, table);
+        let table = &mut full.plain;
+        let plain = plain::hear_and_count(EDITION, NODE, NO_LISTS, cut, &mut other, table);
         assert_eq!(library, plain);
         assert_eq!(one, other);
         let (_, number) = hear_and_count(
+            EDITION,
             &SETTINGS,
             &Lists::EMPTY,
             cut,

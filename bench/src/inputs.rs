@@ -1,7 +1,10 @@
 //! What is measured on.
 
 use mant::raw;
-use reference::{Origination, Settings};
+use reference::{Origination, Settings, EDITION_1_2};
+
+/// All is measured under edition 1.2.
+pub const EDITION: u64 = EDITION_1_2;
 
 /// The payload of 01's example.
 pub const PAYLOAD: [u8; 11] = [
@@ -10,6 +13,8 @@ pub const PAYLOAD: [u8; 11] = [
 
 /// The example's settings of origination, for the reference.
 pub const ASKED: Origination = Origination {
+    edition: EDITION,
+    encrypted: false,
     reliable: false,
     time_stamp_request: false,
     path: true,
@@ -22,6 +27,7 @@ pub const ASKED: Origination = Origination {
 
 /// The same for the library.
 pub const FRESH: raw::Fresh = raw::Fresh {
+    edition: EDITION,
     source: 1000,
     has_destination: true,
     destination: 1600,
@@ -31,6 +37,7 @@ pub const FRESH: raw::Fresh = raw::Fresh {
     with_path: true,
     reliable: false,
     pdu_id: 0,
+    encrypted: false,
 };
 
 /// Node 2000, echo and repeating on, for the library.

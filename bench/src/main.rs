@@ -10,7 +10,7 @@ mod queueing;
 mod tests;
 mod timing;
 
-use inputs::{ASKED, FRESH, NODE, SETTINGS};
+use inputs::{ASKED, EDITION, FRESH, NODE, SETTINGS};
 use mant::raw;
 use reference::{Lists, Settings};
 use std::hint::black_box;
@@ -146,11 +146,13 @@ fn reading(pdu: &[u8]) -> [Measured; 4] {
         ROOM,
         [
             &mut |input: &[u8], _: &mut [u8]| {
-                black_box(raw::read(input));
+                black_box(raw::read(black_box(EDITION), input));
             },
-            &mut |input: &[u8], _: &mut [u8]| drop(black_box(reference::read(input))),
             &mut |input: &[u8], _: &mut [u8]| {
-                black_box(plain::read(input));
+                drop(black_box(reference::read_under(black_box(EDITION), input)))
+            },
+            &mut |input: &[u8], _: &mut [u8]| {
+                black_box(plain::read(black_box(EDITION), input));
             },
             &mut |input: &[u8], output: &mut [u8]| copy(input, output, length),
         ],
@@ -213,20 +215,26 @@ fn hearing_at(
     lists: raw::Lists,
 ) -> [Measured; 4] {
     let length = pdu.len();
-    assert_eq!(raw::hear(node, lists, pdu, &mut [0; ROOM]).repeat, 0);
+    assert_eq!(
+        raw::hear(EDITION, node, lists, pdu, &mut [0; ROOM]).repeat,
+        0
+    );
     measure(
         pdu,
         ROOM,
         [
             &mut |input: &[u8], output: &mut [u8]| {
-                black_box(raw::hear(black_box(node), lists, input, output));
+                let edition = black_box(EDITION);
+                black_box(raw::hear(edition, black_box(node), lists, input, output));
             },
             &mut |input: &[u8], output: &mut [u8]| {
-                let settings = black_box(settings);
-                black_box(reference::hear(settings, &Lists::of(lists), input, output));
+                let (edition, settings) = (black_box(EDITION), black_box(settings));
+                let lists = Lists::of(lists);
+                black_box(reference::hear(edition, settings, &lists, input, output));
             },
             &mut |input: &[u8], output: &mut [u8]| {
-                black_box(plain::hear(black_box(node), lists, input, output));
+                let edition = black_box(EDITION);
+                black_box(plain::hear(edition, black_box(node), lists, input, output));
             },
             &mut |input: &[u8], output: &mut [u8]| copy(input, output, length),
         ],
@@ -247,6 +255,7 @@ fn walking(batch: &[u8]) -> [Measured; 4] {
             &mut |input: &[u8], output: &mut [u8]| {
                 let settings = black_box(&SETTINGS);
                 drop(black_box(reference::walk(
+                    black_box(EDITION),
                     settings,
                     &Lists::EMPTY,
                     input,
@@ -254,7 +263,14 @@ fn walking(batch: &[u8]) -> [Measured; 4] {
                 )));
             },
             &mut |input: &[u8], output: &mut [u8]| {
-                black_box(plain::walk(black_box(NODE), NO_LISTS, input, output));
+                let edition = black_box(EDITION);
+                black_box(plain::walk(
+                    edition,
+                    black_box(NODE),
+                    NO_LISTS,
+                    input,
+                    output,
+                ));
             },
             &mut |input: &[u8], output: &mut [u8]| {
                 let mut rest = input;
@@ -269,18 +285,18 @@ fn walking(batch: &[u8]) -> [Measured; 4] {
 
 /// How long each PDU of a batch is.
 fn lengths(batch: &[u8]) -> Vec<usize> {
-    let walked = reference::walk(&SETTINGS, &Lists::EMPTY, batch, &mut [0; ROOM]);
+    let walked = reference::walk(EDITION, &SETTINGS, &Lists::EMPTY, batch, &mut [0; ROOM]);
     let steps = walked.map_or(vec![], |walked| walked.steps);
     steps.iter().map(|step| step.answer.taken).collect()
 }
 
 /// The walk with the library: how many PDUs, and where it ended.
 fn library_walk(batch: &[u8], output: &mut [u8]) -> (usize, usize) {
-    let node = black_box(NODE);
+    let (edition, node) = (black_box(EDITION), black_box(NODE));
     let mut count = 0;
     let mut cursor = raw::Cursor::default();
     loop {
-        let step = raw::step(node, NO_LISTS, batch, cursor, output);
+        let step = raw::step(edition, node, NO_LISTS, batch, cursor, output);
         if step.kind != raw::ANSWERED {
             return (count, cursor.place);
         }
@@ -301,9 +317,10 @@ fn check_plain() {
     ] {
         for length in 0..=pdu.len() {
             let cut = &pdu[..length];
-            assert_eq!(raw::read(cut), plain::read(cut));
-            let library = raw::hear(NODE, NO_LISTS, cut, &mut one);
-            assert_eq!(library, plain::hear(NODE, NO_LISTS, cut, &mut other));
+            assert_eq!(raw::read(EDITION, cut), plain::read(EDITION, cut));
+            let library = raw::hear(EDITION, NODE, NO_LISTS, cut, &mut one);
+            let plain = plain::hear(EDITION, NODE, NO_LISTS, cut, &mut other);
+            assert_eq!(library, plain);
             assert_eq!(one, other);
         }
     }
@@ -314,7 +331,8 @@ fn check_plain() {
     }
     for batch in [inputs::batch_of_small(), inputs::batch_of_large()] {
         let library = library_walk(&batch, &mut one);
-        assert_eq!(library, plain::walk(NODE, NO_LISTS, &batch, &mut other));
+        let plain = plain::walk(EDITION, NODE, NO_LISTS, &batch, &mut other);
+        assert_eq!(library, plain);
         assert_eq!(library.1, 16_384);
         assert_eq!(one, other);
     }

@@ -62,17 +62,21 @@ impl Ring {
 
 #[rustfmt::skip]
 extern "C" {
-    fn plain_read(bytes: *const u8, length: usize) -> Header;
+    fn plain_read(edition: u64, bytes: *const u8, length: usize) -> Header;
     fn plain_read_exchange(bytes: *const u8, length: usize) -> Exchange;
     fn plain_write_exchange(bytes: *const u8, length: usize, output: *mut u8, output_length: usize) -> Written;
     fn plain_originate(settings: Fresh, payload: *const u8, payload_length: usize, output: *mut u8, output_length: usize) -> Written;
-    fn plain_hear(node: Node, lists: *const List, received: *const u8, length: usize, output: *mut u8, output_length: usize) -> Answer;
+    fn plain_hear(
+        edition: u64, node: Node, lists: *const List, received: *const u8, length: usize, output: *mut u8, output_length: usize,
+    ) -> Answer;
     fn plain_walk(
-        node: Node, lists: *const List, batch: *const u8, length: usize, output: *mut u8, output_length: usize, end: *mut usize,
+        edition: u64, node: Node, lists: *const List, batch: *const u8, length: usize, output: *mut u8, output_length: usize,
+        end: *mut usize,
     ) -> usize;
     fn plain_count(table: *mut Table, heard: Heard) -> u8;
     fn plain_hear_and_count(
-        node: Node, lists: *const List, received: *const u8, length: usize, output: *mut u8, output_length: usize, table: *mut Table,
+        edition: u64, node: Node, lists: *const List, received: *const u8, length: usize, output: *mut u8, output_length: usize,
+        table: *mut Table,
     ) -> Listened;
     fn plain_queue_level(ring: *const Ring) -> Level;
     fn plain_queue_add(ring: *mut Ring, pdu: *const u8, length: usize) -> u8;
@@ -82,9 +86,9 @@ extern "C" {
 
 /// `plain_read`.
 #[inline]
-pub fn read(bytes: &[u8]) -> Header {
+pub fn read(edition: u64, bytes: &[u8]) -> Header {
     // SAFETY: here and below, pointers and lengths are those of live slices.
-    unsafe { plain_read(bytes.as_ptr(), bytes.len()) }
+    unsafe { plain_read(edition, bytes.as_ptr(), bytes.len()) }
 }
 
 /// `plain_read_exchange`.
@@ -125,11 +129,12 @@ pub fn originate(settings: Fresh, payload: &[u8], output: &mut [u8]) -> Written 
 
 /// `plain_hear`.
 #[inline]
-pub fn hear(node: Node, lists: Lists, received: &[u8], output: &mut [u8]) -> Answer {
+pub fn hear(edition: u64, node: Node, lists: Lists, received: &[u8], output: &mut [u8]) -> Answer {
     let lists = of(lists);
     // SAFETY: as above.
     unsafe {
         plain_hear(
+            edition,
             node,
             lists.as_ptr(),
             received.as_ptr(),
@@ -142,12 +147,19 @@ pub fn hear(node: Node, lists: Lists, received: &[u8], output: &mut [u8]) -> Ans
 
 /// `plain_walk`: how many PDUs, and where the walk ended.
 #[inline]
-pub fn walk(node: Node, lists: Lists, batch: &[u8], output: &mut [u8]) -> (usize, usize) {
+pub fn walk(
+    edition: u64,
+    node: Node,
+    lists: Lists,
+    batch: &[u8],
+    output: &mut [u8],
+) -> (usize, usize) {
     let lists = of(lists);
     let mut end = 0;
     // SAFETY: as above.
     let count = unsafe {
         plain_walk(
+            edition,
             node,
             lists.as_ptr(),
             batch.as_ptr(),
@@ -170,6 +182,7 @@ pub fn count(table: &mut Table, heard: Heard) -> u8 {
 /// `plain_hear_and_count`.
 #[inline]
 pub fn hear_and_count(
+    edition: u64,
     node: Node,
     lists: Lists,
     received: &[u8],
@@ -180,6 +193,7 @@ pub fn hear_and_count(
     // SAFETY: as in the two above.
     unsafe {
         plain_hear_and_count(
+            edition,
             node,
             lists.as_ptr(),
             received.as_ptr(),

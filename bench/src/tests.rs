@@ -3,8 +3,8 @@
 
 use crate::plain;
 use generator::{
-    exchange, exchanged_pdu, four_lists, origination, output, pace, payload_to_send, queue_deed,
-    received, room, settings_for, QueueDeed, Random,
+    edition, exchange, exchanged_pdu, four_lists, origination, output, pace, payload_to_send,
+    queue_deed, received, room, settings_for, QueueDeed, Random,
 };
 use mant::raw;
 use reference::{Queue, Stations};
@@ -15,8 +15,8 @@ const INPUTS: usize = 20_000;
 fn plain_reads_as_the_library_does() {
     let mut random = Random::from_seed(1);
     for _ in 0..INPUTS {
-        let bytes = received(&mut random);
-        assert_eq!(plain::read(&bytes), raw::read(&bytes));
+        let (edition, bytes) = (edition(&mut random), received(&mut random));
+        assert_eq!(plain::read(edition, &bytes), raw::read(edition, &bytes));
     }
 }
 
@@ -30,6 +30,7 @@ fn plain_originates_as_the_reference_does() {
         let mut one = output(&mut random, room);
         let mut other = one.clone();
         let fresh = raw::Fresh {
+            edition: asked.edition,
             source: asked.source,
             has_destination: asked.destination.is_some(),
             destination: asked.destination.unwrap_or(7),
@@ -39,6 +40,7 @@ fn plain_originates_as_the_reference_does() {
             with_path: asked.path,
             reliable: asked.reliable,
             pdu_id: asked.pdu_id,
+            encrypted: asked.encrypted,
         };
         let written = plain::originate(fresh, &payload, &mut one);
         let wanted = reference::originate(&asked, &payload, &mut other);
@@ -52,7 +54,7 @@ fn plain_hears_as_the_reference_does() {
     let mut random = Random::from_seed(3);
     for _ in 0..INPUTS {
         let four = four_lists(&mut random);
-        let bytes = received(&mut random);
+        let (edition, bytes) = (edition(&mut random), received(&mut random));
         let settings = settings_for(&mut random, &bytes);
         let room = room(&mut random, bytes.len() + 2);
         let mut one = output(&mut random, room);
@@ -67,8 +69,8 @@ fn plain_hears_as_the_reference_does() {
             destination_reject: settings.destination_reject_on,
         };
         let four = four.lists();
-        let answer = plain::hear(node, four.in_order(), &bytes, &mut one);
-        let wanted = reference::hear(&settings, &four, &bytes, &mut other);
+        let answer = plain::hear(edition, node, four.in_order(), &bytes, &mut one);
+        let wanted = reference::hear(edition, &settings, &four, &bytes, &mut other);
         assert_eq!(
             (answer.delivery, answer.repeat),
             (wanted.delivery, wanted.repeat)

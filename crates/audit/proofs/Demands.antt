@@ -82,8 +82,8 @@ pub total : Demand1
 unfolding originated originatedOutput
 total =
     record {
-      hop-refused = λ settings payload output h.
-          rw (refused-early settings payload (length output) 10 (hop-refused settings payload h) (omega arith)) (refl, refl);
+      hop-refused = λ settings payload output named h.
+          rw (refused-early settings payload (length output) 10 (hop-refused settings payload named h) (omega arith)) (refl, refl);
       origination-untouched = λ settings payload output ne. rw (ne-eqb (originationNumber settings payload (length output)) 0 ne);
       writing-untouched = λ bytes output ne. writing-as-was bytes output ne;
       node-untouched = λ node received output ne. node-as-was node received output ne;

@@ -20,6 +20,8 @@ use Rattle.pdu.specs.Reading.{readOf}
 use Rattle.pdu.specs.Parts.{addressesAt, pathIn, pathAddress, inPath, lastOr, lastSender}
 use Rattle.pdu.proofs.Exact.{front-path}
 use Rattle.pdu.proofs.Senders.{sender-unknown, sender-source, sender-at}
+use Rattle.editions.specs.declared.Shown.{Shown}
+use Rattle.editions.specs.Editions.{wireOf}
 use Rattle.origin.specs.declared.Settings as origin
 use Rattle.origin.specs.Origination.{freshHeader, fresh, originationNumber, originatedOutput}
 use Rattle.origin.proofs.ReadBack.{fresh-back, fresh-sender}
@@ -92,6 +94,10 @@ flag-is-bit : (bit : Bool) (address : ℕ) → hasSender (cond bit (Known addres
 flag-is-bit true address = refl
 flag-is-bit false address = refl
 
+header-flag : (bytes : List ℕ) (shown : Shown) → hasSender (lastSender (wireOf shown) bytes) ≡ shown .«path_bit»
+unfolding wireOf
+header-flag bytes shown = flag-is-bit (shown .«path_bit») _
+
 given-back : (sender : Sender) → senderFromC (hasSender sender) (senderAddress sender) ≡ sender
 given-back Unknown = refl
 given-back (Known address) = refl
@@ -119,7 +125,7 @@ last-sender =
       neighbour = neighbour;
       of-a-fresh = of-a-fresh;
       summary-tells = λ bytes header. refl;
-      header-tells = λ bytes header. (flag-is-bit (header .«path_bit») _, given-back (lastSender header bytes));
+      header-tells = λ bytes shown. (header-flag bytes shown, given-back (lastSender (wireOf shown) bytes));
       answer-tells = λ answer. given-back (answer .«last_sender»);
       line-known = refl;
       line-unknown = refl;

@@ -1,11 +1,18 @@
 -- W-208 from its parts.
 use mathlib.Core.Path.{_≡_, refl, ap, sym, subst, _∙_}
+use mathlib.Core.Bool.{true, cond}
 use mathlib.Core.List.{List}
+use mathlib.Core.Option.{none, some}
+use lib.Dec.{eqb}
 use Prim.Native.Nat.{ℕ}
 use lib.ListN.{length, take, drop}
 use Rattle.node.specs.declared.Answer.{Answer}
-use Rattle.node.specs.Answers.{answerOf, Hears}
-use Rattle.flood.specs.Air.{Repeater}
+use Rattle.node.specs.Repeat.{repeated}
+use Rattle.node.specs.Answers.{answerOf}
+use Rattle.editions.specs.Editions.{known}
+use Rattle.hearing.specs.Hearing.{answerUnder, HearsUnder}
+use Rattle.hearing.proofs.Known.{known-answer}
+use Rattle.flood.specs.Air.{Repeater, address, sends}
 use Rattle.chains.specs.Lengths.{heard}
 use Rattle.coverage.specs.Delivery.{Delivers}
 use Rattle.coverage.proofs.Cases as cases
@@ -13,13 +20,22 @@ use Rattle.coverage.proofs.Covered.{reach, schedule}
 use Rattle.coverage.proofs.Told.{told}
 use Rattle.audit.specs.LeastReach.{LeastReach}
 
-answered : (n : Repeater) (received output left payload : List ℕ) (answer : Answer) → length output ≡ n .room
-    → Hears (n .node) received output answer left → Delivers n received payload
+answered : (editionOf : ℕ → ℕ) (n : Repeater) (received output left payload : List ℕ) (answer : Answer)
+    → known (editionOf (address n)) ≡ true → length output ≡ n .room
+    → HearsUnder (editionOf (address n)) (n .node) received output answer left → Delivers n received payload
     → (answer .delivery ≡ 0) × (take (answer .«delivered_length») (drop (answer .«delivered_place») received) ≡ payload)
-answered n received output left payload answer long hears delivers =
-    let is : answer ≡ answerOf (n .node) (n .room) received = hears .0 ∙ ap (λ (room : ℕ). answerOf (n .node) room received) long in
+answered editionOf n received output left payload answer named long hears delivers =
+    let is : answer ≡ answerOf (n .node) (n .room) received =
+    hears .0 ∙ known-answer (editionOf (address n)) (n .node) named (length output) received
+    ∙ ap (λ (room : ℕ). answerOf (n .node) room received) long in
     subst (λ (a : Answer). (a .delivery ≡ 0) × (take (a .«delivered_length») (drop (a .«delivered_place») received) ≡ payload)) (sym is)
     (delivers .number, delivers .part)
+
+sent : (editionOf : ℕ → ℕ) (n : Repeater) (received : List ℕ) → known (editionOf (address n)) ≡ true
+    → sends n received
+    ≡ cond (eqb (answerUnder (editionOf (address n)) (n .node) (n .room) received .repeat) 0) (some (repeated (address n) received)) none
+unfolding sends answerOf
+sent editionOf n received named = rw named refl
 
 pub least-reach : LeastReach
 unfolding heard
@@ -30,6 +46,7 @@ least-reach =
       told = told;
       pair = (refl, refl);
       answered = answered;
+      sent = sent;
       line-planned = cases.line-planned;
       line-taken = cases.line-taken;
       line-air = cases.line-air;

@@ -2,11 +2,13 @@ pub mod Octets
 pub mod Pdu
 pub mod View
 pub mod Writing
+pub mod Editions
 pub mod Origin
 pub mod Lists
 pub mod Decision
 pub mod Node
 pub mod Batch
+pub mod Hearing
 pub mod Text
 pub mod Lines
 pub mod Job
@@ -32,3 +34,4 @@ pub mod QueueLevel
 pub mod LeastReach
 pub mod Examples
 pub mod LastSender
+pub mod TwoEditions

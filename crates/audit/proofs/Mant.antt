@@ -66,7 +66,7 @@ pub mant-path-has : Promised 1 mant-path-has-kinds.ps mant-path-has-kinds.r mant
 mant-path-has = (λ κs a. tt, λ κs a x y s t p q. p ∙ sym q)
 
 pub mant-write-again : PromisedWithOutput 2 mant-write-again-kinds.ps mant-write-again-kinds.r mant-write-again-reads.Asked
-    mant-write-again-reads.Post (λ κs s. now (s .1 .0))
+    mant-write-again-reads.Post (λ κs s. now (s .1 .1 .0))
 mant-write-again = (λ κs a. tt, λ κs a x y s t p q. (p .0 ∙ sym (q .0), p .1 ∙ sym (q .1)))
 
 pub mant-originate : PromisedWithOutput 2 mant-originate-kinds.ps mant-originate-kinds.r mant-originate-reads.Asked
@@ -81,12 +81,12 @@ mant-list-holds = (λ κs a. tt, λ κs a x y s t p q. p ∙ sym q)
 
 pub mant-hear : PromisedWithOutput 3 mant-hear-kinds.ps mant-hear-kinds.r mant-hear-reads.Asked
     mant-hear-reads.Post
-    (λ κs s. now (s .1 .1 .1 .1 .1 .1 .0))
+    (λ κs s. now (s .1 .1 .1 .1 .1 .1 .1 .0))
 mant-hear = (λ κs a. tt, λ κs a x y s t p q. (p .0 ∙ sym (q .0), p .1 ∙ sym (q .1)))
 
 pub mant-step : PromisedWithOutput 3 mant-step-kinds.ps mant-step-kinds.r mant-step-reads.Asked
     mant-step-reads.Post
-    (λ κs s. now (s .1 .1 .1 .1 .1 .1 .1 .0))
+    (λ κs s. now (s .1 .1 .1 .1 .1 .1 .1 .1 .0))
 mant-step = (λ κs a. tt, λ κs a x y s t p q. (p .0 ∙ sym (q .0), p .1 ∙ sym (q .1)))
 
 pub mant-most-transmissions : Promised 0 mant-most-transmissions-kinds.ps mant-most-transmissions-kinds.r
@@ -132,7 +132,7 @@ mant-count-answer = (λ κs a. tt, λ κs a x y s t p q. (p .0 ∙ sym (q .0), p
 
 pub mant-hear-and-count : PromisedWithOutput 4 mant-hear-and-count-kinds.ps mant-hear-and-count-kinds.r mant-hear-and-count-reads.Asked
     mant-hear-and-count-reads.Post
-    (λ κs s. both (now (s .1 .1 .1 .1 .1 .1 .0)) (now (s .1 .1 .1 .1 .1 .1 .1 .0)))
+    (λ κs s. both (now (s .1 .1 .1 .1 .1 .1 .1 .0)) (now (s .1 .1 .1 .1 .1 .1 .1 .1 .0)))
 mant-hear-and-count = (
   λ κs a. tt,
   λ κs a x y s t p q. (

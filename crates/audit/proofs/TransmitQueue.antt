@@ -79,11 +79,11 @@ transmit-queue =
       released = released-held;
       in-order = λ memory e0 e2 deeds. queued memory e0 e2 deeds .kept;
       says = λ memory e0 e2 deeds. let q = queued memory e0 e2 deeds in (q .long, ap (λ (l : Level). l .bytes) (q .level));
-      walked = λ memory room node output right.
+      walked = λ edition named memory room node output right.
           let pdus = front room (heldIn memory) in
           let exact = exact-take (fitting room (heldIn memory)) (heldIn memory) (holds memory .exact) in
           let r = walk-reads node output right pdus exact (front-short room memory) in
-          (r .number, r .offsets, r .answers, r .ends);
+          rw named (r .number, r .offsets, r .answers, r .ends);
       oldest-first = in-order-there;
       accepted-only = accepted-there;
       none-passed = none-passed-there;

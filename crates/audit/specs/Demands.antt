@@ -1,6 +1,6 @@
 -- The three demands, each as one record; `proofs/Demands.antt` gives each of them and cites its parts.
 use Prim.Native.Nat.{ℕ, _+_, _*_, _<_, _≤_}
-use mathlib.Core.Bool.{false, cond}
+use mathlib.Core.Bool.{true, false, cond}
 use mathlib.Core.List.{List, [], _∷_, _++_, map, List·Memᴰ, List·Nodup}
 use mathlib.Core.Logic.{_⊎_}
 use mathlib.Core.Option.{none, some}
@@ -14,6 +14,7 @@ use Rattle.pdu.specs.Sizes.{pathLimit, pduLimit, pduLength}
 use Rattle.pdu.specs.Reading.{readOf}
 use Rattle.pdu.specs.Parts.{pathIn, payloadIn}
 use Rattle.writing.specs.Writing.{encode, writeAgain, writtenAgain, WellFormed}
+use Rattle.editions.specs.Editions.{known}
 use Rattle.origin.specs.declared.Settings as asked
 use Rattle.origin.specs.Origination.{freshHeader, fresh, originationNumber, originated, originatedOutput}
 use Rattle.node.specs.declared.Answer.{Answer}
@@ -29,9 +30,10 @@ use Rattle.flood.specs.Complete.{Complete}
 use Rattle.flood.specs.Air.{Repeater, Nodes, Open, Originated, address, sends, sourceOf, pathOf, onTheAir, bytesOnTheAir, Begins, hopOf}
 
 -- Demand 1, total. That every public function answers any input, and how, are its contract and this crate's theorems by the forms of Promise.antt, one
--- for each function, in the files named by the crates. Here: a hop setting above 7 is refused, whatever else is set, with nothing written.
+-- for each function, in the files named by the crates. Here: a hop setting above 7 is refused, whatever else is set, with nothing written; with 10 under
+-- the editions that there are, else with 17 (document 02, W-209).
 pub record Demand1 : Type 0 where
-  pub hop-refused : (settings : asked.Settings) (payload output : List ℕ) → 7 < settings .«hop_limit»
+  pub hop-refused : (settings : asked.Settings) (payload output : List ℕ) → known (settings .edition) ≡ true → 7 < settings .«hop_limit»
       → (originated settings payload (length output) ≡ record { number = 10; length = 0 }) × (originatedOutput settings payload output ≡ output)
   -- with a number other than 0 no output is touched: at origination, in writing again, at a node, in a step of the walk
   pub origination-untouched : (settings : asked.Settings) (payload output : List ℕ) → (originationNumber settings payload (length output) ≡ 0 → ⊥)

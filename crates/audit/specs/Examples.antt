@@ -29,6 +29,7 @@ example =
 abbrev pub asking : ℕ → asked.Settings
 asking hop =
     record {
+      edition = 12;
       source = 5;
       destination = Everyone;
       «hop_limit» = hop;
@@ -37,6 +38,7 @@ asking hop =
       «with_path» = false;
       reliable = false;
       «pdu_id» = 0;
+      encrypted = false;
     }
 
 -- a node of that address, echo on or off, repeating, its source pass list on or off, all other lists off, and all of them empty

@@ -15,6 +15,9 @@ use Rattle.pdu.specs.Header.{headerOf}
 use Rattle.pdu.specs.Sizes.{pathEntries, pduLength}
 use Rattle.pdu.specs.Reading.{readOf}
 use Rattle.pdu.specs.Parts.{pathAddress, lastSender}
+use Rattle.editions.specs.declared.Shown.{Shown}
+use Rattle.editions.specs.declared.Reading.the-variants as edition-reading
+use Rattle.editions.specs.Editions.{wireOf}
 use Rattle.origin.specs.declared.Settings as origin
 use Rattle.origin.specs.Origination.{originationNumber, originatedOutput}
 use Rattle.lists.specs.Lists.{listFault}
@@ -82,9 +85,9 @@ pub record LastSender : Type 0 where
       → answerOf installer room (originatedOutput settings payload output) .«last_sender» ≡ Known (settings .source)
   -- reading tells it: the summary of what was read, and C's header; C's flag is the path bit, and flag and address give it back
   pub summary-tells : (bytes : List ℕ) (header : Header) → summaryAt bytes (placesOf (Pdu header)) .«last_sender» ≡ lastSender (headerOf bytes) bytes
-  pub header-tells : (bytes : List ℕ) (header : Header)
-      → (headerInC (Pdu header) bytes .«has_last_sender» ≡ header .«path_bit»)
-      × (senderFromC (headerInC (Pdu header) bytes .«has_last_sender») (headerInC (Pdu header) bytes .«last_sender») ≡ lastSender header bytes)
+  pub header-tells : (bytes : List ℕ) (shown : Shown) → let header = headerInC (edition-reading.Pdu shown) bytes in
+      (header .«has_last_sender» ≡ shown .«path_bit»)
+      × (senderFromC (header .«has_last_sender») (header .«last_sender») ≡ lastSender (wireOf shown) bytes)
   pub answer-tells : (answer : Answer) → answerFromC (answerInC answer) .«last_sender» ≡ answer .«last_sender»
   -- a PDU line of `relay`: the sixth field is the address in decimal, 0 too, or `-`
   pub line-known : pduLine 1 0 0 37 [] (Known 0) ≡ text "1 0 0 37 - 0\n"

@@ -1,18 +1,21 @@
 -- Document 02, W-208, as one record; `proofs/LeastReach.antt` gives it from its parts.
 use Prim.Native.Nat.{ℕ, _≤_}
-use mathlib.Core.Bool.{Bool, true, false}
+use mathlib.Core.Bool.{Bool, true, false, cond}
 use mathlib.Core.List.{List, [], _∷_, map}
-use mathlib.Core.Option.{some}
+use mathlib.Core.Option.{none, some}
 use mathlib.Core.Path.{_≡_}
+use lib.Dec.{eqb}
 use lib.ListN.{length, take, drop, getElem?}
 use Rattle.chains.specs.Chains.{ends}
 use Rattle.chains.specs.Lengths.{heard, Found}
 use Rattle.origin.specs.declared.Settings as asked
 use Rattle.origin.specs.Origination.{fresh}
 use Rattle.node.specs.declared.Answer.{Answer}
-use Rattle.node.specs.Answers.{Hears}
+use Rattle.node.specs.Repeat.{repeated}
+use Rattle.editions.specs.Editions.{known}
+use Rattle.hearing.specs.Hearing.{answerUnder, HearsUnder}
 use Rattle.flood.specs.Flood.{Reception}
-use Rattle.flood.specs.Air.{Repeater, address, onTheAir}
+use Rattle.flood.specs.Air.{Repeater, address, sends, onTheAir}
 use Rattle.coverage.specs.Hearing.{Taken, ByNoOther}
 use Rattle.coverage.specs.Delivery.{Planned, Delivers, Delivered}
 use Rattle.coverage.specs.Reach.{Reach}
@@ -38,10 +41,15 @@ pub record LeastReach : Type 0 where
       → Told nodes settings payload receptions lengths
   -- a pair is a sender's place, and then the place of a node that hears it
   pub pair : (heard (1 ∷ 2 ∷ []) 1 2 ≡ true) × (heard (1 ∷ 2 ∷ []) 2 1 ≡ false)
-  -- a node of the model delivers what its function `hear` answers: number 0, and the payload at the answer's place
-  pub answered : (n : Repeater) (received output left payload : List ℕ) (answer : Answer) → length output ≡ n .room
-      → Hears (n .node) received output answer left → Delivers n received payload
+  -- the nodes have edition 1.1 or 1.2 each, as their addresses say (W-209). A node of the model delivers what its function `hear` answers under its
+  -- edition: number 0, and the payload at the answer's place; and it sends where that answer's repeat number is 0
+  pub answered : (editionOf : ℕ → ℕ) (n : Repeater) (received output left payload : List ℕ) (answer : Answer)
+      → known (editionOf (address n)) ≡ true → length output ≡ n .room
+      → HearsUnder (editionOf (address n)) (n .node) received output answer left → Delivers n received payload
       → (answer .delivery ≡ 0) × (take (answer .«delivered_length») (drop (answer .«delivered_place») received) ≡ payload)
+  pub sent : (editionOf : ℕ → ℕ) (n : Repeater) (received : List ℕ) → known (editionOf (address n)) ≡ true
+      → sends n received
+      ≡ cond (eqb (answerUnder (editionOf (address n)) (n .node) (n .room) received .repeat) 0) (some (repeated (address n) received)) none
   -- a line of eight nodes, one-way, hop limits 0 to 6: the run is such as is asked, what goes out, who is delivered it and with what count. Hop limit h
   -- reaches h + 1 hearings and no further, which are h + 1 nodes here
   pub line-planned : (hop : ℕ) → hop ≤ 6 → Planned (map repeater lineAddresses) (report hop) reading 100

@@ -8,3 +8,4 @@ pub mod QueueLevel
 pub mod LeastReach
 pub mod Examples
 pub mod LastSender
+pub mod TwoEditions

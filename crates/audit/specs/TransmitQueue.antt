@@ -9,7 +9,8 @@ use Rattle.octets.specs.Octets.{wordAt}
 use Rattle.pdu.specs.Reading.{exactlyOne}
 use Rattle.lists.specs.Lists.{listFault}
 use Rattle.decision.specs.Decision.{Node}
-use Rattle.batch.specs.Walk.{walk}
+use Rattle.editions.specs.Editions.{known}
+use Rattle.hearing.specs.Hearing.{walkUnder}
 use Rattle.queue.specs.Queue.{capacity, heldIn, memoryOf, front, back}
 use Rattle.transmit.specs.declared.Batch.{Batch}
 use Rattle.transmit.specs.Adding.{addNumber, memoryAfterAdd}
@@ -86,9 +87,10 @@ pub record TransmitQueue : Type 0 where
   pub says : (memory : List ℕ) → wordAt memory 0 ≡ 0 → wordAt memory 2 ≡ 0 → (deeds : List Deed)
       → (length (memoryAfter memory deeds) ≡ length memory)
       × (wordAt (memoryAfter memory deeds) 2 ≡ length (flatten (heldIn (memoryAfter memory deeds))))
-  -- 01's walk, no list at fault, reads each batch taken to its end: it comes to just the PDUs' places, and none of its answers is 1 to 6
-  pub walked : (memory : List ℕ) (room : ℕ) (node : Node) (output : ℕ) → listFault (node .lists) ≡ 0
-      → let pdus = front room (heldIn memory) in let found = walk node output (flatten pdus) in
+  -- 01's walk, under edition 1.1 or 1.2 (W-209) and no list at fault, reads each batch taken to its end: it comes to just the PDUs' places, and none of
+  -- its answers is 1 to 6
+  pub walked : (edition : ℕ) → known edition ≡ true → (memory : List ℕ) (room : ℕ) (node : Node) (output : ℕ) → listFault (node .lists) ≡ 0
+      → let pdus = front room (heldIn memory) in let found = walkUnder edition node output (flatten pdus) in
       (found .number ≡ 0) × (found .offsets ≡ places 0 pdus) × (allReadable (found .answers) ≡ true) × (found .end ≡ length (flatten pdus))
   -- the oldest first: of 6, 7 and 8 bytes, 14 are room for two, and the third stays
   pub oldest-first : let deeds = Taking 14 ∷ Adding eight ∷ Adding seven ∷ Adding six ∷ [] in

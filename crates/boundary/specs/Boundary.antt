@@ -7,24 +7,29 @@ use mathlib.Core.Path.{_≡_}
 use lib.ListN.{length}
 use Rattle.pdu.specs.declared.Destination.{Destination}
 use Rattle.pdu.specs.declared.Destination.the-variants.{Everyone, Address}
-use Rattle.pdu.specs.declared.Header.{Header}
 use Rattle.pdu.specs.declared.Sender.{Sender}
 use Rattle.pdu.specs.declared.Sender.the-variants.{Unknown, Known}
 use Rattle.pdu.specs.declared.Reading.{Reading}
 use Rattle.pdu.specs.declared.Reading.the-variants.{Pdu, Refused}
 use Rattle.pdu.specs.Header.{headerOf}
 use Rattle.pdu.specs.Sizes.{fixedLength, payloadLimit, pathLimit, headerLimit, pduLimit, headerLength, pduLength}
-use Rattle.pdu.specs.Reading.{refusalNumber}
 use Rattle.pdu.specs.Parts.{pathIn, pathAddress, inPath, lastSender}
+use Rattle.editions.specs.declared.Bits.{Bits}
+use Rattle.editions.specs.declared.Bits.the-variants.{Reserved, Flagged}
+use Rattle.editions.specs.declared.Shown.{Shown}
+use Rattle.editions.specs.declared.Reading as edition
+use Rattle.editions.specs.declared.Reading.the-variants as edition-reading
+use Rattle.editions.specs.Editions.{shownWith, wireOf}
 use Rattle.lists.specs.Lists.{valueLimit}
 use Rattle.origin.specs.declared.Settings as origin
 use Rattle.decision.specs.Decision.{Node}
 use Rattle.node.specs.declared.Answer.{Answer}
-use Rattle.node.specs.Answers.{answerOf, twice, outputAfter}
+use Rattle.node.specs.Answers.{twice}
 use Rattle.batch.specs.declared.Cursor.{Cursor}
 use Rattle.batch.specs.declared.Stepped.{Stepped}
 use Rattle.batch.specs.declared.Stepped.the-variants.{TooLong, Ended, Answered}
-use Rattle.batch.specs.Walk.{batchLimit, stepOf, stepOutput}
+use Rattle.batch.specs.Walk.{batchLimit}
+use Rattle.hearing.specs.Hearing.{answerUnder, outputUnder, stepUnder, stepOutputUnder}
 use Rattle.listening.specs.declared.Listened.{Listened}
 use Rattle.listening.specs.Listening.{answerNumber, memoryAfterAnswer}
 use Rattle.bound.specs.declared.Bound.{Bound}
@@ -63,44 +68,58 @@ senderAddress (Known address) = address
 abbrev pub senderFromC : Bool → ℕ → Sender
 senderFromC known address = cond known (Known address) Unknown
 
--- the fields of a header, with a number, the last sender and two lengths ("Header, byte by byte")
-abbrev pub fieldsInC : ℕ → Header → Sender → ℕ → ℕ → MantHeader
-fieldsInC number header sender ofHeader ofPdu =
+-- the three bits after the port (document 02, W-209): whether there is an encrypted flag, the flag, false where there is none, and the reserved number
+abbrev pub hasFlag : Bits → Bool
+hasFlag (Reserved number) = false
+hasFlag (Flagged encrypted number) = true
+
+abbrev pub flagOf : Bits → Bool
+flagOf (Reserved number) = false
+flagOf (Flagged encrypted number) = encrypted
+
+abbrev pub reservedOf : Bits → ℕ
+reservedOf (Reserved number) = number
+reservedOf (Flagged encrypted number) = number
+
+-- the fields of a header as it is shown, with a number, the last sender and two lengths ("Header, byte by byte")
+abbrev pub fieldsInC : ℕ → Shown → Sender → ℕ → ℕ → MantHeader
+fieldsInC number shown sender ofHeader ofPdu =
     record {
       number = number;
-      protocol = header .protocol;
-      «time_stamp_request» = header .«time_stamp_request»;
-      «path_bit» = header .«path_bit»;
-      «has_destination» = hasDestination (header .destination);
-      port = header .port;
-      encrypted = header .encrypted;
-      reserved = header .reserved;
-      ack = header .ack;
-      «added_header» = header .«added_header»;
-      «hop_limit» = header .«hop_limit»;
-      «payload_length» = header .«payload_length»;
-      source = header .source;
-      destination = destinationAddress (header .destination);
-      «pdu_id» = header .«pdu_id»;
-      «path_count» = header .«path_count»;
+      protocol = shown .protocol;
+      «time_stamp_request» = shown .«time_stamp_request»;
+      «path_bit» = shown .«path_bit»;
+      «has_destination» = hasDestination (shown .destination);
+      port = shown .port;
+      «has_encrypted» = hasFlag (shown .bits);
+      encrypted = flagOf (shown .bits);
+      reserved = reservedOf (shown .bits);
+      ack = shown .ack;
+      «added_header» = shown .«added_header»;
+      «hop_limit» = shown .«hop_limit»;
+      «payload_length» = shown .«payload_length»;
+      source = shown .source;
+      destination = destinationAddress (shown .destination);
+      «pdu_id» = shown .«pdu_id»;
+      «path_count» = shown .«path_count»;
       «has_last_sender» = hasSender sender;
       «last_sender» = senderAddress sender;
       «header_length» = ofHeader;
       «pdu_length» = ofPdu;
     }
 
--- of a header that was read: number 0, and the lengths that follow from its fields ("Sizes")
-abbrev pub shownHeader : Header → Sender → MantHeader
-shownHeader header sender = fieldsInC 0 header sender (headerLength header) (pduLength header)
+-- of a PDU that was read: number 0, and the lengths that follow from its fields ("Sizes")
+abbrev pub shownHeader : Shown → Sender → MantHeader
+shownHeader shown sender = fieldsInC 0 shown sender (headerLength (wireOf shown)) (pduLength (wireOf shown))
 
--- a refusal: its number, the fields of no bytes, no sender, lengths 0 ("Numbers answered": a length given with a refusal is 0)
+-- a refusal: its number, the fields of no bytes, no flag, no sender, lengths 0 ("Numbers answered": a length given with a refusal is 0)
 abbrev pub refusedHeader : ℕ → MantHeader
-refusedHeader number = fieldsInC number (headerOf []) Unknown 0 0
+refusedHeader number = fieldsInC number (shownWith (Reserved 0) (headerOf [])) Unknown 0 0
 
--- what reading answers for bytes ("Numbers answered", 1 to 6), and the last sender of what was read
-abbrev pub headerInC : Reading → List ℕ → MantHeader
-headerInC (Pdu header) bytes = shownHeader header (lastSender header bytes)
-headerInC (Refused refusal) bytes = refusedHeader (refusalNumber refusal)
+-- what reading under an edition answers for bytes (17, then "Numbers answered", 1 to 6), and the last sender of what was read
+abbrev pub headerInC : edition.Reading → List ℕ → MantHeader
+headerInC (edition-reading.Pdu shown) bytes = shownHeader shown (lastSender (wireOf shown) bytes)
+headerInC (edition-reading.Refused number) bytes = refusedHeader number
 
 -- the path's address at a place, and whether an address is in the path, of what was read; a refusal shows no path
 abbrev pub pathAddressIn : Reading → List ℕ → ℕ → ℕ
@@ -111,10 +130,11 @@ abbrev pub pathHas : Reading → List ℕ → ℕ → Bool
 pathHas (Pdu header) bytes address = inPath address (pathIn header bytes)
 pathHas (Refused refusal) bytes address = false
 
--- the settings of a fresh PDU, field by field ("Origination")
+-- the settings of a fresh PDU, field by field ("Origination"; document 02, W-209)
 abbrev pub freshFromC : MantFresh → origin.Settings
 freshFromC settings =
     record {
+      edition = settings .edition;
       source = settings .source;
       destination = destinationFromC (settings .«has_destination») (settings .destination);
       «hop_limit» = settings .«hop_limit»;
@@ -123,6 +143,7 @@ freshFromC settings =
       «with_path» = settings .«with_path»;
       reliable = settings .reliable;
       «pdu_id» = settings .«pdu_id»;
+      encrypted = settings .encrypted;
     }
 
 -- a node's answer ("One PDU at one node"), its last sender so, and back
@@ -151,17 +172,17 @@ answerFromC answer =
       «last_sender» = senderFromC (answer .«has_last_sender») (answer .«last_sender»);
     }
 
--- what hearing a PDU answers and leaves in the output
-abbrev pub HearsInC : Node → List ℕ → List ℕ → MantAnswer → List ℕ → Type 0
-HearsInC node received output answer left =
-    (answer ≡ answerInC (answerOf node (length output) received)) × (left ≡ outputAfter node received output)
+-- what hearing a PDU under an edition answers and leaves in the output
+abbrev pub HearsInC : ℕ → Node → List ℕ → List ℕ → MantAnswer → List ℕ → Type 0
+HearsInC edition node received output answer left =
+    (answer ≡ answerInC (answerUnder edition node (length output) received)) × (left ≡ outputUnder edition node received output)
 
 -- and where it is counted too (document 02, W-201)
-abbrev pub ListensInC : Node → List ℕ → List ℕ → List ℕ → MantListened → List ℕ → List ℕ → Type 0
-ListensInC node received output memory listened left after =
-    HearsInC node received output (listened .answer) left
-    × (listened .«table_number» ≡ answerNumber (answerOf node (length output) received) received memory)
-    × (after ≡ memoryAfterAnswer (answerOf node (length output) received) received memory)
+abbrev pub ListensInC : ℕ → Node → List ℕ → List ℕ → List ℕ → MantListened → List ℕ → List ℕ → Type 0
+ListensInC edition node received output memory listened left after =
+    HearsInC edition node received output (listened .answer) left
+    × (listened .«table_number» ≡ answerNumber (answerUnder edition node (length output) received) received memory)
+    × (after ≡ memoryAfterAnswer (answerUnder edition node (length output) received) received memory)
 
 abbrev pub listenedInC : Listened → MantListened
 listenedInC listened = record { answer = answerInC (listened .answer); «table_number» = listened .«table_number» }
@@ -176,10 +197,10 @@ stepInC cursor (Answered answer next) = record { kind = 0; answer = answerInC an
 stepInC cursor Ended = record { kind = 1; answer = answerInC (twice noNumber 0 Unknown); next = record { place = cursor .place; ended = true } }
 stepInC cursor TooLong = record { kind = 2; answer = answerInC (twice 54 0 Unknown); next = record { place = cursor .place; ended = true } }
 
--- what a step answers and leaves in the output
-abbrev pub StepsInC : Node → List ℕ → Cursor → List ℕ → MantStep → List ℕ → Type 0
-StepsInC node batch cursor output step left =
-    (step ≡ stepInC cursor (stepOf node (length output) batch cursor)) × (left ≡ stepOutput node batch cursor output)
+-- what a step under an edition answers and leaves in the output
+abbrev pub StepsInC : ℕ → Node → List ℕ → Cursor → List ℕ → MantStep → List ℕ → Type 0
+StepsInC edition node batch cursor output step left =
+    (step ≡ stepInC cursor (stepUnder edition node (length output) batch cursor)) × (left ≡ stepOutputUnder edition node batch cursor output)
 
 -- a bound: the value, that it is too large, or number 10 ("Numbers answered"); the value is 0 where there is none
 abbrev pub boundInC : Bound → MantBound

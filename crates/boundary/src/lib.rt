@@ -2,6 +2,8 @@
 use batch::Cursor;
 use batch::Stepped;
 use bound::Bound;
+use editions::Bits;
+use editions::Shown;
 use listening::Listened;
 use node::Answer;
 use pdu::Destination;
@@ -16,15 +18,17 @@ ghost use Rattle.pdu.specs.Sizes.{headerLimit};
 ghost use Rattle.pdu.specs.Parts.{lastSender};
 ghost use Rattle.pdu.specs.declared.Sender.the-variants.{Unknown};
 ghost use Rattle.node.specs.Answers.{twice};
-ghost use Rattle.boundary.specs.Boundary.{refusedHeader, shownHeader, destinationFromC, freshFromC};
+ghost use Rattle.boundary.specs.Boundary.{hasDestination, destinationAddress, refusedHeader, shownHeader, destinationFromC, freshFromC};
+ghost use Rattle.boundary.specs.Boundary.{hasFlag, flagOf, reservedOf};
 ghost use Rattle.boundary.specs.Boundary.{hasSender, senderAddress, senderFromC, answerInC, answerFromC};
 ghost use Rattle.boundary.specs.Boundary.{listenedInC, stepInC, boundInC, limitsInC};
 
 // What the fields for numbers hold where there is no answer.
 const NO_NUMBER: u8 = 255;
 
-// What `mant_read` answers: 0 or 1 to 6, and of a PDU every field of its header in document 01's order, its last sender, the header's length and the
-// PDU's. `last_sender` counts where `has_last_sender` is set, and is 0 where not. With a refusal all fields after the number are 0 and false.
+// What `mant_read` answers: 0, or 17 or 1 to 6, and of a PDU every field of its header in document 01's order as the edition shows it, its last sender,
+// the header's length and the PDU's. Edition 1.1 has no encrypted flag: `has_encrypted` and `encrypted` are false, and `reserved` is 0 to 7; in 1.2 it
+// is 0 to 3. `last_sender` counts where `has_last_sender` is set, and is 0 where not. With a refusal all fields after the number are 0 and false.
 #[repr(C)]
 pub struct MantHeader {
     pub number: u8,
@@ -33,6 +37,7 @@ pub struct MantHeader {
     pub path_bit: bool,
     pub has_destination: bool,
     pub port: u8,
+    pub has_encrypted: bool,
     pub encrypted: bool,
     pub reserved: u8,
     pub ack: bool,
@@ -49,10 +54,11 @@ pub struct MantHeader {
     pub pdu_length: usize,
 }
 
-// What a caller asks of a fresh PDU. `destination` counts where `has_destination` is set. Hop limit and port are wider than their bits, so that
-// a number too large arrives whole and is refused.
+// What a caller asks of a fresh PDU. `destination` counts where `has_destination` is set. Edition, hop limit and port are wider than what they hold, so
+// that a number too large arrives whole and is refused. `encrypted` marks a payload that is already encrypted; edition 1.1 has no such mark.
 #[repr(C)]
 pub struct MantFresh {
+    pub edition: u64,
     pub source: u16,
     pub has_destination: bool,
     pub destination: u16,
@@ -62,11 +68,12 @@ pub struct MantFresh {
     pub with_path: bool,
     pub reliable: bool,
     pub pdu_id: u8,
+    pub encrypted: bool,
 }
 
 // What a node answers for one PDU. `last_sender` counts where `has_last_sender` is set, and is 0 where not. The delivered payload lies at
 // `delivered_place` in the received bytes; place and length are 0 where nothing is delivered. `repeated_length` is 0 where nothing is repeated. `taken`
-// is where the next PDU begins in the received bytes, and 0 where a list is at fault or no PDU can be read.
+// is where the next PDU begins in the received bytes, and 0 where the edition is not known, a list is at fault or no PDU can be read.
 #[repr(C)]
 pub struct MantAnswer {
     pub delivery: u8,
@@ -116,100 +123,40 @@ pub struct MantLimits {
     pub batch: usize,
 }
 
-// The header that bytes show, as C sees it: number 0, every field, the last sender, and the lengths of the header and the PDU, straight from the bytes.
-// Any bytes get an answer, whether or not they can be read; a byte that is not there counts as 0. Document 01, "Header, byte by byte", and "Sizes";
-// document 02, W-205.
-pub fn shown_header(bytes: &[u8]) -> MantHeader
-    ensures { λ r. ⌜ r ≡ shownHeader (headerOf (now (bytes .entry))) (lastSender (headerOf (now (bytes .entry))) (now (bytes .entry))) ⌝ }
+// The header of a PDU that was read under an edition, as C sees it: number 0, every field, the last sender, and the lengths of the header and the PDU.
+// Document 01, "Header, byte by byte", and "Sizes"; document 02, W-205 and W-209.
+pub fn shown_header(shown: Shown, sender: Sender) -> MantHeader
+    ensures { λ r. ⌜ r ≡ shownHeader shown sender ⌝ }
 {
-    let byte0 = octets::byte(bytes, 0);
-    let byte1 = octets::byte(bytes, 1);
-    let byte2 = octets::byte(bytes, 2);
-    let payload_length = payload_length(byte2, octets::byte(bytes, 3));
-    let source = octets::word(bytes, 4);
-    let path_count = byte_if(byte0 / 2 % 2 == 1, bytes, path_count_place(byte0));
-    let header_length = header_length(byte0, path_count);
+    let bits = shown.bits;
+    let destination = shown.destination;
+    let header = editions::wire_of(shown);
     MantHeader {
         number: 0,
-        protocol: byte0 / 8 % 8,
-        time_stamp_request: byte0 / 4 % 2 == 1,
-        path_bit: byte0 / 2 % 2 == 1,
-        has_destination: byte0 % 2 == 1,
-        port: byte1 / 16,
-        encrypted: byte1 / 8 % 2 == 1,
-        reserved: byte1 / 2 % 4,
-        ack: byte1 % 2 == 1,
-        added_header: byte2 / 128 == 1,
-        hop_limit: byte2 / 16 % 8,
-        payload_length,
-        source,
-        destination: word_if(byte0 % 2 == 1, bytes, 6),
-        pdu_id: byte_if(
-            byte0 / 8 % 8 == 1,
-            bytes,
-            6 + 2 * octets::byte_value(byte0 % 2),
-        ),
-        path_count,
-        has_last_sender: byte0 / 2 % 2 == 1,
-        last_sender: last_address(bytes, byte0, path_count, source, header_length),
-        header_length,
-        pdu_length: header_length + octets::word_value(payload_length),
+        protocol: shown.protocol,
+        time_stamp_request: shown.time_stamp_request,
+        path_bit: shown.path_bit,
+        has_destination: has_destination(destination),
+        port: shown.port,
+        has_encrypted: has_flag(bits),
+        encrypted: flag_of(bits),
+        reserved: reserved_of(bits),
+        ack: shown.ack,
+        added_header: shown.added_header,
+        hop_limit: shown.hop_limit,
+        payload_length: shown.payload_length,
+        source: shown.source,
+        destination: destination_address(destination),
+        pdu_id: shown.pdu_id,
+        path_count: shown.path_count,
+        has_last_sender: has_sender(sender),
+        last_sender: sender_address(sender),
+        header_length: header.header_length(),
+        pdu_length: header.pdu_length(),
     }
 }
 
-fn payload_length(byte2: u8, byte3: u8) -> u16
-    ensures { λ r. ⌜ r ≡ payloadLength byte2 byte3 ⌝ }
-{
-    (byte2 % 16) as u16 * 256 + byte3 as u16
-}
-
-fn path_count_place(byte0: u8) -> usize
-    ensures { λ r. ⌜ (r ≡ pathCountPlace byte0) × (r ≤ 9) ⌝ }
-{
-    6 + 2 * octets::byte_value(byte0 % 2) + octets::byte_value(octets::flag(byte0 / 8 % 8 == 1))
-}
-
-fn header_length(byte0: u8, path_count: u8) -> usize
-    ensures { λ r. ⌜ (r ≡ pathCountPlace byte0 + pathBit byte0 + 2 * «path_count») × (r ≤ headerLimit) ⌝ }
-{
-    path_count_place(byte0) + octets::byte_value(byte0 / 2 % 2) + 2 * octets::byte_value(path_count)
-}
-
-fn byte_if(present: bool, bytes: &[u8], place: usize) -> u8
-    ensures { λ r. ⌜ r ≡ cond present (at (now (bytes .entry)) place) 0 ⌝ }
-{
-    if present {
-        octets::byte(bytes, place)
-    } else {
-        0
-    }
-}
-
-fn word_if(present: bool, bytes: &[u8], place: usize) -> u16
-    ensures { λ r. ⌜ r ≡ cond present (wordAt (now (bytes .entry)) place) 0 ⌝ }
-{
-    if present {
-        octets::word(bytes, place)
-    } else {
-        0
-    }
-}
-
-// The address of the last sender, 0 without the path bit: the last 2 bytes of the header, or the source where the path is empty.
-fn last_address(bytes: &[u8], byte0: u8, path_count: u8, source: u16, end: usize) -> u16
-    requires { ⌜ 2 ≤ end ⌝ }
-    ensures { λ r. ⌜ r ≡ cond (isSet (pathBit byte0)) (cond (eqb «path_count» 0) source (wordAt (now (bytes .entry)) (end - 2))) 0 ⌝ }
-{
-    if byte0 / 2 % 2 != 1 {
-        return 0;
-    }
-    if path_count == 0 {
-        return source;
-    }
-    octets::word(bytes, end - 2)
-}
-
-// A refusal of reading, as C sees it: its number, and 0 and false in every field. Document 01, "Numbers answered", 1 to 6.
+// A refusal of reading, as C sees it: its number, and 0 and false in every field. Document 01, "Numbers answered", 1 to 6; document 02, W-209, 17.
 pub fn refused_header(number: u8) -> MantHeader
     ensures { λ r. ⌜ r ≡ refusedHeader number ⌝ }
 {
@@ -220,6 +167,7 @@ pub fn refused_header(number: u8) -> MantHeader
         path_bit: false,
         has_destination: false,
         port: 0,
+        has_encrypted: false,
         encrypted: false,
         reserved: 0,
         ack: false,
@@ -234,6 +182,51 @@ pub fn refused_header(number: u8) -> MantHeader
         last_sender: 0,
         header_length: 0,
         pdu_length: 0,
+    }
+}
+
+fn has_destination(destination: Destination) -> bool
+    ensures { λ r. ⌜ r ≡ hasDestination destination ⌝ }
+{
+    match destination {
+        Destination::Everyone => false,
+        Destination::Address(_) => true,
+    }
+}
+
+fn destination_address(destination: Destination) -> u16
+    ensures { λ r. ⌜ r ≡ destinationAddress destination ⌝ }
+{
+    match destination {
+        Destination::Everyone => 0,
+        Destination::Address(address) => address,
+    }
+}
+
+fn has_flag(bits: Bits) -> bool
+    ensures { λ r. ⌜ r ≡ hasFlag bits ⌝ }
+{
+    match bits {
+        Bits::Reserved(_) => false,
+        Bits::Flagged { .. } => true,
+    }
+}
+
+fn flag_of(bits: Bits) -> bool
+    ensures { λ r. ⌜ r ≡ flagOf bits ⌝ }
+{
+    match bits {
+        Bits::Reserved(_) => false,
+        Bits::Flagged { encrypted, .. } => encrypted,
+    }
+}
+
+fn reserved_of(bits: Bits) -> u8
+    ensures { λ r. ⌜ r ≡ reservedOf bits ⌝ }
+{
+    match bits {
+        Bits::Reserved(number) => number,
+        Bits::Flagged { reserved, .. } => reserved,
     }
 }
 
@@ -265,11 +258,12 @@ fn destination_from_c(present: bool, address: u16) -> Destination
     }
 }
 
-// What C asks of a fresh PDU, as origination takes it. An address without its flag does not count. Document 01, "Origination".
+// What C asks of a fresh PDU, as origination takes it. An address without its flag does not count. Document 01, "Origination"; document 02, W-209.
 pub fn fresh_from_c(settings: MantFresh) -> origin::Settings
     ensures { λ r. ⌜ r ≡ freshFromC settings ⌝ }
 {
     origin::Settings {
+        edition: settings.edition,
         source: settings.source,
         destination: destination_from_c(settings.has_destination, settings.destination),
         hop_limit: settings.hop_limit,
@@ -278,6 +272,7 @@ pub fn fresh_from_c(settings: MantFresh) -> origin::Settings
         with_path: settings.with_path,
         reliable: settings.reliable,
         pdu_id: settings.pdu_id,
+        encrypted: settings.encrypted,
     }
 }
 

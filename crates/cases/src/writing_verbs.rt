@@ -99,6 +99,7 @@ fn node_of(line: Line) -> Settings {
 
 fn origin_of(line: Line) -> origin::Settings {
     origin::Settings {
+        edition: 12,
         source: (line.asked(0) % 65536) as u16,
         destination: destination_of(line),
         hop_limit: line.asked(1) as u64,
@@ -107,6 +108,7 @@ fn origin_of(line: Line) -> origin::Settings {
         with_path: line.asked(4) != 0,
         reliable: line.asked(5) != 0,
         pdu_id: (line.asked(6) % 256) as u8,
+        encrypted: false,
     }
 }
 

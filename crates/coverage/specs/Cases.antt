@@ -20,6 +20,7 @@ use Rattle.flood.specs.Flood.{Reception}
 abbrev pub report : ℕ → asked.Settings
 report hop =
     record {
+      edition = 12;
       source = 1000;
       destination = Everyone;
       «hop_limit» = hop;
@@ -28,6 +29,7 @@ report hop =
       «with_path» = true;
       reliable = false;
       «pdu_id» = 0;
+      encrypted = false;
     }
 
 abbrev pub reading : List ℕ

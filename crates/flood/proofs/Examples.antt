@@ -51,6 +51,7 @@ plain echo own =
 abbrev pub asked : Bool → ℕ → Settings
 asked path hop =
     record {
+      edition = 12;
       source = 1000;
       destination = Everyone;
       «hop_limit» = hop;
@@ -59,6 +60,7 @@ asked path hop =
       «with_path» = path;
       reliable = false;
       «pdu_id» = 0;
+      encrypted = false;
     }
 
 abbrev pub begun : Bool → ℕ → List ℕ

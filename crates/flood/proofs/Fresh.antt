@@ -64,7 +64,7 @@ module _ (settings : Settings) (payload : List ℕ) (room : ℕ) (message : Orig
         flag-small (settings .«with_path»),
         flag-destination (settings .destination),
       ))
-      (omega (arith, takes .port)) (omega (arith, takes .hop, takes .payload-limit)) (omega arith)
+      (omega (arith, takes .port, flag-small (settings .encrypted))) (omega (arith, takes .hop, takes .payload-limit)) (omega arith)
       (bytes-word (settings .source) (message .source-fits))
 
   fresh-small : AllBytes (fresh settings payload)

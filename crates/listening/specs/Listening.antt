@@ -13,7 +13,7 @@ use Rattle.counting.specs.declared.Heard.{Heard}
 use Rattle.counting.specs.Counting.{countNumber, memoryAfterCount}
 use Rattle.listening.specs.declared.Listened.{Listened}
 
--- a PDU was read where the answer says where the next one begins ("A batch"); it does not with a list's fault and with 1 to 6
+-- a PDU was read where the answer says where the next one begins ("A batch"); it does not with 17 (W-209), with a list's fault and with 1 to 6
 abbrev pub wasRead : Answer → Bool
 wasRead answer = not (eqb (answer .taken) 0)
 

@@ -2,7 +2,7 @@
 ghost use mathlib.Core.Path.{_≡_};
 ghost use lib.ListN.{length};
 ghost use Rattle.pdu.specs.Reading.{readOf};
-ghost use Rattle.writing.specs.Writing.{writeAgain, writtenAgain};
+ghost use Rattle.editions.specs.Editions.{readUnder, writeAgainUnder, writtenAgainUnder};
 ghost use Rattle.origin.specs.Origination.{originated, originatedOutput};
 ghost use Rattle.lists.specs.Lists.{listsOf, listFault, holds};
 ghost use Rattle.decision.specs.Decision.{nodeOf};
@@ -31,22 +31,28 @@ use boundary::MantStep;
 use counting::Heard;
 use decision::Settings;
 use exchange::Exchange;
+use listening::Listened;
+use pdu::Reading;
 use pdu::Written;
 use queue::Level;
 use stations::Found;
 use transmit::Batch;
 
-// The header of the PDU at the start of `bytes` and its last sender, or the number, 1 to 6, of why there is none. Bytes after the PDU are not looked at.
-// Document 01, "Header, byte by byte", and "Numbers answered", 1 to 6; document 02, W-205.
+// What an edition, 11 for 1.1 and 12 for 1.2, shows of the header of the PDU at the start of `bytes`, and its last sender; or 17 for any other edition, or
+// the number, 1 to 6, of why there is no PDU. Bytes after the PDU are not looked at.
+// Document 01, "Header, byte by byte", and "Numbers answered", 1 to 6; document 02, W-205 and W-209.
 #[no_mangle]
-pub extern "C" fn mant_read(bytes: &[u8]) -> MantHeader
-    ensures { λ r. ⌜ r ≡ headerInC (readOf (now (bytes .entry))) (now (bytes .entry)) ⌝ }
+pub extern "C" fn mant_read(edition: u64, bytes: &[u8]) -> MantHeader
+    ensures { λ r. ⌜ r ≡ headerInC (readUnder edition (now (bytes .entry))) (now (bytes .entry)) ⌝ }
 {
-    let number = pdu::fault(bytes);
-    if number != 0 {
-        return boundary::refused_header(number);
+    let reading = editions::read(edition, bytes);
+    match reading {
+        editions::Reading::Refused(number) => boundary::refused_header(number),
+        editions::Reading::Pdu(shown) => {
+            let sender = pdu::parts::last_sender(bytes, editions::wire_of(shown));
+            boundary::shown_header(shown, sender)
+        }
     }
-    boundary::shown_header(bytes)
 }
 
 // The address at place `i` of the path of the PDU at the start of `bytes`, the first at 0. 0 past the last one, and where there is no PDU.
@@ -73,19 +79,20 @@ pub extern "C" fn mant_path_has(bytes: &[u8], address: u16) -> bool
     pdu::parts::path_has(bytes, pdu::header_of(bytes), address)
 }
 
-// Writes the PDU at the start of `bytes` again, from what reading shows of it, and answers 0 and its length. Answers 1 to 6 where there is no
-// PDU and 14 where the output is too short, with length 0 and the output as it was. Output past the PDU keeps its bytes.
-// Document 01, "Numbers answered", a PDU written again.
+// Writes the PDU at the start of `bytes` again, from what the edition shows of it, and answers 0 and its length. Answers 17 for an edition other than 11
+// and 12, 1 to 6 where there is no PDU and 14 where the output is too short, with length 0 and the output as it was. Output past the PDU keeps its bytes.
+// Document 01, "Numbers answered", a PDU written again; document 02, W-209.
 #[no_mangle]
-pub extern "C" fn mant_write_again(bytes: &[u8], output: &mut [u8]) -> Written
-    ensures { λ r. ⌜ (r ≡ writeAgain (now (bytes .entry)) (length (now (output .entry))))
-        × (now (output .exit) ≡ writtenAgain (now (bytes .entry)) (now (output .entry))) ⌝ }
+pub extern "C" fn mant_write_again(edition: u64, bytes: &[u8], output: &mut [u8]) -> Written
+    ensures { λ r. ⌜ (r ≡ writeAgainUnder edition (now (bytes .entry)) (length (now (output .entry))))
+        × (now (output .exit) ≡ writtenAgainUnder edition (now (bytes .entry)) (now (output .entry))) ⌝ }
 {
-    writing::write_again(bytes, output)
+    editions::write_again(edition, bytes, output)
 }
 
-// Writes a fresh PDU at the start of the output and answers 0 and its length, or 10 to 14 with length 0 and the output as it was. The PDU ID
-// counts for reliable service only. Output past the PDU keeps its bytes. Document 01, "Origination", and "Numbers answered", 10 to 14.
+// Writes a fresh PDU at the start of the output and answers 0 and its length, or 17, 10 to 13, 16 or 14, in that order, with length 0 and the output as
+// it was. The PDU ID counts for reliable service only. Output past the PDU keeps its bytes.
+// Document 01, "Origination", and "Numbers answered", 10 to 14; document 02, W-209.
 #[no_mangle]
 pub extern "C" fn mant_originate(settings: MantFresh, payload: &[u8], output: &mut [u8]) -> Written
     ensures { λ r. ⌜ (r ≡ originated (freshFromC settings) (now (payload .entry)) (length (now (output .entry))))
@@ -123,12 +130,13 @@ pub extern "C" fn mant_list_holds(list: &[u16], address: u16) -> bool
     lists::holds(list, address)
 }
 
-// What a node answers for the PDU at the start of the received bytes. Faults of the lists (20 to 22) and of reading (1 to 6), 30 to 34, 40 and 42 are
-// answered as both numbers, and nothing is delivered then. The repeated PDU is written at the start of the output where the repeat number is 0, and
-// the output keeps its bytes past it; with any other repeat number the output is left as it was. The last sender is told with every number but those of
-// the lists and of reading. Document 01, "One PDU at one node"; document 02, W-205.
+// What a node answers for the PDU at the start of the received bytes. An edition other than 11 and 12 (17), faults of the lists (20 to 22) and of reading
+// (1 to 6), 30 to 34, 40 and 42 are answered as both numbers, and nothing is delivered then. The repeated PDU is written at the start of the output where
+// the repeat number is 0, and the output keeps its bytes past it; with any other repeat number the output is left as it was. The last sender is told with
+// every number but 17 and those of the lists and of reading. Document 01, "One PDU at one node"; document 02, W-205 and W-209.
 #[no_mangle]
 pub extern "C" fn mant_hear<'a>(
+    edition: u64,
     settings: Settings,
     source_pass: &'a [u16],
     source_reject: &'a [u16],
@@ -137,11 +145,12 @@ pub extern "C" fn mant_hear<'a>(
     received: &[u8],
     output: &mut [u8],
 ) -> MantAnswer
-    ensures { λ r. ⌜ HearsInC (nodeOf settings (listsOf (now («source_pass» .entry)) (now («source_reject» .entry))
+    ensures { λ r. ⌜ HearsInC edition (nodeOf settings (listsOf (now («source_pass» .entry)) (now («source_reject» .entry))
         (now («destination_pass» .entry)) (now («destination_reject» .entry))))
         (now (received .entry)) (now (output .entry)) r (now (output .exit)) ⌝ }
 {
-    let answer = node::hear(
+    let answer = hearing::hear(
+        edition,
         settings,
         source_pass,
         source_reject,
@@ -153,12 +162,13 @@ pub extern "C" fn mant_hear<'a>(
     boundary::answer_in_c(answer)
 }
 
-// One step of the walk over a batch: the node's answer for the PDU at the cursor, and the cursor of the next. With a number 1 to 6 or a fault of the
-// lists that cursor has ended, at the same place. Any cursor gets an answer; one past the batch's end, or of a walk that ended, gets kind 1, unless
-// the batch is too long: that gets kind 2 at every cursor. The output is changed as by `mant_hear`, and not at all with kinds 1 and 2.
-// Document 01, "A batch".
+// One step of the walk over a batch: the node's answer for the PDU at the cursor, and the cursor of the next. With 17, a number 1 to 6 or a fault of the
+// lists that cursor has ended, at the same place. Any cursor gets an answer; one past the batch's end, or of a walk that ended, gets kind 1. A batch that
+// is too long gets kind 2 at every cursor, if the edition is 11 or 12; 17 comes before that. The output is changed as by `mant_hear`, and not at all with
+// kinds 1 and 2. Document 01, "A batch"; document 02, W-209.
 #[no_mangle]
 pub extern "C" fn mant_step<'a>(
+    edition: u64,
     settings: Settings,
     source_pass: &'a [u16],
     source_reject: &'a [u16],
@@ -168,11 +178,12 @@ pub extern "C" fn mant_step<'a>(
     cursor: Cursor,
     output: &mut [u8],
 ) -> MantStep
-    ensures { λ r. ⌜ StepsInC (nodeOf settings (listsOf (now («source_pass» .entry)) (now («source_reject» .entry))
+    ensures { λ r. ⌜ StepsInC edition (nodeOf settings (listsOf (now («source_pass» .entry)) (now («source_reject» .entry))
         (now («destination_pass» .entry)) (now («destination_reject» .entry))))
         (now (batch .entry)) cursor (now (output .entry)) r (now (output .exit)) ⌝ }
 {
-    let stepped = batch::step(
+    let stepped = hearing::step(
+        edition,
         settings,
         source_pass,
         source_reject,
@@ -273,10 +284,11 @@ pub extern "C" fn mant_count_answer(table: &mut [u16], received: &[u8], answer: 
     listening::count_answer(table, received, boundary::answer_from_c(answer))
 }
 
-// What `mant_hear` answers and leaves, whatever the table holds; and the PDU counted in the table, if it could be read. The table's number stands beside
-// the answer. Document 02, W-201.
+// What `mant_hear` answers and leaves, whatever the table holds; and the PDU counted in the table, if it was read, so nothing with 17. The table's number
+// stands beside the answer. Document 02, W-201 and W-209.
 #[no_mangle]
 pub extern "C" fn mant_hear_and_count<'a>(
+    edition: u64,
     settings: Settings,
     source_pass: &'a [u16],
     source_reject: &'a [u16],
@@ -286,11 +298,12 @@ pub extern "C" fn mant_hear_and_count<'a>(
     output: &mut [u8],
     table: &mut [u16],
 ) -> MantListened
-    ensures { λ r. ⌜ ListensInC (nodeOf settings (listsOf (now («source_pass» .entry)) (now («source_reject» .entry))
+    ensures { λ r. ⌜ ListensInC edition (nodeOf settings (listsOf (now («source_pass» .entry)) (now («source_reject» .entry))
         (now («destination_pass» .entry)) (now («destination_reject» .entry))))
         (now (received .entry)) (now (output .entry)) (now (table .entry)) r (now (output .exit)) (now (table .exit)) ⌝ }
 {
-    let listened = listening::hear(
+    let heard = hearing::hear(
+        edition,
         settings,
         source_pass,
         source_reject,
@@ -298,9 +311,12 @@ pub extern "C" fn mant_hear_and_count<'a>(
         destination_reject,
         received,
         output,
-        table,
     );
-    boundary::listened_in_c(listened)
+    let table_number = listening::count_answer(table, received, heard);
+    boundary::listened_in_c(Listened {
+        answer: heard,
+        table_number,
+    })
 }
 
 // Reads a serial exchange: 0 with place and length of header and payload in `bytes`; or 57 or 58, 59, 1 to 6, 63, with zeros. Document 02, W-202.

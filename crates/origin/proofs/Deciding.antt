@@ -14,6 +14,7 @@ use Rattle.pdu.specs.declared.Destination.{Destination}
 use Rattle.pdu.specs.declared.Destination.the-variants.{Everyone, Address}
 use Rattle.pdu.specs.declared.Written.{Written}
 use Rattle.pdu.specs.Sizes.{destinationFlag, pduLength}
+use Rattle.editions.specs.Editions.{known}
 use Rattle.origin.specs.declared.Settings.{Settings}
 use Rattle.origin.specs.Origination.{freshHeader, fresh, settingsFault, originationNumber, originated, originatedOutput}
 
@@ -43,28 +44,39 @@ flag-one (Address address) h = refl
 
 -- the tests one by one: each refusal where those above it do not hold
 module _ (settings : Settings) (payload : List ℕ) where
-  pub hop-refused : 7 < settings .«hop_limit» → 10 ≡ settingsFault settings payload
+  pub edition-refused : known (settings .edition) ≡ false → 17 ≡ settingsFault settings payload
   unfolding settingsFault _gives_ _orElse_
-  hop-refused h = simp (lt-ltb _ _ h)
+  edition-refused e = simp e
 
-  module _ (hop : settings .«hop_limit» ≤ 7) where
-    pub port-refused : 15 < settings .port → 11 ≡ settingsFault settings payload
+  module _ (named : known (settings .edition) ≡ true) where
+    pub hop-refused : 7 < settings .«hop_limit» → 10 ≡ settingsFault settings payload
     unfolding settingsFault _gives_ _orElse_
-    port-refused h = simp (le-ltb _ _ hop, lt-ltb _ _ h)
+    hop-refused h = simp (named, lt-ltb _ _ h)
 
-    module _ (port : settings .port ≤ 15) where
-      pub payload-refused : 4095 < length payload → 12 ≡ settingsFault settings payload
+    module _ (hop : settings .«hop_limit» ≤ 7) where
+      pub port-refused : 15 < settings .port → 11 ≡ settingsFault settings payload
       unfolding settingsFault _gives_ _orElse_
-      payload-refused h = simp (le-ltb _ _ hop, le-ltb _ _ port, lt-ltb _ _ h)
+      port-refused h = simp (named, le-ltb _ _ hop, lt-ltb _ _ h)
 
-      module _ (short : length payload ≤ 4095) where
-        pub unaddressed-refused : true ≡ (settings .reliable && eqb (destinationFlag (settings .destination)) 0) → 13 ≡ settingsFault settings payload
+      module _ (port : settings .port ≤ 15) where
+        pub payload-refused : 4095 < length payload → 12 ≡ settingsFault settings payload
         unfolding settingsFault _gives_ _orElse_
-        unaddressed-refused e = simp (le-ltb _ _ hop, le-ltb _ _ port, le-ltb _ _ short, ← e)
+        payload-refused h = simp (named, le-ltb _ _ hop, le-ltb _ _ port, lt-ltb _ _ h)
 
-        pub none-refused : false ≡ (settings .reliable && eqb (destinationFlag (settings .destination)) 0) → 0 ≡ settingsFault settings payload
-        unfolding settingsFault _gives_ _orElse_
-        none-refused e = simp (le-ltb _ _ hop, le-ltb _ _ port, le-ltb _ _ short, ← e)
+        module _ (short : length payload ≤ 4095) where
+          pub unaddressed-refused : true ≡ (settings .reliable && eqb (destinationFlag (settings .destination)) 0)
+              → 13 ≡ settingsFault settings payload
+          unfolding settingsFault _gives_ _orElse_
+          unaddressed-refused e = simp (named, le-ltb _ _ hop, le-ltb _ _ port, le-ltb _ _ short, ← e)
+
+          module _ (addressed : false ≡ (settings .reliable && eqb (destinationFlag (settings .destination)) 0)) where
+            pub unmarked-refused : true ≡ (settings .encrypted && eqb (settings .edition) 11) → 16 ≡ settingsFault settings payload
+            unfolding settingsFault _gives_ _orElse_
+            unmarked-refused e = simp (named, le-ltb _ _ hop, le-ltb _ _ port, le-ltb _ _ short, ← addressed, ← e)
+
+            pub none-refused : false ≡ (settings .encrypted && eqb (settings .edition) 11) → 0 ≡ settingsFault settings payload
+            unfolding settingsFault _gives_ _orElse_
+            none-refused e = simp (named, le-ltb _ _ hop, le-ltb _ _ port, le-ltb _ _ short, ← addressed, ← e)
 
 -- settings and a payload without fault
 pub record Settled (settings : Settings) (payload : List ℕ) : Type 0 where
@@ -76,15 +88,17 @@ pub record Settled (settings : Settings) (payload : List ℕ) : Type 0 where
 pub settled : (settings : Settings) (payload : List ℕ) → settingsFault settings payload ≡ 0 → Settled settings payload
 unfolding settingsFault
 settled settings payload e =
-    let t1 = orElse-zero _ _ e in
+    let t0 = orElse-zero _ _ e in
+    let t1 = orElse-zero _ _ (t0 .1) in
     let t2 = orElse-zero _ _ (t1 .1) in
     let t3 = orElse-zero _ _ (t2 .1) in
+    let t4 = orElse-zero _ _ (t3 .1) in
     record {
       hop = ltb-false _ _ (gives-zero _ 10 (omega arith) (t1 .0));
       port = ltb-false _ _ (gives-zero _ 11 (omega arith) (t2 .0));
       payload-limit = ltb-false _ _ (gives-zero _ 12 (omega arith) (t3 .0));
       addressed =
-          λ reliable. flag-one (settings .destination) (addressed-from (settings .reliable) _ (gives-zero _ 13 (omega arith) (t3 .1)) reliable);
+          λ reliable. flag-one (settings .destination) (addressed-from (settings .reliable) _ (gives-zero _ 13 (omega arith) (t4 .0)) reliable);
     }
 
 -- what origination takes: that, and an output with room for it

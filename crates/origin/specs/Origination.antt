@@ -1,6 +1,6 @@
--- Document 01, "Origination", and "Numbers answered", 10 to 14.
+-- Document 01, "Origination", and "Numbers answered", 10 to 14; document 02, W-209: the edition, and the encrypted flag.
 use Prim.Native.Nat.{ℕ}
-use mathlib.Core.Bool.{false, cond, _&&_}
+use mathlib.Core.Bool.{false, not, cond, _&&_}
 use mathlib.Core.List.{List, []}
 use lib.Dec.{eqb, ltb}
 use lib.ListN.{length}
@@ -10,11 +10,11 @@ use Rattle.pdu.specs.declared.Header.{Header}
 use Rattle.pdu.specs.declared.Written.{Written}
 use Rattle.pdu.specs.Sizes.{payloadLimit, destinationFlag, pduLength}
 use Rattle.writing.specs.Writing.{encode}
+use Rattle.editions.specs.Editions.{known}
 use Rattle.origin.specs.declared.Settings.{Settings}
 
--- the header of a PDU just originated: version 0; encrypted, reserved, ACK and added header 0; the rest as set; with the path bit, the count byte
--- is 0;
--- the PDU ID for reliable service only
+-- the header of a PDU just originated: version 0; reserved, ACK and added header 0; the rest as set; with the path bit, the count byte is 0; the PDU ID
+-- for reliable service only
 unfoldable pub freshHeader : Settings → ℕ → Header
 freshHeader settings payloadLength =
     record {
@@ -22,7 +22,7 @@ freshHeader settings payloadLength =
       «time_stamp_request» = settings .«time_stamp_request»;
       «path_bit» = settings .«with_path»;
       port = settings .port;
-      encrypted = false;
+      encrypted = settings .encrypted;
       reserved = 0;
       ack = false;
       «added_header» = false;
@@ -38,13 +38,15 @@ freshHeader settings payloadLength =
 unfoldable pub fresh : Settings → List ℕ → List ℕ
 fresh settings payload = encode (freshHeader settings (length payload)) [] payload
 
--- what settings and payload are refused for, whatever the output: 10 to 13 in that order, or 0
+-- what settings and payload are refused for, whatever the output: 17, then 10 to 13 in that order, then 16, or 0
 unfoldable pub settingsFault : Settings → List ℕ → ℕ
 settingsFault settings payload =
-    ltb 7 (settings .«hop_limit») gives 10
+    not (known (settings .edition)) gives 17
+    orElse ltb 7 (settings .«hop_limit») gives 10
     orElse ltb 15 (settings .port) gives 11
     orElse ltb payloadLimit (length payload) gives 12
     orElse (settings .reliable && eqb (destinationFlag (settings .destination)) 0) gives 13
+    orElse (settings .encrypted && eqb (settings .edition) 11) gives 16
 
 -- what origination answers for an output of so many bytes: that, then 14; 0 where a PDU is written
 unfoldable pub originationNumber : Settings → List ℕ → ℕ → ℕ

@@ -10,8 +10,10 @@ ghost use lib.ListN.{length};
 ghost use Rattle.pdu.specs.Sizes.{payloadLimit, destinationFlag, pduLength};
 ghost use Rattle.origin.specs.Origination.{freshHeader, settingsFault, originated, originatedOutput};
 
-// What a caller asks of a fresh PDU. Hop limit and port are wider than their bits, so that a number too large arrives whole and is refused.
+// What a caller asks of a fresh PDU. Edition, hop limit and port are wider than what they hold, so that a number too large arrives whole and is refused.
+// `encrypted` marks a payload that is already encrypted; edition 1.1 has no such mark.
 pub struct Settings {
+    pub edition: u64,
     pub source: u16,
     pub destination: Destination,
     pub hop_limit: u64,
@@ -20,12 +22,13 @@ pub struct Settings {
     pub with_path: bool,
     pub reliable: bool,
     pub pdu_id: u8,
+    pub encrypted: bool,
 }
 
-// Writes a fresh PDU at the start of the output and answers 0 and its length. Answers 10 to 13 for a hop limit above 7, a port above 15, a payload
-// above its limit, or reliable service without a destination, and then 14 where the output is too short; each with length 0 and the output as it
-// was. The PDU ID counts for reliable service only. Output past the PDU keeps its bytes.
-// Document 01, "Origination", and "Numbers answered", 10 to 14.
+// Writes a fresh PDU at the start of the output and answers 0 and its length. Answers 17 for an edition other than 11 and 12, 10 to 13 for a hop limit
+// above 7, a port above 15, a payload above its limit, or reliable service without a destination, 16 for encryption asked under edition 1.1, and then 14
+// where the output is too short; each with length 0 and the output as it was. The PDU ID counts for reliable service only. Output past the PDU keeps its
+// bytes. Document 01, "Origination", and "Numbers answered", 10 to 14; document 02, W-209.
 pub fn originate(settings: Settings, payload: &[u8], output: &mut [u8]) -> Written
     ensures { λ r. ⌜ (r ≡ originated settings (now (payload .entry)) (length (now (output .entry))))
         × (now (output .exit) ≡ originatedOutput settings (now (payload .entry)) (now (output .entry))) ⌝ }
@@ -51,10 +54,13 @@ fn refused(number: u8) -> Written
     Written { number, length: 0 }
 }
 
-// The refusals that need no output, 10 to 13, or 0.
+// The refusals that need no output, 17, 10 to 13 and 16, or 0.
 fn settings_fault(settings: Settings, payload: &[u8]) -> u8
     ensures { λ r. ⌜ r ≡ settingsFault settings (now (payload .entry)) ⌝ }
 {
+    if !editions::is_known(settings.edition) {
+        return 17;
+    }
     if 7 < settings.hop_limit {
         return 10;
     }
@@ -68,7 +74,18 @@ fn settings_fault(settings: Settings, payload: &[u8]) -> u8
     if unaddressed(settings.reliable, destination) {
         return 13;
     }
-    0
+    if unmarked(settings.edition, settings.encrypted) {
+        16
+    } else {
+        0
+    }
+}
+
+// Encryption asked of an edition without the flag.
+fn unmarked(edition: u64, encrypted: bool) -> bool
+    ensures { λ r. ⌜ r ≡ (encrypted && eqb edition 11) ⌝ }
+{
+    if encrypted { edition == 11 } else { false }
 }
 
 // Reliable service without a destination.
@@ -91,7 +108,7 @@ fn fresh_header(settings: Settings, payload_length: usize) -> Header
         time_stamp_request: settings.time_stamp_request,
         path_bit: settings.with_path,
         port: settings.port as u8,
-        encrypted: false,
+        encrypted: settings.encrypted,
         reserved: 0,
         ack: false,
         added_header: false,

@@ -15,6 +15,9 @@ use job::Job;
 use job::Reading;
 use pdu::Header;
 
+// A job has no edition: `relay` uses 1.2. What it prints is the same under 1.1. Document 02, W-209.
+const EDITION: u64 = 12;
+
 // Writes what `relay` prints for a job's bytes into the text, line after line from its start, and answers where the lines end. Any bytes get an
 // answer. A text of 98,352 bytes has room for the lines of every job, whole; in a shorter one a line that does not fit is left out, and a shorter one
 // after it may still be put. Document 01, "The program `relay`"; document 02, W-205.
@@ -80,7 +83,8 @@ fn put_walk<'a>(
             place: offset,
             ended,
         };
-        let stepped = batch::step(
+        let stepped = hearing::step(
+            EDITION,
             settings,
             source_pass,
             source_reject,

@@ -4,9 +4,9 @@
 use crate::same::{node, Input};
 use crate::table::{answer_for, in_library, in_reference, is_read, Table, NOT_HELD};
 use crate::Compared;
-use generator::{any_table, good_four_lists, settings, source_near, Deed, FourLists, Random};
+use generator::{any_table, good_four_lists, settings, source_near, Deed, Hearing, Random};
 use mant::raw::{self, Found, Station};
-use reference::{counts_as_echo, Settings, Stations};
+use reference::{counts_as_echo, Stations};
 
 /// Compares some deeds on any words, each by what the words held before.
 pub fn compare(random: &mut Random) -> Compared {
@@ -77,25 +77,21 @@ fn compare_deed(input: &Input, table: &mut Table, before: &Table, deed: &Deed) -
             let number = raw::count_answer(table.change(), bytes, answer);
             compare_answer(input, (table, before), bytes, (*delivery, number))
         }
-        Deed::Hear(settings, four, bytes, room) => {
-            let listened = heard(input, table, (settings, four, *room), bytes)?;
+        Deed::Hear(hearing) => {
+            let listened = heard(input, table, hearing)?;
             let numbers = (listened.answer.delivery, listened.table_number);
-            compare_answer(input, (table, before), bytes, numbers)
+            compare_answer(input, (table, before), &hearing.received, numbers)
         }
     }
 }
 
 /// A node hears bytes; its answer and output are those without a table.
-fn heard(
-    input: &Input,
-    table: &mut Table,
-    (settings, four, room): (&Settings, &FourLists, usize),
-    bytes: &[u8],
-) -> Result<raw::Listened, String> {
-    let (mut output, mut plain) = (vec![0; room], vec![0; room]);
-    let (at, four) = (node(settings), four.lists().in_order());
-    let listened = raw::hear_and_count(at, four, bytes, &mut output, table.change());
-    let answer = raw::hear(at, four, bytes, &mut plain);
+fn heard(input: &Input, table: &mut Table, hearing: &Hearing) -> Result<raw::Listened, String> {
+    let (mut output, mut plain) = (vec![0; hearing.room], vec![0; hearing.room]);
+    let (edition, at, bytes) = (hearing.edition, node(&hearing.settings), &hearing.received);
+    let four = hearing.lists.lists().in_order();
+    let listened = raw::hear_and_count(edition, at, four, bytes, &mut output, table.change());
+    let answer = raw::hear(edition, at, four, bytes, &mut plain);
     input.same("answer with a table", listened.answer, answer)?;
     input.same_bytes("output with a table", &output, &plain)?;
     Ok(listened)

@@ -5,9 +5,9 @@ use crate::output::Output;
 use crate::same::{answer, lists, node, wrapped, Input};
 use crate::table::{answer_for, in_library, in_reference, is_read, Table, NOT_HELD};
 use crate::Compared;
-use generator::{address, history, source_near, Deed, FourLists, Random};
+use generator::{address, history, source_near, Deed, Hearing, Random};
 use mant::raw::{self, Found};
-use reference::{counts_as_echo, hear, hear_and_count, read, Settings, Stations};
+use reference::{counts_as_echo, hear, hear_and_count, read, Stations};
 
 /// A table in the library and in the reference, and in the wrapper where it
 /// has the wrapper's size.
@@ -67,9 +67,9 @@ impl Tables {
     /// Does a deed in all tables, and tells whether it is one that changes them.
     fn done(&mut self, random: &mut Random, input: &Input, deed: &Deed) -> Result<bool, String> {
         match deed {
-            Deed::Hear(settings, four, bytes, room) => {
-                let output = Output::of(random, *room);
-                self.heard(input, (settings, four), bytes, &output)
+            Deed::Hear(hearing) => {
+                let output = Output::of(random, hearing.room);
+                self.heard(input, hearing, &output)
             }
             Deed::Count(source, echo, path_count) => {
                 let unused = random.byte();
@@ -82,33 +82,28 @@ impl Tables {
 
     /// A node hears bytes: what it answers and writes is what it does without
     /// a table, and counting by that answer comes to the same.
-    fn heard(
-        &mut self,
-        input: &Input,
-        (settings, four): (&Settings, &FourLists),
-        bytes: &[u8],
-        output: &Output,
-    ) -> Result<bool, String> {
+    fn heard(&mut self, input: &Input, hearing: &Hearing, output: &Output) -> Result<bool, String> {
         let (mut library, mut plain) = (output.clone(), output.clone());
         let mut reference = output.clone();
         let mut apart = self.library.clone();
-        let (at, lists_at) = (node(settings), four.lists());
-        let in_order = lists_at.in_order();
+        let (edition, at, bytes) = (hearing.edition, node(&hearing.settings), &hearing.received);
+        let four = hearing.lists.lists();
+        let in_order = four.in_order();
         let table = self.library.change();
-        let listened = raw::hear_and_count(at, in_order, bytes, library.room(), table);
-        let answered = raw::hear(at, in_order, bytes, plain.room());
+        let listened = raw::hear_and_count(edition, at, in_order, bytes, library.room(), table);
+        let answered = raw::hear(edition, at, in_order, bytes, plain.room());
         input.same("answer with a table", listened.answer, answered)?;
         input.same_bytes("output with a table", library.all(), plain.all())?;
-        let stations = &mut self.reference;
+        let (settings, stations) = (&hearing.settings, &mut self.reference);
         let (wanted, number) =
-            hear_and_count(settings, &lists_at, bytes, reference.room(), stations);
+            hear_and_count(edition, settings, &four, bytes, reference.room(), stations);
         input.same("answer", answered, answer(&wanted))?;
         input.same_bytes("output", library.all(), reference.all())?;
         input.same("table's number", listened.table_number, number)?;
         let by_answer = raw::count_answer(apart.change(), bytes, answered);
         input.same("number by the answer", by_answer, number)?;
         input.same("words by the answer", &apart, &self.library)?;
-        self.heard_in_wrapper(input, (settings, four), bytes, (output, &listened))?;
+        self.heard_in_wrapper(input, hearing, (output, &listened))?;
         Ok(number == 0 && wanted.taken != 0)
     }
 
@@ -116,8 +111,7 @@ impl Tables {
     fn heard_in_wrapper(
         &mut self,
         input: &Input,
-        (settings, four): (&Settings, &FourLists),
-        bytes: &[u8],
+        hearing: &Hearing,
         (output, listened): (&Output, &raw::Listened),
     ) -> Compared {
         let Some(stations) = &mut self.wrapper else {
@@ -125,10 +119,11 @@ impl Tables {
         };
         let (mut output, mut other) = (output.clone(), output.clone());
         let mut apart = stations.clone();
-        let (at, four) = (node(settings), four.lists());
-        let heard = stations.hear(&at, &lists(&four), bytes, output.room());
+        let (edition, at, bytes) = (hearing.edition, node(&hearing.settings), &hearing.received);
+        let four = hearing.lists.lists();
+        let heard = stations.hear(edition, &at, &lists(&four), bytes, output.room());
         let wanted = wrapped(&listened.answer);
-        hear(settings, &four, bytes, other.room());
+        hear(edition, &hearing.settings, &four, bytes, other.room());
         input.same("wrapped answer", &heard.answer, &wanted)?;
         input.same("wrapped number", number(heard.table), listened.table_number)?;
         input.same_bytes("wrapped output", output.all(), other.all())?;

@@ -1,17 +1,19 @@
 //! Floods: one fresh PDU with a path among nodes with echo on (01, "Checked
 //! by hand", last line), run with the library. A node hears a transmission at
 //! most once, the node at the source address too, which the bound does not
-//! count (02, W-203). Each answer is compared with the reference's.
+//! count (02, W-203), and has edition 1.1 or 1.2 (W-209). Each answer is
+//! compared with the reference's.
 
 use crate::same::{answer, fresh, hex, lists, node as library_node, wrapped};
 use crate::Compared;
-use generator::{address, good_four_lists, origination, settings, FourLists, Random};
+use generator::{address, good_edition, good_four_lists, origination, settings, FourLists, Random};
 use mant::{most_bytes, most_transmissions};
-use reference::{hear, Origination, Settings, MOST_PDU};
+use reference::{hear, Origination, Settings, EDITION_1_2, MOST_PDU};
 use std::collections::{HashSet, VecDeque};
 
 /// A node of the network.
 struct Node {
+    edition: u64,
     settings: Settings,
     lists: FourLists,
 }
@@ -66,7 +68,7 @@ pub fn compare(random: &mut Random) -> Compared {
 
 /// Runs one flood and checks what went out.
 fn run(random: &mut Random, nodes: Vec<Node>, open: bool, fresh: Vec<u8>) -> Compared {
-    let header = mant::read(&fresh).map_err(|refusal| refusal.to_string())?;
+    let header = mant::read(EDITION_1_2, &fresh).map_err(|refusal| refusal.to_string())?;
     let (hop, length) = (u64::from(header.hop_limit), fresh.len() as u64);
     let count = others(&nodes, header.source) as u64;
     let most = of(most_transmissions(count, hop))?;
@@ -139,6 +141,7 @@ fn node(random: &mut Random, own_address: u16, open: bool) -> Node {
         false => settings(random),
     };
     Node {
+        edition: good_edition(random),
         settings: Settings {
             own_address,
             echo: true,
@@ -158,7 +161,10 @@ fn fresh_pdu(
 ) -> Result<Vec<u8>, String> {
     let wanted = asked.destination;
     let destination = wanted.filter(|address| !(open && has(nodes, *address)));
+    let edition = good_edition(random);
     let asked = Origination {
+        edition,
+        encrypted: edition == EDITION_1_2 && asked.encrypted,
         reliable: destination.is_some() && random.flag(),
         path: true,
         port: random.below(16) as u64,
@@ -216,13 +222,15 @@ impl Flood {
     /// What a node sends on after hearing a transmission, if it does.
     fn heard(&self, node: usize, transmission: usize) -> Result<Option<Vec<u8>>, String> {
         let Node {
+            edition,
             settings,
             lists: four,
         } = &self.nodes[node];
         let (four, received) = (four.lists(), &self.sent[transmission]);
         let (mut out, mut other) = ([0; 64], [0; 64]);
-        let heard = mant::hear(&library_node(settings), &lists(&four), received, &mut out);
-        let wanted = answer(&hear(settings, &four, received, &mut other));
+        let at = library_node(settings);
+        let heard = mant::hear(*edition, &at, &lists(&four), received, &mut out);
+        let wanted = answer(&hear(*edition, settings, &four, received, &mut other));
         if heard != wrapped(&wanted) || out != other {
             return Err(format!(
                 "library {heard:?} {}, reference {wanted:?} {}; input {}, {settings:?}, {four:?}",
@@ -239,7 +247,7 @@ impl Flood {
 fn check_paths(sent: &[Vec<u8>]) -> Compared {
     let mut paths = HashSet::new();
     for pdu in sent {
-        let header = mant::read(pdu).map_err(|refusal| refusal.to_string())?;
+        let header = mant::read(EDITION_1_2, pdu).map_err(|refusal| refusal.to_string())?;
         let count = header.path_count.ok_or("sent without a path")?;
         let places = 0..usize::from(count);
         let path: Vec<u16> = places

@@ -3,17 +3,17 @@
 use crate::output::Output;
 use crate::same::{answer, lists, node, wrapped, Input};
 use crate::Compared;
-use generator::{four_lists, good_four_lists, received, room, settings_for, Random};
+use generator::{edition, four_lists, good_four_lists, received, room, settings_for, Random};
 use mant::raw;
 use reference::{hear, read};
 
-/// Compares on any settings, lists, received bytes and rooms.
+/// Compares on any editions, settings, lists, received bytes and rooms.
 pub fn compare(random: &mut Random) -> Compared {
     let four = match random.one_in(4) {
         true => four_lists(random),
         false => good_four_lists(random),
     };
-    let bytes = received(random);
+    let (edition, bytes) = (edition(random), received(random));
     let shown = read(&bytes).ok();
     let settings = settings_for(random, &bytes);
     let length = shown.as_ref().map_or(0, |header| {
@@ -22,17 +22,18 @@ pub fn compare(random: &mut Random) -> Compared {
     let room = room(random, length);
     let input = Input {
         bytes: &bytes,
-        rest: &(settings, &four, room),
+        rest: &(edition, settings, &four, room),
     };
     let mut library = Output::of(random, room);
     let mut reference = library.clone();
     let mut wrapper = library.clone();
     let four = four.lists();
-    let answered = raw::hear(node(&settings), four.in_order(), &bytes, library.room());
-    let wanted = answer(&hear(&settings, &four, &bytes, reference.room()));
+    let at = node(&settings);
+    let answered = raw::hear(edition, at, four.in_order(), &bytes, library.room());
+    let wanted = answer(&hear(edition, &settings, &four, &bytes, reference.room()));
     input.same("answer", answered, wanted)?;
     input.same_bytes("output", library.all(), reference.all())?;
-    let safe = mant::hear(&node(&settings), &lists(&four), &bytes, wrapper.room());
+    let safe = mant::hear(edition, &at, &lists(&four), &bytes, wrapper.room());
     input.same_bytes("wrapped output", wrapper.all(), reference.all())?;
     if let (Ok(place), Some(header)) = (&safe.delivery, &shown) {
         let delivered = &bytes[place.clone()];

@@ -29,6 +29,7 @@ pub fn compare(random: &mut Random) -> Compared {
     input.same("origination", answered, wanted)?;
     input.same_bytes("output", library.all(), reference.all())?;
     let fresh = mant::Fresh {
+        edition: settings.edition,
         source: settings.source,
         destination: settings.destination,
         hop_limit: settings.hop,
@@ -37,6 +38,7 @@ pub fn compare(random: &mut Random) -> Compared {
         with_path: settings.path,
         reliable: settings.reliable,
         pdu_id: settings.pdu_id,
+        encrypted: settings.encrypted,
     };
     let wrapped = mant::originate(&fresh, &payload, wrapper.room());
     let wanted = match wanted.number {

@@ -3,41 +3,42 @@
 use crate::output::Output;
 use crate::same::{header, written, Input};
 use crate::Compared;
-use generator::{address, received, room, Random};
+use generator::{address, edition, received, room, Random};
 use mant::raw;
-use reference::{read, write_again, Header};
+use reference::{read, read_under, write_again, Bits, Header, Shown};
 
-/// Compares on bytes of every kind.
+/// Compares on editions and bytes of every kind.
 pub fn compare(random: &mut Random) -> Compared {
-    let bytes = received(random);
-    let shown = read(&bytes);
-    let length = shown.as_ref().map_or(0, Header::pdu_length);
+    let (edition, bytes) = (edition(random), received(random));
+    let read = read(&bytes);
+    let length = read.as_ref().map_or(0, Header::pdu_length);
     let room = room(random, length);
     let input = Input {
         bytes: &bytes,
-        rest: &format!("room {room}"),
+        rest: &format!("edition {edition}, room {room}"),
     };
-    input.same("header", raw::read(&bytes), header(&shown))?;
-    compare_wrapped(&input, &shown)?;
-    compare_path(random, &input, &shown)?;
+    let shown = read_under(edition, &bytes);
+    input.same("header", raw::read(edition, &bytes), header(&shown))?;
+    compare_wrapped(edition, &input, &shown)?;
+    compare_path(random, &input, &read)?;
     let mut library = Output::of(random, room);
     let mut reference = library.clone();
-    let answered = raw::write_again(&bytes, library.room());
-    let wanted = written(write_again(&bytes, reference.room()));
+    let answered = raw::write_again(edition, &bytes, library.room());
+    let wanted = written(write_again(edition, &bytes, reference.room()));
     input.same("writing again", answered, wanted)?;
     input.same_bytes("output", library.all(), reference.all())
 }
 
 /// The wrapper's header says the same.
-fn compare_wrapped(input: &Input, shown: &Result<Header, u8>) -> Compared {
-    let wrapped = mant::read(input.bytes).map_err(mant::Refusal::number);
+fn compare_wrapped(edition: u64, input: &Input, shown: &Result<Shown, u8>) -> Compared {
+    let wrapped = mant::read(edition, input.bytes).map_err(mant::Refusal::number);
     let wanted = shown.as_ref().map_err(|number| *number);
-    let wanted = wanted.map(|header| mant::Header {
+    let wanted = wanted.map(|Shown { bits, others }| (bits_in_wrapper(*bits), others));
+    let wanted = wanted.map(|(bits, header)| mant::Header {
         protocol: header.protocol,
         time_stamp_request: header.time_stamp_request,
         port: header.port,
-        encrypted: header.encrypted,
-        reserved: header.reserved,
+        bits,
         ack: header.ack,
         added_header: header.added_header,
         hop_limit: header.hop_limit,
@@ -51,9 +52,20 @@ fn compare_wrapped(input: &Input, shown: &Result<Header, u8>) -> Compared {
     input.same("wrapped header", wrapped, wanted)
 }
 
+/// The three bits as the wrapper shows them.
+fn bits_in_wrapper(bits: Bits) -> mant::Bits {
+    match bits {
+        Bits::Reserved(reserved) => mant::Bits::Reserved(reserved),
+        Bits::Flagged(encrypted, reserved) => mant::Bits::Flagged {
+            encrypted,
+            reserved,
+        },
+    }
+}
+
 /// Every address of the path, places past it, and addresses in and out of it.
-fn compare_path(random: &mut Random, input: &Input, shown: &Result<Header, u8>) -> Compared {
-    let path = shown.as_ref().ok().and_then(|header| header.path.clone());
+fn compare_path(random: &mut Random, input: &Input, read: &Result<Header, u8>) -> Compared {
+    let path = read.as_ref().ok().and_then(|header| header.path.clone());
     let path = path.unwrap_or_default();
     let past = [path.len(), path.len() + 1, random.below(600), usize::MAX];
     let huge = random.draw() as usize;

@@ -3,7 +3,7 @@
 
 use crate::Compared;
 use mant::raw;
-use reference::{Answer, Header, Origination, Settings};
+use reference::{Answer, Bits, Origination, Settings, Shown};
 use std::fmt::Debug;
 
 /// An input, shown in hex only where something differs.
@@ -52,16 +52,20 @@ pub fn hex(bytes: &[u8]) -> String {
     bytes.iter().map(|byte| format!("{byte:02X}")).collect()
 }
 
-/// A header as the library gives it; what is not there is 0.
-pub fn header(read: &Result<Header, u8>) -> raw::Header {
-    let header = match read {
-        Ok(header) => header,
+/// What is shown of a header as the library gives it; what is not there is 0.
+pub fn header(read: &Result<Shown, u8>) -> raw::Header {
+    let (header, bits) = match read {
+        Ok(shown) => (&shown.others, shown.bits),
         Err(number) => {
             return raw::Header {
                 number: *number,
                 ..raw::Header::default()
             }
         }
+    };
+    let (flag, reserved) = match bits {
+        Bits::Reserved(reserved) => (None, reserved),
+        Bits::Flagged(encrypted, reserved) => (Some(encrypted), reserved),
     };
     raw::Header {
         number: 0,
@@ -70,8 +74,9 @@ pub fn header(read: &Result<Header, u8>) -> raw::Header {
         path_bit: header.path.is_some(),
         has_destination: header.destination.is_some(),
         port: header.port,
-        encrypted: header.encrypted,
-        reserved: header.reserved,
+        has_encrypted: flag.is_some(),
+        encrypted: flag.unwrap_or(false),
+        reserved,
         ack: header.ack,
         added_header: header.added_header,
         hop_limit: header.hop_limit,
@@ -104,6 +109,7 @@ pub fn node(settings: &Settings) -> raw::Node {
 /// asked for does not count, so it may be anything.
 pub fn fresh(settings: &Origination, not_asked: u16) -> raw::Fresh {
     raw::Fresh {
+        edition: settings.edition,
         source: settings.source,
         has_destination: settings.destination.is_some(),
         destination: settings.destination.unwrap_or(not_asked),
@@ -113,6 +119,7 @@ pub fn fresh(settings: &Origination, not_asked: u16) -> raw::Fresh {
         with_path: settings.path,
         reliable: settings.reliable,
         pdu_id: settings.pdu_id,
+        encrypted: settings.encrypted,
     }
 }
 

@@ -118,7 +118,7 @@ pub fn in_reference(station: Station) -> reference::Station {
 
 /// Whether a node that answers this delivery number has read the PDU.
 pub fn is_read(delivery: u8) -> bool {
-    !matches!(delivery, 1..=6 | 20..=22)
+    !matches!(delivery, 1..=6 | 17 | 20..=22)
 }
 
 /// A node's answer with this delivery number for the PDU in these bytes.

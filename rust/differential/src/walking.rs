@@ -3,14 +3,15 @@
 use crate::output::Output;
 use crate::same::{answer, lists, node, wrapped, Input};
 use crate::Compared;
-use generator::{batch, four_lists, good_four_lists, settings_for, FourLists, Random};
+use generator::{batch, edition, four_lists, good_four_lists, settings_for, FourLists, Random};
 use mant::{raw, Cursor};
 use reference::numbers::BATCH_SIZE;
-use reference::{hear, walk, Settings, Step, MOST_BATCH, MOST_PDU};
+use reference::{hear, walk, Edition, Settings, Step, MOST_BATCH, MOST_PDU};
 
 /// A node and its batch.
 #[derive(Debug)]
 struct Case<'a> {
+    edition: u64,
     settings: Settings,
     four: &'a FourLists,
     batch: &'a [u8],
@@ -21,6 +22,7 @@ impl Case<'_> {
     fn step(&self, cursor: Cursor, output: &mut Output) -> raw::Step {
         let four = self.four.lists().in_order();
         raw::step(
+            self.edition,
             node(&self.settings),
             four,
             self.batch,
@@ -38,6 +40,7 @@ pub fn compare(random: &mut Random) -> Compared {
     };
     let batch = batch(random);
     let case = Case {
+        edition: edition(random),
         settings: settings_for(random, &batch),
         four: &four,
         batch: &batch,
@@ -46,7 +49,7 @@ pub fn compare(random: &mut Random) -> Compared {
     let room = random.pick(&[0, 6, 20, small, 200, 1_000, MOST_PDU, MOST_PDU, 5_000]);
     let input = Input {
         bytes: &batch,
-        rest: &(case.settings, &four, room),
+        rest: &(case.edition, case.settings, &four, room),
     };
     let output = Output::of(random, room);
     compare_walk(&case, &input, &output)?;
@@ -61,7 +64,8 @@ fn compare_walk(case: &Case, input: &Input, output: &Output) -> Compared {
     let (mut library, mut reference) = (output.clone(), output.clone());
     let mut replayed = output.clone();
     let four = case.four.lists();
-    let walked = match walk(&case.settings, &four, case.batch, reference.room()) {
+    let (edition, settings, room) = (case.edition, &case.settings, reference.room());
+    let walked = match walk(edition, settings, &four, case.batch, room) {
         Ok(walked) => walked,
         Err(number) => return compare_refused(case, input, output, number),
     };
@@ -105,6 +109,7 @@ fn compare_wrapped(
 ) -> Compared {
     let mut output = output.clone();
     let step = mant::step(
+        case.edition,
         &node(&case.settings),
         &lists(&case.four.lists()),
         case.batch,
@@ -153,13 +158,14 @@ fn compare_any(random: &mut Random, case: &Case, input: &Input, output: &Output)
     };
     let (mut library, mut reference) = (output.clone(), output.clone());
     let step = case.step(cursor, &mut library);
-    let wanted = if length > MOST_BATCH {
+    let wanted = if length > MOST_BATCH && Edition::of(case.edition).is_ok() {
         ended(raw::REFUSED, BATCH_SIZE, cursor)
     } else if cursor.ended || cursor.place >= length {
         ended(raw::ENDED, raw::NO_NUMBER, cursor)
     } else {
         let rest = &case.batch[cursor.place..];
-        let heard = hear(&case.settings, &case.four.lists(), rest, reference.room());
+        let (settings, four) = (&case.settings, case.four.lists());
+        let heard = hear(case.edition, settings, &four, rest, reference.room());
         raw::Step {
             kind: raw::ANSWERED,
             answer: answer(&heard),

@@ -4,7 +4,7 @@ use crate::lists::{four_lists, good_four_lists, FourLists};
 use crate::output::room;
 use crate::random::Random;
 use crate::received::received;
-use crate::settings::settings;
+use crate::settings::{edition, good_edition, settings};
 use crate::shape::{address, shape};
 use crate::table::rising_table;
 use reference::Settings;
@@ -12,8 +12,8 @@ use reference::Settings;
 /// What is done with a table.
 #[derive(Clone, Debug, PartialEq, Eq)]
 pub enum Deed {
-    /// A node hears these bytes with so much room in its output.
-    Hear(Settings, FourLists, Vec<u8>, usize),
+    /// A node hears bytes.
+    Hear(Hearing),
     /// A PDU of this source was read, dropped by echo or not, with this path
     /// count.
     Count(u16, bool, Option<u8>),
@@ -21,6 +21,21 @@ pub enum Deed {
     CountAnswer(Vec<u8>, u8),
     /// The station of the address is removed.
     Remove(u16),
+}
+
+/// What a node hears, and what it is set to.
+#[derive(Clone, Debug, PartialEq, Eq)]
+pub struct Hearing {
+    /// The number of its edition.
+    pub edition: u64,
+    /// Its settings.
+    pub settings: Settings,
+    /// Its lists.
+    pub lists: FourLists,
+    /// The received bytes.
+    pub received: Vec<u8>,
+    /// So much room its output has.
+    pub room: usize,
 }
 
 /// The words of a table, and what is done with it in turn.
@@ -77,8 +92,8 @@ pub fn source_near(random: &mut Random, words: &[u16]) -> u16 {
 
 /// Delivery numbers that tell of a PDU that was read, or was not, and numbers
 /// beside them.
-const DELIVERIES: [u8; 19] = [
-    0, 1, 6, 7, 19, 20, 22, 23, 29, 30, 30, 31, 34, 35, 39, 40, 42, 42, 43,
+const DELIVERIES: [u8; 21] = [
+    0, 1, 6, 7, 17, 18, 19, 20, 22, 23, 29, 30, 30, 31, 34, 35, 39, 40, 42, 42, 43,
 ];
 
 /// Something done about the source, mostly hearing it.
@@ -100,8 +115,8 @@ fn path_count(random: &mut Random) -> Option<u8> {
     random.flag().then(|| count >> random.below(8))
 }
 
-/// Hearing the source at the node, now and then set otherwise or with a list
-/// at fault.
+/// Hearing the source at the node, now and then set otherwise, with a list at
+/// fault or under no edition.
 fn hearing(random: &mut Random, node: &(Settings, FourLists), source: u16) -> Deed {
     let (own_address, lists) = (node.0.own_address, &node.1);
     let chosen = match random.one_in(6) {
@@ -112,13 +127,21 @@ fn hearing(random: &mut Random, node: &(Settings, FourLists), source: u16) -> De
         true => four_lists(random),
         false => lists.clone(),
     };
-    let bytes = report(random, own_address, source);
-    let room = room(random, bytes.len() + 2);
-    let chosen = Settings {
-        own_address,
-        ..chosen
+    let edition = match random.one_in(6) {
+        true => edition(random),
+        false => good_edition(random),
     };
-    Deed::Hear(chosen, lists, bytes, room)
+    let received = report(random, own_address, source);
+    Deed::Hear(Hearing {
+        edition,
+        settings: Settings {
+            own_address,
+            ..chosen
+        },
+        lists,
+        room: room(random, received.len() + 2),
+        received,
+    })
 }
 
 /// Bytes from the source: mostly a valid PDU, else a damaged or a cut one, or
@@ -170,11 +193,15 @@ mod tests {
             let mut most = 0;
             for deed in history(&mut random).deeds {
                 let number = match deed {
-                    Deed::Hear(settings, lists, bytes, room) => {
-                        let mut out = vec![0; room];
-                        let four = lists.lists();
-                        let (answer, number) =
-                            hear_and_count(&settings, &four, &bytes, &mut out, &mut stations);
+                    Deed::Hear(heard) => {
+                        let (answer, number) = hear_and_count(
+                            heard.edition,
+                            &heard.settings,
+                            &heard.lists.lists(),
+                            &heard.received,
+                            &mut vec![0; heard.room],
+                            &mut stations,
+                        );
                         node[usize::from(answer.delivery)] += 1;
                         number
                     }
@@ -195,7 +222,9 @@ mod tests {
     #[test]
     fn every_number_arises() {
         let (node, table, full) = answered();
-        for number in [0, 1, 2, 3, 5, 6, 20, 21, 22, 30, 31, 32, 33, 34, 35, 39, 40] {
+        for number in [
+            0, 1, 2, 3, 5, 6, 17, 20, 21, 22, 30, 31, 32, 33, 34, 35, 39, 40,
+        ] {
             assert!(node[number] > 0, "{number}: {node:?}");
         }
         assert!(node[30] > 100 && node[42] > 100, "{node:?}");

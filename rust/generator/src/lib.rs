@@ -1,5 +1,5 @@
 //! Seeded inputs for everything that document 01 describes, and 02 as far as
-//! it is built: PDUs, damaged and cut ones, settings, lists, outputs, batches,
+//! it is built: PDUs, damaged and cut ones, editions, settings, lists, outputs, batches,
 //! jobs, histories of a table of stations, exchanges, transmit queues, and
 //! networks.
 //!
@@ -23,7 +23,7 @@ mod table;
 
 pub use batch::batch;
 pub use exchange::{exchange, exchanged_pdu, levels_down, short_exchange};
-pub use history::{deed, history, source_near, Deed, History};
+pub use history::{deed, history, source_near, Deed, Hearing, History};
 pub use job::{damaged_job, job, random_job, DamagedJob, JobParts};
 pub use lists::{bad_list, four_lists, good_four_lists, good_list, FourLists};
 pub use network::network;
@@ -31,6 +31,6 @@ pub use output::{output, room};
 pub use queue::{any_queue, empty_queue, pace, queue_deed, Pace, QueueDeed};
 pub use random::{splitmix64, Random};
 pub use received::{cut, damaged, random_bytes, received};
-pub use settings::{origination, payload_to_send, settings, settings_for};
+pub use settings::{edition, good_edition, origination, payload_to_send, settings, settings_for};
 pub use shape::{address, shape, Shape};
 pub use table::{any_table, rising_table};

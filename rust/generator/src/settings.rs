@@ -1,8 +1,36 @@
-//! Settings of a node and of origination.
+//! Editions, settings of a node and of origination.
 
 use crate::random::Random;
 use crate::shape::address;
-use reference::{read, Header, Origination, Settings};
+use reference::{read, Header, Origination, Settings, EDITION_1_1, EDITION_1_2};
+
+/// Numbers that are no edition: beside the two, and those that would be one of
+/// them in fewer bits.
+const NO_EDITIONS: [u64; 10] = [
+    0,
+    1,
+    2,
+    10,
+    13,
+    256 + 11,
+    65_536 + 12,
+    (1 << 32) + 11,
+    (1 << 32) + 12,
+    u64::MAX,
+];
+
+/// One of the two editions.
+pub fn good_edition(random: &mut Random) -> u64 {
+    random.pick(&[EDITION_1_1, EDITION_1_2])
+}
+
+/// The number of an edition, once in eight times of none.
+pub fn edition(random: &mut Random) -> u64 {
+    match random.one_in(8) {
+        true => random.pick(&NO_EDITIONS),
+        false => good_edition(random),
+    }
+}
 
 /// Settings of a node; repeating is mostly on and each list mostly off, so
 /// that many PDUs come through.
@@ -49,6 +77,8 @@ fn address_of(random: &mut Random, header: &Header) -> Option<u16> {
 /// Settings of origination, some to be refused.
 pub fn origination(random: &mut Random) -> Origination {
     Origination {
+        edition: edition(random),
+        encrypted: random.one_in(3),
         reliable: random.one_in(3),
         time_stamp_request: random.flag(),
         path: random.flag(),
@@ -94,7 +124,7 @@ mod tests {
     use super::*;
     use crate::lists::good_four_lists;
     use crate::received::received;
-    use reference::hear;
+    use reference::{hear, originate};
 
     /// Reports of the node itself, with its settings and what was received.
     fn own_reports(random: &mut Random) -> Vec<(Settings, Header, Vec<u8>)> {
@@ -129,6 +159,29 @@ mod tests {
     }
 
     #[test]
+    fn every_number_of_origination_arises() {
+        let mut random = Random::from_seed(1);
+        let mut counts = [[0; 18]; 3];
+        for _ in 0..20_000 {
+            let settings = origination(&mut random);
+            let payload = payload_to_send(&mut random);
+            let (number, _) = originate(&settings, &payload, &mut [0; 60]);
+            let edition = match settings.edition {
+                EDITION_1_1 => 1,
+                EDITION_1_2 => 2,
+                _ => 0,
+            };
+            counts[edition][usize::from(number)] += 1;
+        }
+        for number in [0, 10, 11, 12, 13, 14] {
+            assert!(counts[1][number].min(counts[2][number]) > 100, "{counts:?}");
+        }
+        assert!(counts[1][16] > 100 && counts[2][16] == 0, "{counts:?}");
+        assert_eq!(counts[0].iter().sum::<usize>(), counts[0][17]);
+        assert!(counts[0][17] > 1_000, "{counts:?}");
+    }
+
+    #[test]
     fn lists_would_drop_own_reports() {
         let mut random = Random::from_seed(1);
         let mut counts = [0; 256];
@@ -136,7 +189,7 @@ mod tests {
             let lists = good_four_lists(&mut random);
             let [off, on] = [false, true].map(|echo| {
                 let settings = Settings { echo, ..settings };
-                hear(&settings, &lists.lists(), &bytes, &mut []).delivery
+                hear(EDITION_1_2, &settings, &lists.lists(), &bytes, &mut []).delivery
             });
             counts[usize::from(off)] += usize::from(on == 42);
         }

@@ -2,24 +2,28 @@
 //!
 //! Every function answers for every input and allocates nothing. An output is
 //! changed only where a PDU or an exchange is written to it, and keeps its
-//! bytes past the end of that. [`Stations`] holds the stations that a box has
+//! bytes past the end of that. An edition is [`EDITION_1_1`] or
+//! [`EDITION_1_2`], and any other number is refused before all else; the path,
+//! exchanges and queues need none. [`Stations`] holds the stations that a box has
 //! heard, [`Queue`] the PDUs that wait to be sent. [`raw`] gives the library's
 //! structs as they are.
 
+mod edition;
 mod exchange;
 mod queue;
 pub mod raw;
 mod refusal;
 mod stations;
 
+pub use edition::Bits;
 pub use exchange::{read_exchange, write_exchange, Exchange};
 pub use queue::{Queue, Taken};
-pub use raw::{Cursor, Level, Limits, Node};
+pub use raw::{Cursor, Level, Limits, Node, EDITION_1_1, EDITION_1_2};
 pub use refusal::Refusal;
 pub use stations::{Heard, Listened, Station, Stations};
 use std::ops::Range;
 
-/// The header of a PDU.
+/// The header of a PDU, as an edition shows it.
 #[derive(Clone, Debug, PartialEq, Eq)]
 pub struct Header {
     /// 0 best efforts, 1 reliable.
@@ -28,10 +32,8 @@ pub struct Header {
     pub time_stamp_request: bool,
     /// 0 to 15.
     pub port: u8,
-    /// The encrypted bit.
-    pub encrypted: bool,
-    /// The two reserved bits, 0 to 3.
-    pub reserved: u8,
+    /// The three bits after the port.
+    pub bits: Bits,
     /// The ACK bit.
     pub ack: bool,
     /// The added header bit.
@@ -53,10 +55,13 @@ pub struct Header {
     pub payload: Range<usize>,
 }
 
-/// What is asked of a fresh PDU. Hop limit and port are wider than their bits,
-/// so that 263 arrives as 263 and is refused.
-#[derive(Clone, Copy, Debug, Default, PartialEq, Eq)]
+/// What is asked of a fresh PDU. Edition, hop limit and port are wider than they
+/// need be, so that 263 arrives as 263 and is refused. The default is edition
+/// 1.2 and 0, none or false in all else.
+#[derive(Clone, Copy, Debug, PartialEq, Eq)]
 pub struct Fresh {
+    /// [`EDITION_1_1`] or [`EDITION_1_2`].
+    pub edition: u64,
     /// Source address.
     pub source: u16,
     /// Destination address; without one the PDU is for everyone.
@@ -73,6 +78,26 @@ pub struct Fresh {
     pub reliable: bool,
     /// Written for reliable service only.
     pub pdu_id: u8,
+    /// The payload is encrypted already: sets the flag, which edition 1.1 does
+    /// not have.
+    pub encrypted: bool,
+}
+
+impl Default for Fresh {
+    fn default() -> Fresh {
+        Fresh {
+            edition: EDITION_1_2,
+            source: 0,
+            destination: None,
+            hop_limit: 0,
+            port: 0,
+            time_stamp_request: false,
+            with_path: false,
+            reliable: false,
+            pdu_id: 0,
+            encrypted: false,
+        }
+    }
 }
 
 /// The four lists of a node, each low, high, low, high and so on, both ends
@@ -109,7 +134,8 @@ pub struct Answer {
     /// How many bytes of the repeated PDU were written to the output.
     pub repeat: Result<usize, Refusal>,
     /// Where the next PDU begins, counted from this one's first byte; 0 where
-    /// a list is at fault or no PDU can be read.
+    /// this one was not read: the edition is unknown, a list is at fault, or
+    /// there is no PDU.
     pub taken: usize,
     /// Who the PDU was heard from, whenever it was read: the last path
     /// address, or the source if the path is empty. None where it is unknown.
@@ -127,17 +153,16 @@ pub enum Step {
     Refused(Refusal),
 }
 
-/// The header of the PDU at the start of the bytes. Bytes after the PDU are
-/// not looked at.
-pub fn read(bytes: &[u8]) -> Result<Header, Refusal> {
-    let header = raw::read(bytes);
+/// The header of the PDU at the start of the bytes, as the edition shows it.
+/// Bytes after the PDU are not looked at.
+pub fn read(edition: u64, bytes: &[u8]) -> Result<Header, Refusal> {
+    let header = raw::read(edition, bytes);
     Refusal::check(header.number)?;
     Ok(Header {
         protocol: header.protocol,
         time_stamp_request: header.time_stamp_request,
         port: header.port,
-        encrypted: header.encrypted,
-        reserved: header.reserved,
+        bits: Bits::of(&header),
         ack: header.ack,
         added_header: header.added_header,
         hop_limit: header.hop_limit,
@@ -153,7 +178,7 @@ pub fn read(bytes: &[u8]) -> Result<Header, Refusal> {
 /// The address at a place of the path of the PDU at the start of the bytes,
 /// the first at 0. None past the last one and where there is no PDU.
 pub fn path_address(bytes: &[u8], place: usize) -> Option<u16> {
-    let count = usize::from(raw::read(bytes).path_count);
+    let count = usize::from(raw::read(EDITION_1_2, bytes).path_count);
     (place < count).then(|| raw::path_address(bytes, place))
 }
 
@@ -163,14 +188,16 @@ pub fn path_has(bytes: &[u8], address: u16) -> bool {
     raw::path_has(bytes, address)
 }
 
-/// Writes the PDU at the start of the bytes again and gives its length.
-pub fn write_again(bytes: &[u8], output: &mut [u8]) -> Result<usize, Refusal> {
-    length(raw::write_again(bytes, output))
+/// Writes the PDU at the start of the bytes again, from what the edition shows
+/// of it, and gives its length.
+pub fn write_again(edition: u64, bytes: &[u8], output: &mut [u8]) -> Result<usize, Refusal> {
+    length(raw::write_again(edition, bytes, output))
 }
 
 /// Writes a fresh PDU with this payload and gives its length.
 pub fn originate(fresh: &Fresh, payload: &[u8], output: &mut [u8]) -> Result<usize, Refusal> {
     let settings = raw::Fresh {
+        edition: fresh.edition,
         source: fresh.source,
         has_destination: fresh.destination.is_some(),
         destination: fresh.destination.unwrap_or(0),
@@ -180,6 +207,7 @@ pub fn originate(fresh: &Fresh, payload: &[u8], output: &mut [u8]) -> Result<usi
         with_path: fresh.with_path,
         reliable: fresh.reliable,
         pdu_id: fresh.pdu_id,
+        encrypted: fresh.encrypted,
     };
     length(raw::originate(settings, payload, output))
 }
@@ -195,14 +223,28 @@ pub fn list_holds(list: &[u16], address: u16) -> bool {
 }
 
 /// What a node answers for the PDU at the start of the received bytes.
-pub fn hear(node: &Node, lists: &Lists, received: &[u8], output: &mut [u8]) -> Answer {
-    Answer::of(raw::hear(*node, lists.in_order(), received, output))
+pub fn hear(
+    edition: u64,
+    node: &Node,
+    lists: &Lists,
+    received: &[u8],
+    output: &mut [u8],
+) -> Answer {
+    let lists = lists.in_order();
+    Answer::of(raw::hear(edition, *node, lists, received, output))
 }
 
 /// One step of the walk over PDUs that lie back to back. A walk begins with
 /// `Cursor::default()`.
-pub fn step(node: &Node, lists: &Lists, batch: &[u8], cursor: Cursor, output: &mut [u8]) -> Step {
-    let step = raw::step(*node, lists.in_order(), batch, cursor, output);
+pub fn step(
+    edition: u64,
+    node: &Node,
+    lists: &Lists,
+    batch: &[u8],
+    cursor: Cursor,
+    output: &mut [u8],
+) -> Step {
+    let step = raw::step(edition, *node, lists.in_order(), batch, cursor, output);
     match step.kind {
         raw::ANSWERED => Step::Answered(Answer::of(step.answer), step.next),
         raw::ENDED => Step::Ended,

@@ -1,6 +1,6 @@
 //! The transmit queue (02, W-206 and W-207).
 
-use crate::raw::{self, QUEUE_BYTES, QUEUE_LENGTH, QUEUE_PDUS};
+use crate::raw::{self, EDITION_1_2, QUEUE_BYTES, QUEUE_LENGTH, QUEUE_PDUS};
 use crate::{Level, Refusal};
 use std::fmt;
 
@@ -65,7 +65,7 @@ impl Queue {
         let bytes = self.level().bytes.min(QUEUE_BYTES);
         let mut rest = &self.memory[NUMBERS..NUMBERS + bytes];
         let pdus = std::iter::from_fn(move || {
-            let length = raw::read(rest).pdu_length;
+            let length = raw::read(EDITION_1_2, rest).pdu_length;
             let (pdu, behind) = rest.split_at(length);
             rest = behind;
             (length > 0).then_some(pdu)

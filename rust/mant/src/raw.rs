@@ -14,6 +14,7 @@ pub struct Header {
     pub path_bit: bool,
     pub has_destination: bool,
     pub port: u8,
+    pub has_encrypted: bool,
     pub encrypted: bool,
     pub reserved: u8,
     pub ack: bool,
@@ -53,6 +54,7 @@ pub struct Exchange {
 #[repr(C)]
 #[derive(Clone, Copy, Debug, Default, PartialEq, Eq)]
 pub struct Fresh {
+    pub edition: u64,
     pub source: u16,
     pub has_destination: bool,
     pub destination: u16,
@@ -62,6 +64,7 @@ pub struct Fresh {
     pub with_path: bool,
     pub reliable: bool,
     pub pdu_id: u8,
+    pub encrypted: bool,
 }
 
 /// `MantNode`.
@@ -184,6 +187,11 @@ pub struct Limits {
     pub batch: usize,
 }
 
+/// `MANT_EDITION_1_1`.
+pub const EDITION_1_1: u64 = 11;
+/// `MANT_EDITION_1_2`.
+pub const EDITION_1_2: u64 = 12;
+
 /// `MANT_ANSWERED`.
 pub const ANSWERED: u8 = 0;
 /// `MANT_ENDED`.
@@ -214,7 +222,7 @@ const _: () = {
     assert!(size_of::<Header>() == 40);
     assert!(size_of::<Written>() == 16);
     assert!(size_of::<Exchange>() == 40);
-    assert!(size_of::<Fresh>() == 32);
+    assert!(size_of::<Fresh>() == 40);
     assert!(size_of::<Node>() == 8);
     assert!(size_of::<Answer>() == 40);
     assert!(size_of::<Cursor>() == 16);
@@ -231,10 +239,10 @@ const _: () = {
 
 #[rustfmt::skip]
 extern "C" {
-    fn mant_read(bytes: *const u8, bytes_length: usize) -> Header;
+    fn mant_read(edition: u64, bytes: *const u8, bytes_length: usize) -> Header;
     fn mant_path_address(bytes: *const u8, bytes_length: usize, place: usize) -> u16;
     fn mant_path_has(bytes: *const u8, bytes_length: usize, address: u16) -> bool;
-    fn mant_write_again(bytes: *const u8, bytes_length: usize, output: *mut u8, output_length: usize) -> Written;
+    fn mant_write_again(edition: u64, bytes: *const u8, bytes_length: usize, output: *mut u8, output_length: usize) -> Written;
     fn mant_read_exchange(bytes: *const u8, bytes_length: usize) -> Exchange;
     fn mant_write_exchange(bytes: *const u8, bytes_length: usize, output: *mut u8, output_length: usize) -> Written;
     fn mant_originate(settings: Fresh, payload: *const u8, payload_length: usize, output: *mut u8, output_length: usize) -> Written;
@@ -244,7 +252,7 @@ extern "C" {
     ) -> u8;
     fn mant_list_holds(list: *const u16, list_length: usize, address: u16) -> bool;
     fn mant_hear(
-        settings: Node,
+        edition: u64, settings: Node,
         source_pass: *const u16, source_pass_length: usize, source_reject: *const u16, source_reject_length: usize,
         destination_pass: *const u16, destination_pass_length: usize, destination_reject: *const u16, destination_reject_length: usize,
         received: *const u8, received_length: usize, output: *mut u8, output_length: usize,
@@ -252,7 +260,7 @@ extern "C" {
     // The cursor goes as its two fields. By then the registers are taken on both processors, so either way it lies on the stack, 8 bytes for each; as a
     // struct it would be copied there whole right after its fields were written one by one, which is slow.
     fn mant_step(
-        settings: Node,
+        edition: u64, settings: Node,
         source_pass: *const u16, source_pass_length: usize, source_reject: *const u16, source_reject_length: usize,
         destination_pass: *const u16, destination_pass_length: usize, destination_reject: *const u16, destination_reject_length: usize,
         batch: *const u8, batch_length: usize, cursor_place: usize, cursor_ended: bool, output: *mut u8, output_length: usize,
@@ -265,7 +273,7 @@ extern "C" {
     fn mant_count_heard(table: *mut u16, table_words: usize, heard: Heard) -> u8;
     fn mant_count_answer(table: *mut u16, table_words: usize, received: *const u8, received_length: usize, answer: Answer) -> u8;
     fn mant_hear_and_count(
-        settings: Node,
+        edition: u64, settings: Node,
         source_pass: *const u16, source_pass_length: usize, source_reject: *const u16, source_reject_length: usize,
         destination_pass: *const u16, destination_pass_length: usize, destination_reject: *const u16, destination_reject_length: usize,
         received: *const u8, received_length: usize, output: *mut u8, output_length: usize, table: *mut u16, table_words: usize,
@@ -285,11 +293,11 @@ pub type Lists<'a> = [&'a [u16]; 4];
 
 /// `mant_read`.
 #[inline]
-pub fn read(bytes: &[u8]) -> Header {
+pub fn read(edition: u64, bytes: &[u8]) -> Header {
     // SAFETY: as in every call here, pointers and lengths are those of live
     // slices, and an output, a table or a queue that is changed is borrowed
     // alone.
-    unsafe { mant_read(bytes.as_ptr(), bytes.len()) }
+    unsafe { mant_read(edition, bytes.as_ptr(), bytes.len()) }
 }
 
 /// `mant_path_address`.
@@ -305,10 +313,11 @@ pub fn path_has(bytes: &[u8], address: u16) -> bool {
 }
 
 /// `mant_write_again`.
-pub fn write_again(bytes: &[u8], output: &mut [u8]) -> Written {
+pub fn write_again(edition: u64, bytes: &[u8], output: &mut [u8]) -> Written {
     // SAFETY: as above.
     unsafe {
         mant_write_again(
+            edition,
             bytes.as_ptr(),
             bytes.len(),
             output.as_mut_ptr(),
@@ -379,11 +388,18 @@ pub fn list_holds(list: &[u16], address: u16) -> bool {
 
 /// `mant_hear`.
 #[inline]
-pub fn hear(settings: Node, lists: Lists, received: &[u8], output: &mut [u8]) -> Answer {
+pub fn hear(
+    edition: u64,
+    settings: Node,
+    lists: Lists,
+    received: &[u8],
+    output: &mut [u8],
+) -> Answer {
     let [a, b, c, d] = lists;
     // SAFETY: as above.
     unsafe {
         mant_hear(
+            edition,
             settings,
             a.as_ptr(),
             a.len(),
@@ -403,11 +419,19 @@ pub fn hear(settings: Node, lists: Lists, received: &[u8], output: &mut [u8]) ->
 
 /// `mant_step`.
 #[inline]
-pub fn step(settings: Node, lists: Lists, batch: &[u8], cursor: Cursor, output: &mut [u8]) -> Step {
+pub fn step(
+    edition: u64,
+    settings: Node,
+    lists: Lists,
+    batch: &[u8],
+    cursor: Cursor,
+    output: &mut [u8],
+) -> Step {
     let [a, b, c, d] = lists;
     // SAFETY: as above.
     unsafe {
         mant_step(
+            edition,
             settings,
             a.as_ptr(),
             a.len(),
@@ -481,6 +505,7 @@ pub fn count_answer(table: &mut [u16], received: &[u8], answer: Answer) -> u8 {
 /// `mant_hear_and_count`.
 #[inline]
 pub fn hear_and_count(
+    edition: u64,
     settings: Node,
     lists: Lists,
     received: &[u8],
@@ -491,6 +516,7 @@ pub fn hear_and_count(
     // SAFETY: as above.
     unsafe {
         mant_hear_and_count(
+            edition,
             settings,
             a.as_ptr(),
             a.len(),

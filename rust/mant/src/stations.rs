@@ -119,13 +119,15 @@ impl Stations {
     /// be read, also where a list then stops it.
     pub fn hear(
         &mut self,
+        edition: u64,
         node: &Node,
         lists: &Lists,
         received: &[u8],
         output: &mut [u8],
     ) -> Listened {
         let lists = lists.in_order();
-        let listened = raw::hear_and_count(*node, lists, received, output, &mut self.words);
+        let table = &mut self.words;
+        let listened = raw::hear_and_count(edition, *node, lists, received, output, table);
         Listened {
             answer: Answer::of(listened.answer),
             table: Refusal::check(listened.table_number),

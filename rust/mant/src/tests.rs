@@ -2,6 +2,8 @@
 
 use super::*;
 
+const EDITION: u64 = EDITION_1_2;
+
 const PAYLOAD: [u8; 11] = [
     0x70, 0x01, 0x08, 0x12, 0x12, 0x03, 0x24, 0x13, 0x22, 0x02, 0x76,
 ];
@@ -39,25 +41,31 @@ fn node(own: u16) -> Node {
 
 #[test]
 fn the_example_is_read() {
-    let header = read(&example()).unwrap();
+    let header = read(EDITION, &example()).unwrap();
     assert_eq!((header.protocol, header.port, header.hop_limit), (0, 0, 1));
     assert_eq!((header.source, header.destination), (1000, Some(1600)));
     assert_eq!((header.pdu_id, header.path_count), (None, Some(0)));
     assert_eq!(header.last_sender, Some(1000));
-    assert_eq!(read(&repeated()).unwrap().last_sender, Some(2000));
-    assert_eq!(read(&[0, 0, 0, 0, 0, 5]).unwrap().last_sender, None);
-    assert_eq!(read(&[2, 0, 0, 0, 0, 0, 0]).unwrap().last_sender, Some(0));
+    assert_eq!(read(EDITION, &repeated()).unwrap().last_sender, Some(2000));
+    assert_eq!(
+        read(EDITION, &[0, 0, 0, 0, 0, 5]).unwrap().last_sender,
+        None
+    );
+    assert_eq!(
+        read(EDITION, &[2, 0, 0, 0, 0, 0, 0]).unwrap().last_sender,
+        Some(0)
+    );
     assert_eq!(header.payload, 9..20);
-    assert_eq!(read(&example()[..19]), Err(Refusal::PayloadCut));
-    assert_eq!(read(&[]), Err(Refusal::TooShort));
+    assert_eq!(read(EDITION, &example()[..19]), Err(Refusal::PayloadCut));
+    assert_eq!(read(EDITION, &[]), Err(Refusal::TooShort));
 }
 
 #[test]
 fn the_example_is_written_again() {
     let mut output = [0xAA; 21];
-    assert_eq!(write_again(&example(), &mut output), Ok(20));
+    assert_eq!(write_again(EDITION, &example(), &mut output), Ok(20));
     assert_eq!((&output[..20], output[20]), (&example()[..], 0xAA));
-    let refused = write_again(&example(), &mut output[..19]);
+    let refused = write_again(EDITION, &example(), &mut output[..19]);
     assert_eq!(refused, Err(Refusal::OutputTooShort));
 }
 
@@ -78,16 +86,16 @@ fn the_example_is_originated() {
 fn the_example_at_node_2000() {
     let mut output = [0xAA; 30];
     let lists = Lists::default();
-    let answer = hear(&node(2000), &lists, &example(), &mut output);
+    let answer = hear(EDITION, &node(2000), &lists, &example(), &mut output);
     assert_eq!(answer.delivery, Err(Refusal::ForAnother));
     assert_eq!((answer.repeat, answer.taken), (Ok(22), 20));
     assert_eq!(answer.last_sender, Some(1000));
     assert_eq!(output[..22], repeated());
     assert_eq!(output[22..], [0xAA; 8]);
-    let again = hear(&node(2000), &lists, &repeated(), &mut output);
+    let again = hear(EDITION, &node(2000), &lists, &repeated(), &mut output);
     assert_eq!(again.repeat, Err(Refusal::Echo));
     assert_eq!(again.last_sender, Some(2000));
-    let unread = hear(&node(2000), &lists, &example()[..19], &mut output);
+    let unread = hear(EDITION, &node(2000), &lists, &example()[..19], &mut output);
     assert_eq!(unread.last_sender, None);
 }
 
@@ -99,7 +107,7 @@ fn a_node_drops_its_own_report() {
     let own = Some(Refusal::OwnReport);
     for report in [example(), repeated(), vec![0, 0, 0x70, 0, 0x03, 0xE8]] {
         let answer = stations
-            .hear(&originator, &lists, &report, &mut output)
+            .hear(EDITION, &originator, &lists, &report, &mut output)
             .answer;
         assert_eq!((answer.delivery.err(), answer.repeat.err()), (own, own));
         assert_eq!((answer.taken, output), (report.len(), [0xAA; 30]));
@@ -110,14 +118,14 @@ fn a_node_drops_its_own_report() {
         echo: false,
         ..originator
     };
-    let answer = hear(&off, &lists, &example(), &mut output);
+    let answer = hear(EDITION, &off, &lists, &example(), &mut output);
     assert_eq!(answer.delivery, Err(Refusal::ForAnother));
     assert_eq!(answer.repeat, Ok(22));
 }
 
 #[test]
 fn the_example_at_its_destination() {
-    let answer = hear(&node(1600), &Lists::default(), &example(), &mut []);
+    let answer = hear(EDITION, &node(1600), &Lists::default(), &example(), &mut []);
     assert_eq!(answer.delivery, Ok(9..20));
     assert_eq!(answer.repeat, Err(Refusal::ForThisNode));
 }
@@ -128,9 +136,14 @@ fn the_job_of_01_is_walked() {
     let mut output = [0; 4615];
     let mut cursor = Cursor::default();
     let mut numbers = vec![];
-    while let Step::Answered(answer, next) =
-        step(&node(2000), &Lists::default(), &batch, cursor, &mut output)
-    {
+    while let Step::Answered(answer, next) = step(
+        EDITION,
+        &node(2000),
+        &Lists::default(),
+        &batch,
+        cursor,
+        &mut output,
+    ) {
         numbers.push((cursor.place, answer.delivery.is_ok(), answer.repeat));
         cursor = next;
     }
@@ -138,6 +151,7 @@ fn the_job_of_01_is_walked() {
     assert_eq!((numbers, cursor.place), (wanted.to_vec(), 26));
     let long = [0; 16_385];
     let refused = step(
+        EDITION,
         &node(1),
         &Lists::default(),
         &long,
@@ -145,6 +159,78 @@ fn the_job_of_01_is_walked() {
         &mut [],
     );
     assert_eq!(refused, Step::Refused(Refusal::BatchTooLong));
+}
+
+#[test]
+fn editions_show_three_bits() {
+    let pdu = [0, 0xBA, 0x20, 0, 0, 5];
+    let bits = |edition| read(edition, &pdu).map(|header| header.bits);
+    assert_eq!(bits(EDITION_1_1), Ok(Bits::Reserved(5)));
+    let flagged = Bits::Flagged {
+        encrypted: true,
+        reserved: 1,
+    };
+    assert_eq!(bits(EDITION_1_2), Ok(flagged));
+    for edition in [EDITION_1_1, EDITION_1_2] {
+        let mut output = [0xAA; 7];
+        assert_eq!(write_again(edition, &pdu, &mut output), Ok(6));
+        assert_eq!(output, [0, 0xBA, 0x20, 0, 0, 5, 0xAA]);
+        let answer = hear(edition, &node(2000), &Lists::default(), &pdu, &mut output);
+        assert_eq!((answer.repeat, output[2]), (Ok(6), 0x10));
+    }
+}
+
+#[test]
+fn other_editions_are_refused() {
+    let (unknown, pdu) = (Refusal::UnknownEdition, example());
+    let lists = Lists {
+        source_pass: &[1],
+        ..Lists::default()
+    };
+    for edition in [0, 1, 10, 13, (1 << 32) + 11, (1 << 32) + 12, u64::MAX] {
+        let mut output = [0xAA; 30];
+        assert_eq!(read(edition, &pdu), Err(unknown));
+        assert_eq!(write_again(edition, &[], &mut output), Err(unknown));
+        let fresh = Fresh {
+            edition,
+            hop_limit: 8,
+            ..fresh()
+        };
+        assert_eq!(originate(&fresh, &PAYLOAD, &mut output), Err(unknown));
+        let answer = hear(edition, &node(2000), &lists, &pdu, &mut output);
+        assert_eq!(answer.delivery, Err(unknown));
+        assert_eq!((answer.repeat, answer.taken), (Err(unknown), 0));
+        let mut stations = Stations::new();
+        let listened = stations.hear(edition, &node(2000), &lists, &pdu, &mut output);
+        assert_eq!((&listened.answer, listened.table), (&answer, Ok(())));
+        assert!(stations.is_empty());
+        let (node, long) = (node(2000), [0; 16_385]);
+        let walked = |cursor| step(edition, &node, &lists, &long, cursor, &mut [0; 30]);
+        let next = Cursor {
+            place: 0,
+            ended: true,
+        };
+        assert_eq!(walked(Cursor::default()), Step::Answered(answer, next));
+        assert_eq!(walked(next), Step::Ended);
+        assert_eq!(output, [0xAA; 30]);
+    }
+}
+
+#[test]
+fn the_flag_is_set_under_1_2() {
+    let mut output = [0; 21];
+    let encrypted = Fresh {
+        encrypted: true,
+        ..fresh()
+    };
+    assert_eq!(originate(&encrypted, &PAYLOAD, &mut output), Ok(20));
+    assert_eq!((output[0], output[1]), (0x03, 0x08));
+    let under_1_1 = Fresh {
+        edition: EDITION_1_1,
+        ..encrypted
+    };
+    let refused = originate(&under_1_1, &PAYLOAD, &mut []);
+    assert_eq!(refused, Err(Refusal::NoEncryptedFlag));
 }
 
 #[test]
@@ -233,12 +319,12 @@ fn the_example_is_counted() {
     let mut stations = Stations::default();
     let mut output = [0; 30];
     let (node, lists) = (node(2000), Lists::default());
-    let listened = stations.hear(&node, &lists, &example(), &mut output);
-    let answer = hear(&node, &lists, &example(), &mut [0; 30]);
+    let listened = stations.hear(EDITION, &node, &lists, &example(), &mut output);
+    let answer = hear(EDITION, &node, &lists, &example(), &mut [0; 30]);
     assert_eq!((listened.answer, listened.table), (answer, Ok(())));
     assert_eq!(output[..22], repeated());
-    stations.hear(&node, &lists, &repeated(), &mut output);
-    stations.hear(&node, &lists, &example()[..19], &mut output);
+    stations.hear(EDITION, &node, &lists, &repeated(), &mut output);
+    stations.hear(EDITION, &node, &lists, &example()[..19], &mut output);
     let station = Station {
         address: 1000,
         reads: 2,
@@ -259,9 +345,14 @@ fn a_walk_is_counted() {
     let batch = [&example()[..], &[0, 0, 0, 0, 0, 5], &[1]].concat();
     let mut stations = Stations::default();
     let (mut output, mut cursor) = ([0; 4615], Cursor::default());
-    while let Step::Answered(answer, next) =
-        step(&node(2000), &Lists::default(), &batch, cursor, &mut output)
-    {
+    while let Step::Answered(answer, next) = step(
+        EDITION,
+        &node(2000),
+        &Lists::default(),
+        &batch,
+        cursor,
+        &mut output,
+    ) {
         let counted = stations.count_answer(&batch[cursor.place..], &answer);
         assert_eq!(counted, Ok(()));
         cursor = next;
@@ -282,13 +373,25 @@ fn a_full_table() {
         assert_eq!(stations.count(&heard), Ok(()));
     }
     let before = stations.clone();
-    let listened = stations.hear(&node(2000), &Lists::default(), &from(999), &mut [0; 30]);
+    let listened = stations.hear(
+        EDITION,
+        &node(2000),
+        &Lists::default(),
+        &from(999),
+        &mut [0; 30],
+    );
     assert_eq!(
         (listened.answer.repeat, number(listened.table)),
         (Ok(22), 55)
     );
     assert_eq!((stations.len(), &stations), (Stations::LIMIT, &before));
-    let listened = stations.hear(&node(2000), &Lists::default(), &from(127), &mut [0; 30]);
+    let listened = stations.hear(
+        EDITION,
+        &node(2000),
+        &Lists::default(),
+        &from(127),
+        &mut [0; 30],
+    );
     assert_eq!(listened.table, Ok(()));
     assert_eq!(stations.get(127).map(|station| station.reads), Ok(2));
     let addresses = stations.iter().map(|station| station.address);

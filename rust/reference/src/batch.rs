@@ -1,8 +1,11 @@
-//! 01, "A batch"; number 54.
+//! 01, "A batch"; number 54. 02, W-209: the walk's edition.
 
+use crate::edition::Edition;
 use crate::lists::Lists;
 use crate::node::{hear, Answer, Settings};
-use crate::numbers::{BATCH_SIZE, FEWER_THAN_6, LONG_LIST, LOW_ABOVE_HIGH, PAYLOAD_PAST_END};
+use crate::numbers::{
+    BATCH_SIZE, FEWER_THAN_6, LONG_LIST, LOW_ABOVE_HIGH, PAYLOAD_PAST_END, UNKNOWN_EDITION,
+};
 
 /// 01, "Sizes": a batch is 0 to 16,384 bytes.
 pub const MOST_BATCH: usize = 16_384;
@@ -28,15 +31,22 @@ pub struct Walk {
 }
 
 /// Walks the batch; each repeated PDU is written at the start of the same
-/// output. Over 16,384 bytes the answer is 54 alone.
-pub fn walk(settings: &Settings, lists: &Lists, batch: &[u8], out: &mut [u8]) -> Result<Walk, u8> {
-    if batch.len() > MOST_BATCH {
+/// output. Over 16,384 bytes the answer is 54 alone; 17, "before every other
+/// check", is the answer for a PDU, and where there is none, none is given.
+pub fn walk(
+    edition: u64,
+    settings: &Settings,
+    lists: &Lists,
+    batch: &[u8],
+    out: &mut [u8],
+) -> Result<Walk, u8> {
+    if Edition::of(edition).is_ok() && batch.len() > MOST_BATCH {
         return Err(BATCH_SIZE);
     }
     let mut steps = Vec::new();
     let mut end = 0;
     while end < batch.len() {
-        let answer = hear(settings, lists, &batch[end..], out);
+        let answer = hear(edition, settings, lists, &batch[end..], out);
         steps.push(Step {
             offset: end,
             answer,
@@ -50,8 +60,9 @@ pub fn walk(settings: &Settings, lists: &Lists, batch: &[u8], out: &mut [u8]) ->
     Ok(Walk { steps, end })
 }
 
-/// "At 1 to 6 or a list fault it ends there."
+/// "At 1 to 6 or a list fault it ends there"; 17 "ends a walk".
 fn ends_the_walk(number: u8) -> bool {
     (FEWER_THAN_6..=PAYLOAD_PAST_END).contains(&number)
         || (LOW_ABOVE_HIGH..=LONG_LIST).contains(&number)
+        || number == UNKNOWN_EDITION
 }

@@ -1,6 +1,7 @@
 //! 01, "The program `relay`"; numbers 50 to 54, and 20.
 
 use crate::batch::{walk, Step, MOST_BATCH};
+use crate::edition::EDITION_1_2;
 use crate::header::MOST_PDU;
 use crate::lists::{Lists, MOST_RANGES};
 use crate::node::Settings;
@@ -96,7 +97,8 @@ pub fn relay(bytes: &[u8]) -> String {
     }
 }
 
-/// The text of a job that could be read.
+/// The text of a job that could be read. A job has no edition; its text is the
+/// same under both.
 fn job_text(job: &Job) -> Result<String, u8> {
     let [source_pass, source_reject, destination_pass, destination_reject] = &job.lists;
     let lists = Lists {
@@ -105,7 +107,8 @@ fn job_text(job: &Job) -> Result<String, u8> {
         destination_pass,
         destination_reject,
     };
-    let walked = walk(&job.settings, &lists, &job.batch, &mut [0; MOST_PDU])?;
+    let out = &mut [0; MOST_PDU];
+    let walked = walk(EDITION_1_2, &job.settings, &lists, &job.batch, out)?;
     let mut text = format!("relay {}\n", job.settings.own_address);
     for (place, step) in walked.steps.iter().enumerate() {
         text.push_str(&pdu_line(place + 1, step));

@@ -6,6 +6,7 @@
 //! with but the words of the numbers, in docs/NUMBERS.md.
 
 mod batch;
+mod edition;
 mod exchange;
 mod flood;
 mod header;
@@ -21,6 +22,7 @@ mod stations;
 mod writing;
 
 pub use batch::{walk, Step, Walk, MOST_BATCH};
+pub use edition::{read_under, Bits, Edition, Shown, EDITION_1_1, EDITION_1_2};
 pub use exchange::{read_exchange, write_exchange, Exchange, MOST_EXCHANGE};
 pub use flood::{bound, bytes_bound, longest_path};
 pub use header::{read, Header, FIXED_LENGTH, MOST_PATH, MOST_PAYLOAD, MOST_PDU};

@@ -1,6 +1,8 @@
-//! 01, "One PDU at one node"; numbers 30 to 41. 02, W-203; number 42.
+//! 01, "One PDU at one node"; numbers 30 to 41. 02, W-203; number 42. 02,
+//! W-209: the node's edition.
 
-use crate::header::{read, Header, MOST_PATH};
+use crate::edition::{read_under, Edition, Shown};
+use crate::header::{Header, MOST_PATH};
 use crate::lists::{holds, list_fault, Lists};
 use crate::numbers::{
     ADDED_HEADER, DESTINATION_PASS, DESTINATION_REJECT, DONE, ECHO, FOR_ANOTHER, HOP_LIMIT_0,
@@ -40,7 +42,7 @@ pub struct Answer {
     /// The length of the repeated PDU in the output, 0 where there is none.
     pub repeated_length: usize,
     /// Where the next PDU begins in the received bytes, 0 where this one
-    /// can't be read or a list is at fault.
+    /// can't be read, a list is at fault or the edition is unknown.
     pub taken: usize,
     /// 02, W-205: the last sender, "whenever the PDU was read"; `None` where it
     /// is unknown.
@@ -66,14 +68,23 @@ impl Answer {
     }
 }
 
-/// One PDU at one node, in the order of 01. The output changes only where the
-/// repeat number is 0, and only as far as the repeated PDU goes.
-pub fn hear(settings: &Settings, lists: &Lists, received: &[u8], out: &mut [u8]) -> Answer {
+/// One PDU at one node, in the order of 01; 17 first. The output changes only
+/// where the repeat number is 0, and only as far as the repeated PDU goes.
+pub fn hear(
+    edition: u64,
+    settings: &Settings,
+    lists: &Lists,
+    received: &[u8],
+    out: &mut [u8],
+) -> Answer {
+    if let Err(number) = Edition::of(edition) {
+        return Answer::unread(number);
+    }
     let fault = list_fault(lists);
     if fault != DONE {
         return Answer::unread(fault);
     }
-    let header = match read(received) {
+    let header = match read_under(edition, received).map(Shown::header) {
         Ok(header) => header,
         Err(number) => return Answer::unread(number),
     };

@@ -1,5 +1,6 @@
 //! 02, W-201: the stations heard; numbers 55 and 56.
 
+use crate::edition::Edition;
 use crate::header::{read, Header};
 use crate::lists::{list_fault, Lists};
 use crate::node::{hear, Answer, Settings};
@@ -125,18 +126,19 @@ pub fn counts_as_echo(delivery: u8) -> bool {
     [ECHO, OWN_SOURCE].contains(&delivery)
 }
 
-/// One PDU at one node, and then in its table. It counts if it was read; a
-/// list's fault comes before reading, a list's refusal after it. Gives the
-/// node's answer and the table's number.
+/// One PDU at one node, and then in its table. It counts if it was read; an
+/// unknown edition and a list's fault come before reading, a list's refusal
+/// after it. Gives the node's answer and the table's number.
 pub fn hear_and_count(
+    edition: u64,
     settings: &Settings,
     lists: &Lists,
     received: &[u8],
     out: &mut [u8],
     stations: &mut Stations,
 ) -> (Answer, u8) {
-    let answer = hear(settings, lists, received, out);
-    if list_fault(lists) != DONE {
+    let answer = hear(edition, settings, lists, received, out);
+    if Edition::of(edition).is_err() || list_fault(lists) != DONE {
         return (answer, DONE);
     }
     let number = match read(received) {

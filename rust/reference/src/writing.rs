@@ -1,7 +1,9 @@
 //! 01, "Header, byte by byte" the other way, and "Numbers answered": a PDU
-//! can be written again from what reading shows of it; number 14.
+//! can be written again from what reading shows of it; number 14. 02, W-209:
+//! under an edition.
 
-use crate::header::{read, Header};
+use crate::edition::read_under;
+use crate::header::Header;
 use crate::numbers::{DONE, OUTPUT_SHORT};
 
 /// Writes a header and its payload at the start of the output, or leaves the
@@ -17,11 +19,14 @@ pub fn write(header: &Header, payload: &[u8], out: &mut [u8]) -> (u8, usize) {
     (DONE, pdu.len())
 }
 
-/// Reads the PDU at the start of the bytes and writes it again from what
-/// reading shows: 1 to 6, then 14.
-pub fn write_again(bytes: &[u8], out: &mut [u8]) -> (u8, usize) {
-    match read(bytes) {
-        Ok(header) => write(&header, header.payload(bytes), out),
+/// Reads the PDU at the start of the bytes under an edition and writes it again
+/// from what reading shows: 17, 1 to 6, then 14.
+pub fn write_again(edition: u64, bytes: &[u8], out: &mut [u8]) -> (u8, usize) {
+    match read_under(edition, bytes) {
+        Ok(shown) => {
+            let payload = shown.others.payload(bytes);
+            write(&shown.header(), payload, out)
+        }
         Err(number) => (number, 0),
     }
 }

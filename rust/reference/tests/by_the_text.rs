@@ -19,7 +19,7 @@ fn node(own_address: u16) -> Settings {
 }
 
 fn numbers(settings: &Settings, lists: &Lists, received: &[u8]) -> (u8, u8) {
-    let answer = hear(settings, lists, received, &mut [0; MOST_PDU]);
+    let answer = hear(EDITION_1_2, settings, lists, received, &mut [0; MOST_PDU]);
     (answer.delivery, answer.repeat)
 }
 
@@ -64,10 +64,13 @@ fn written_again() {
     let mut received = FULL.to_vec();
     received.push(0x77);
     let mut out = [0xAA; 20];
-    assert_eq!(write_again(&received, &mut out[..16]), (14, 0));
-    assert_eq!(write_again(&received[..13], &mut out[..0]), (5, 0));
+    assert_eq!(write_again(EDITION_1_2, &received, &mut out[..16]), (14, 0));
+    assert_eq!(
+        write_again(EDITION_1_2, &received[..13], &mut out[..0]),
+        (5, 0)
+    );
     assert_eq!(out, [0xAA; 20]);
-    assert_eq!(write_again(&received, &mut out), (0, 17));
+    assert_eq!(write_again(EDITION_1_2, &received, &mut out), (0, 17));
     assert_eq!((&out[..17], &out[17..]), (&FULL[..], &[0xAA; 3][..]));
 }
 
@@ -75,6 +78,8 @@ fn written_again() {
 #[test]
 fn origination_in_order() {
     let mut settings = Origination {
+        edition: EDITION_1_2,
+        encrypted: false,
         reliable: true,
         time_stamp_request: true,
         path: false,
@@ -103,6 +108,8 @@ fn origination_in_order() {
 #[test]
 fn best_efforts_has_no_pdu_id() {
     let settings = Origination {
+        edition: EDITION_1_2,
+        encrypted: false,
         reliable: false,
         time_stamp_request: false,
         path: true,
@@ -202,11 +209,23 @@ fn delivery_and_repeating() {
 fn repeat_needs_room() {
     let received = [2, 0, 0x60, 1, 0, 1, 0, 0x55];
     let mut out = [0xAA; 12];
-    let answer = hear(&node(9), &Lists::EMPTY, &received, &mut out[..9]);
+    let answer = hear(
+        EDITION_1_2,
+        &node(9),
+        &Lists::EMPTY,
+        &received,
+        &mut out[..9],
+    );
     assert_eq!((answer.delivery, answer.repeat), (40, 40));
     assert_eq!((answer.delivered, answer.repeated_length), ((0, 0), 0));
     assert_eq!((answer.taken, out), (8, [0xAA; 12]));
-    let answer = hear(&node(9), &Lists::EMPTY, &received, &mut out[..10]);
+    let answer = hear(
+        EDITION_1_2,
+        &node(9),
+        &Lists::EMPTY,
+        &received,
+        &mut out[..10],
+    );
     assert_eq!((answer.delivery, answer.repeat), (0, 0));
     assert_eq!((answer.delivered, answer.repeated_length), ((7, 1), 10));
     let repeated = [2, 0, 0x50, 1, 0, 1, 1, 0, 9, 0x55, 0xAA, 0xAA];
@@ -219,7 +238,7 @@ fn hop_limits() {
     for hop in 0..=7u8 {
         let received = [0, 0, hop << 4, 0, 0, 1];
         let mut out = [0xAA; 6];
-        let answer = hear(&node(9), &Lists::EMPTY, &received, &mut out);
+        let answer = hear(EDITION_1_2, &node(9), &Lists::EMPTY, &received, &mut out);
         match hop {
             0 => assert_eq!((answer.repeat, out), (37, [0xAA; 6])),
             7 => assert_eq!((answer.repeat, out[2]), (0, 0x70)),
@@ -236,7 +255,7 @@ fn walk_ends_at_a_pdu_that_cannot_be_read() {
         0, 0, 16, 0, 0, 1, // for everyone
         0, 0, 0, 9, 0, 1, // its payload is missing
     ];
-    let walked = walk(&node(9), &Lists::EMPTY, &batch, &mut [0; 6]).unwrap();
+    let walked = walk(EDITION_1_2, &node(9), &Lists::EMPTY, &batch, &mut [0; 6]).unwrap();
     let lines: Vec<_> = walked
         .steps
         .iter()
@@ -251,7 +270,7 @@ fn walk_ends_at_a_pdu_that_cannot_be_read() {
 #[test]
 fn walk_goes_on_after_40() {
     let batch = [0, 0, 16, 0, 0, 1, 0, 0, 0, 0, 0, 1];
-    let walked = walk(&node(9), &Lists::EMPTY, &batch, &mut [0; 5]).unwrap();
+    let walked = walk(EDITION_1_2, &node(9), &Lists::EMPTY, &batch, &mut [0; 5]).unwrap();
     assert_eq!(walked.steps.len(), 2);
     assert_eq!(walked.steps[0].answer.repeat, 40);
     assert_eq!(walked.end, 12);
@@ -261,7 +280,7 @@ fn walk_goes_on_after_40() {
 #[test]
 fn walk_limits() {
     let bad = Lists::of([&[1], &[], &[], &[]]);
-    let walk_of = |length| walk(&node(9), &bad, &vec![0; length], &mut []);
+    let walk_of = |length| walk(EDITION_1_2, &node(9), &bad, &vec![0; length], &mut []);
     assert_eq!(walk_of(16_385), Err(54));
     let full = walk_of(16_384).unwrap();
     assert_eq!((full.steps.len(), full.end), (1, 0));
@@ -318,7 +337,7 @@ fn the_last_sender_is_read() {
 #[test]
 fn the_last_sender_is_carried_on() {
     let at = |settings: &Settings, lists: &Lists, received: &[u8], room: usize| {
-        let answer = hear(settings, lists, received, &mut vec![0; room]);
+        let answer = hear(EDITION_1_2, settings, lists, received, &mut vec![0; room]);
         (answer.delivery, answer.last_sender)
     };
     let passing_none = Settings {
@@ -342,8 +361,14 @@ fn the_last_sender_is_carried_on() {
 #[test]
 fn a_repeat_is_heard_from_its_repeater() {
     let mut out = [0; MOST_PDU];
-    let length = hear(&node(9), &Lists::EMPTY, &FULL, &mut out).repeated_length;
-    let heard = hear(&node(8), &Lists::EMPTY, &out[..length], &mut [0; MOST_PDU]);
+    let length = hear(EDITION_1_2, &node(9), &Lists::EMPTY, &FULL, &mut out).repeated_length;
+    let heard = hear(
+        EDITION_1_2,
+        &node(8),
+        &Lists::EMPTY,
+        &out[..length],
+        &mut [0; MOST_PDU],
+    );
     assert_eq!(heard.last_sender, Some(9));
     let batch = [2, 0, 0, 0, 0, 0, 0, 0, 0, 0, 0, 0, 5, 9];
     let job = [&[0, 9, 3, 0, 0, 0, 0, 0, 14], &batch[..]].concat();

@@ -10,6 +10,8 @@ use std::collections::BTreeMap;
 fn flooded(network: &Network) -> BTreeMap<u16, usize> {
     let mut fresh = [0; MOST_PDU];
     let settings = Origination {
+        edition: EDITION_1_2,
+        encrypted: false,
         reliable: false,
         time_stamp_request: false,
         path: true,
@@ -48,7 +50,8 @@ fn hearers(network: &Network, sender: u16) -> Vec<u16> {
 }
 
 /// What a node with echo and repeating on and empty lists makes of a
-/// transmission: the path count if it delivers it, and what it sends.
+/// transmission: the path count if it delivers it, and what it sends. Nodes
+/// have edition 1.1 or 1.2 (02, W-209), here by their address.
 fn heard(node: u16, sent: &[u8]) -> (Option<usize>, Option<Vec<u8>>) {
     let settings = Settings {
         own_address: node,
@@ -56,8 +59,9 @@ fn heard(node: u16, sent: &[u8]) -> (Option<usize>, Option<Vec<u8>>) {
         repeating: true,
         ..Settings::default()
     };
+    let edition = [EDITION_1_1, EDITION_1_2][usize::from(node % 2)];
     let mut out = [0; MOST_PDU];
-    let answer = hear(&settings, &Lists::EMPTY, sent, &mut out);
+    let answer = hear(edition, &settings, &Lists::EMPTY, sent, &mut out);
     let count = read(sent).unwrap().path.unwrap().len();
     let (place, length) = answer.delivered;
     if answer.delivery == 0 {

@@ -1,10 +1,11 @@
 use mathlib.Core.Path.{refl}
 use Rattle.pdu.specs.Header.{headerOf}
+use Rattle.editions.specs.Editions.{shownWith}
 use Rattle.boundary.proofs.refused_header.Statement.{statement}
 use Rattle.boundary.proofs.refused_header.Tie as tie
 
 returns : tie.Need-returns
-unfolding headerOf
+unfolding headerOf shownWith
 returns c = refl
 
 pub refused-header-spec : {M : Type 1} → statement M

@@ -1,21 +1,26 @@
-use Prim.Native.Nat.{ℕ, _+_}
-use mathlib.Core.Path.{_≡_, ap, _∙_}
-use native.Mathlib.Omega.{arith}
-use denote.Ref.{now}
-use Rattle.octets.specs.Octets.{at}
-use Rattle.pdu.specs.Header.{payloadLength, headerOf}
-use Rattle.pdu.specs.Sizes.{pduLength}
-use Rattle.pdu.proofs.Showing.{pdu-length-shown}
-use Rattle.boundary.proofs.Shown.{count-is, id-is, head-is, sender-is, shown-is}
+use mathlib.Core.Path.{refl, ap, _∙_}
+use Rattle.pdu.specs.Sizes.{headerLength, pduLength}
 use borrow.Author.Needs.{needs}
 use Rattle.boundary.proofs.shown_header.Statement.{statement}
 use Rattle.boundary.proofs.shown_header.Tie as tie
 
-byte-requires : tie.Need-byte-requires
-byte-requires c κs = search needs
+wire-of-requires : tie.Need-wire-of-requires
+wire-of-requires c κs = search needs
 
-byte-requires-2 : tie.Need-byte-requires-2
-byte-requires-2 c κs = search needs
+has-destination-requires : tie.Need-has-destination-requires
+has-destination-requires c κs = search needs
+
+has-flag-requires : tie.Need-has-flag-requires
+has-flag-requires c κs = search needs
+
+flag-of-requires : tie.Need-flag-of-requires
+flag-of-requires c κs = search needs
+
+reserved-of-requires : tie.Need-reserved-of-requires
+reserved-of-requires c κs = search needs
+
+destination-address-requires : tie.Need-destination-address-requires
+destination-address-requires c κs = search needs
 
 byte-requires-3 : tie.Need-byte-requires-3
 byte-requires-3 c κs = search needs
@@ -64,43 +69,35 @@ add-t47 c = search needs
 
 returns : tie.Need-returns
 returns c =
-    let address = c .before in
-    let id = address .before in
-    let to = id .before .before in
-    let size = to .before in
-    let count = size .before in
-    let place = count .before in
-    let from = place .before in
-    let payload = from .before in
-    let third = payload .before in
-    let second = third .before in
-    let first = second .before in
-    let zeroth = first .before in
-    let bytes = now (zeroth .before .before .args .bytes) in
-    let e0 = zeroth .byte .ensures in
-    let e3 = payload .payload-length .ensures ∙ ap (λ (b : ℕ). payloadLength (second .byte3 .result) b) (third .byte4 .ensures) in
-    let all : payload .payload-length .result ≡ payloadLength (at bytes 2) (at bytes 3) =
-    e3 ∙ ap (λ (b : ℕ). payloadLength b (at bytes 3)) (second .byte3 .ensures) in
-    let counts = count-is bytes e0 (count .byte-if .ensures) (place .path-count-place .ensures .0) in
-    let head = head-is bytes e0 counts (size .header-length .ensures .0) in
-    let pdu : size .header-length .result + c .word-value .result ≡ pduLength (headerOf bytes) =
-    omega (arith, head, all, c .word-value .ensures .0, pdu-length-shown bytes) in
-    shown-is bytes e0 (first .byte2 .ensures) (second .byte3 .ensures) e3 (from .word .ensures) (to .word-if .ensures)
-    (id-is bytes e0 (id .byte-if2 .ensures) (id .before .byte-value .ensures .0)) counts
-    (sender-is bytes e0 counts (from .word .ensures) head (address .last-address .ensures)) head pdu
+    let sent = c .before .before in
+    let to = sent .before .before in
+    let bits = to .before in
+    let from = bits .before .before .before in
+    let wire = from .before .wire-of .ensures in
+    rw (
+      from .has-destination .ensures,
+      bits .before .before .has-flag .ensures,
+      bits .before .flag-of .ensures,
+      bits .reserved-of .ensures,
+      to .destination-address .ensures,
+      sent .before .has-sender .ensures,
+      sent .sender-address .ensures,
+      c .before .header-length .ensures .0 ∙ ap headerLength wire,
+      c .pdu-length .ensures .0 ∙ ap pduLength wire,
+    ) refl
 
 pub shown-header-spec : {M : Type 1} → statement M
 shown-header-spec =
     tie.close
     (tie.spec
-    byte-requires
-    byte-requires-2
-    byte-requires-3
-    byte-requires-4
-    payload-length-requires
-    word-requires
-    path-count-place-requires
-    byte-if-requires
+    wire-of-requires
+    has-destination-requires
+    has-flag-requires
+    flag-of-requires
+    reserved-of-requires
+    destination-address-requires
+    has-sender-requires
+    sender-address-requires
     header-length-requires
     word-if-requires
     byte-value-requires

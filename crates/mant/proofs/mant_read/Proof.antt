@@ -1,45 +1,63 @@
-use Prim.Native.Nat.{ℕ}
-use mathlib.Core.List.{List}
-use mathlib.Core.Path.{_≡_, ap, sym, _∙_}
-use native.Mathlib.Omega.{arith}
+use mathlib.Core.Path.{ap, sym, _∙_}
 use denote.Ref.{now}
-use Rattle.pdu.specs.declared.Reading.{Reading}
-use Rattle.pdu.specs.declared.Reading.the-variants.{Pdu, Refused}
-use Rattle.pdu.specs.Reading.{readOf, readingNumber}
-use Rattle.pdu.proofs.Number.{read-0}
-use Rattle.boundary.specs.Boundary.{headerInC, refusedHeader}
+use Rattle.pdu.specs.declared.Header.{Header}
+use Rattle.pdu.specs.Parts.{lastSender}
+use Rattle.editions.specs.declared.Reading.{Reading}
+use Rattle.boundary.specs.Boundary.{headerInC, shownHeader}
 use borrow.Author.Needs.{needs}
 use Rattle.mant.proofs.mant_read.Statement.{statement}
 use Rattle.mant.proofs.mant_read.Tie as tie
 
--- a number other than 0 alone is what a refusal shows
-refused-is : (reading : Reading) (bytes : List ℕ) {number : ℕ} → number ≡ readingNumber reading → (number ≡ 0 → ⊥)
-    → refusedHeader number ≡ headerInC reading bytes
-refused-is (Pdu header) bytes same some = absurd (some same)
-refused-is (Refused refusal) bytes same some = ap refusedHeader same
+read-requires : tie.Need-read-requires
+read-requires c κs = search needs
 
-fault-requires : tie.Need-fault-requires
-fault-requires c κs = search needs
+enum-known-reading : tie.Need-enum-known-reading
+enum-known-reading c = search needs
 
 refused-header-requires : tie.Need-refused-header-requires
 refused-header-requires c κs = search needs
 
-returns : tie.Need-returns
-returns c =
-    let bytes = now (c .before .before .before .before .args .bytes) in
-    c .refused-header .ensures ∙ refused-is (readOf bytes) bytes (c .before .before .fault .ensures) (λ none. omega arith)
+enum-known-reading-2 : tie.Need-enum-known-reading-2
+enum-known-reading-2 c = search needs
+
+wire-of-requires : tie.Need-wire-of-requires
+wire-of-requires c κs = search needs
+
+last-sender-requires : tie.Need-last-sender-requires
+last-sender-requires c κs = search needs
 
 shown-header-requires : tie.Need-shown-header-requires
 shown-header-requires c κs = search needs
 
+returns : tie.Need-returns
+returns c =
+    let refused = c .before .before in
+    let read = refused .before .before in
+    let bytes = now (read .before .before .args .bytes) in
+    c .refused-header .ensures
+    ∙ sym (ap (λ (reading : Reading). headerInC reading bytes) (sym (read .read .ensures) ∙ refused .reading .given .1))
+
 returns-2 : tie.Need-returns-2
 returns-2 c =
-    let e = c .before .before in
-    let bytes = now (e .before .before .args .bytes) in
-    let none : readingNumber (readOf bytes) ≡ 0 = omega (arith, e .fault .ensures) in
-    c .shown-header .ensures ∙ sym (ap (λ (reading : Reading). headerInC reading bytes) (read-0 bytes none))
+    let sent = c .before in
+    let shows = sent .before .before .before in
+    let read = shows .before .before in
+    let bytes = now (read .before .before .args .bytes) in
+    let shown = shows .reading2 .given .0 .0 in
+    let sender = sent .last-sender .ensures ∙ ap (λ (header : Header). lastSender header bytes) (sent .before .wire-of .ensures) in
+    c .shown-header .ensures ∙ ap (shownHeader shown) sender
+    ∙ sym (ap (λ (reading : Reading). headerInC reading bytes) (sym (read .read .ensures) ∙ shows .reading2 .given .1))
 
 pub mant-read-spec : {M : Type 1} → statement M
 mant-read-spec =
     tie.close
-    (tie.spec fault-requires refused-header-requires returns shown-header-requires returns-2)
+    (tie.spec
+    read-requires
+    enum-known-reading
+    refused-header-requires
+    enum-known-reading-2
+    wire-of-requires
+    last-sender-requires
+    shown-header-requires
+    returns
+    returns-2)

@@ -56,7 +56,7 @@ array-share-prefix-repeated c =
     (listsOf (now (a .source-pass)) (now (a .source-reject)) (now (a .destination-pass)) (now (a .destination-reject)))) (now (a .batch))
     (c .before .before .before .before .before .before .before .before .before .before .before .before .before .before .pre) (l .repeated) _
     (l .offset) (l .ended) (f .given .0 .0) (f .given .0 .1 .0) (l .inv .room) w (s .step .ensures .1) in
-    omega (arith, p .fits, s .step .kept .1 .1 .1 .1 .1 .1 .1 .0, l .inv .room)
+    omega (arith, p .fits, s .step .kept .1 .1 .1 .1 .1 .1 .1 .1 .0, l .inv .room)
 
 slice-aggregate-put-pdu-line : tie.Need-slice-aggregate-put-pdu-line Inv-loop μ-loop
 slice-aggregate-put-pdu-line c =
@@ -72,7 +72,7 @@ slice-aggregate-put-pdu-line c =
     (listsOf (now (a .source-pass)) (now (a .source-reject)) (now (a .destination-pass)) (now (a .destination-reject)))) (now (a .batch))
     (c .before .before .before .before .before .before .before .before .before .before .before .before .before .before .before .pre) (l .repeated)
     _ (l .offset) (l .ended) (f .given .0 .0) (f .given .0 .1 .0) (l .inv .room) w (s .step .ensures .1) in
-    sym (length-take-le _ _ (omega (arith, p .fits, s .step .kept .1 .1 .1 .1 .1 .1 .1 .0, l .inv .room)))
+    sym (length-take-le _ _ (omega (arith, p .fits, s .step .kept .1 .1 .1 .1 .1 .1 .1 .1 .0, l .inv .room)))
 
 put-pdu-line-requires : tie.Need-put-pdu-line-requires Inv-loop μ-loop
 put-pdu-line-requires c κs = search needs
@@ -118,7 +118,7 @@ loop-again c =
     (listsOf (now (a .source-pass)) (now (a .source-reject)) (now (a .destination-pass)) (now (a .destination-reject))))
     (now (a .batch)) (c .before .before .before .before .before .before .before .before .before .before .before .before .before .before .before
     .before .before .before .pre) (l .offset) (l .ended) (f .given .0 .0) (f .given .0 .1 .0) w _ _ _ _ _ _ _ _ _ _ (l .inv) p
-    (s .step .kept .1 .1 .1 .1 .1 .1 .1 .0 ∙ l .inv .room) refl (c .before .before .put-pdu-line .ensures)
+    (s .step .kept .1 .1 .1 .1 .1 .1 .1 .1 .0 ∙ l .inv .room) refl (c .before .before .put-pdu-line .ensures)
 
 put-last-line-requires : tie.Need-put-last-line-requires Inv-loop μ-loop
 put-last-line-requires c κs = search needs
