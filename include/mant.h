@@ -3,7 +3,8 @@
  *
  * Every call answers for every input: nothing has to be checked before it. What each answers is proved of the code in the library, against the
  * definitions in the crates' specs/ folders; this header only declares it. No call keeps anything between calls, allocates, or does input or output.
- * The library needs no function of the C library but memmove. A call takes less than 640 bytes of stack, mant_hear less than 512.
+ * The library needs memcpy and memset, and no other function of the C library. A call takes less than 640 bytes of stack, mant_hear less than 512, and
+ * the three with retained PDUs less than 3,584.
  *
  * Slices. A slice is passed as a pointer and then a length, which counts elements: bytes, or uint16_t values of a list or words of a table. Only so
  * many elements are ever read or written.
@@ -38,6 +39,13 @@
  * are at all times those of the PDUs held. Bytes put together by hand get an answer too: held are the PDUs that can be read there one after the other, 32
  * at most, within as many bytes as the second number tells, or as there is room for where it tells more; mant_queue_clear does not look at them, and
  * mant_queue_level answers the two numbers as they stand.
+ *
+ * Retained PDUs. Reliable PDUs that wait for their acknowledgement (document 02, W-210; document 000, section 3.3) are held in MANT_RECORDS records that the
+ * caller lends, and keeps from call to call, beside the last accepted time, which each call answers and the next is given. A record is in use where its
+ * PDU is exactly one of protocol 1 with ACK clear and no path address; every other is free, one of all zeros too, so that the records may hold anything
+ * before the first call. The first is always the one at the lowest place. Times are whole seconds of a clock that does not go back; 0 stands for no time
+ * accepted yet. Where a call changes the table it changes one record; with a refusal none, nor the last time. Records are aligned as C aligns them, and
+ * share no memory with another slice of the call.
  *
  * Exchange. What a decoder and an encoder that are two devices send each other (document 02, W-202; document 003, section 3, for the elements): one
  * element of type 20 that is all of the bytes, and in it an element of type 1024, the PDU's header, and one of type 1025, its payload, one of each, in
@@ -108,7 +116,14 @@ enum MantNumber {
     MANT_QUEUE_FULL = 60,                   /* the queue holds 32 PDUs, or has no room for so many bytes more */
     MANT_NOT_ONE_PDU = 61,                  /* not one whole PDU with nothing after it */
     MANT_OLDEST_TOO_LONG = 62,              /* the output has no room for the oldest PDU of the queue */
-    MANT_NOT_SPLIT_AT_HEADER = 63           /* bytes follow the PDU, or its two parts do not meet at the header's end */
+    MANT_NOT_SPLIT_AT_HEADER = 63,          /* bytes follow the PDU, or its two parts do not meet at the header's end */
+    MANT_RECORDS_IN_USE = 70,               /* all 16 records are in use */
+    MANT_ALREADY_RETAINED = 71,             /* a PDU of this source, destination and ID is already retained */
+    MANT_ABOVE_256_BYTES = 72,              /* the PDU to retain has more than 256 bytes */
+    MANT_EARLIER_TIME = 73,                 /* the time is earlier than the last accepted one */
+    MANT_NOT_16_RECORDS = 74,               /* the lent memory is not 16 records */
+    MANT_NOT_RETAINABLE = 75,               /* not exactly one PDU of protocol 1 with ACK clear and no path address */
+    MANT_SENDING_TOO_LONG = 77              /* the output has no room for what is to be sent */
 };
 
 /* No number: what delivery and repeat hold in a step that has no answer, MANT_ENDED. */
@@ -163,6 +178,13 @@ static inline const char *mant_meaning(uint8_t number)
     case MANT_NOT_ONE_PDU: return "not one whole PDU with nothing after it";
     case MANT_OLDEST_TOO_LONG: return "the output has no room for the oldest PDU of the queue";
     case MANT_NOT_SPLIT_AT_HEADER: return "bytes follow the PDU, or its two parts do not meet at the header's end";
+    case MANT_RECORDS_IN_USE: return "all 16 records are in use";
+    case MANT_ALREADY_RETAINED: return "a PDU of this source, destination and ID is already retained";
+    case MANT_ABOVE_256_BYTES: return "the PDU to retain has more than 256 bytes";
+    case MANT_EARLIER_TIME: return "the time is earlier than the last accepted one";
+    case MANT_NOT_16_RECORDS: return "the lent memory is not 16 records";
+    case MANT_NOT_RETAINABLE: return "not exactly one PDU of protocol 1 with ACK clear and no path address";
+    case MANT_SENDING_TOO_LONG: return "the output has no room for what is to be sent";
     default: return "no such number";
     }
 }
@@ -184,6 +206,10 @@ static inline const char *mant_meaning(uint8_t number)
 #define MANT_QUEUE_PDUS 32
 #define MANT_QUEUE_BYTES 2048
 #define MANT_QUEUE_LENGTH 2052
+
+/* How many records a table of retained PDUs has, and how many bytes the longest PDU that it retains. */
+#define MANT_RECORDS 16
+#define MANT_RETAINED_LIMIT 256
 
 /* The most bytes that mant_write_exchange writes. */
 #define MANT_EXCHANGE_LIMIT 4626
@@ -333,6 +359,48 @@ typedef struct MantBatch {
     size_t bytes;
 } MantBatch;
 
+/* A record of a retained PDU, which is the first `length` bytes of `pdu`; zeros stand behind it. A record that was freed or dropped is all zeros. */
+typedef struct MantRetained {
+    uint8_t pdu[MANT_RETAINED_LIMIT];
+    size_t length;
+    uint64_t sent_at;         /* when it was last sent, or retained */
+    uint64_t count;           /* how often it was sent again */
+} MantRetained;
+
+/* What a retained PDU is known by. */
+typedef struct MantNames {
+    uint16_t source;
+    uint16_t destination;
+    uint8_t pdu_id;
+} MantNames;
+
+enum MantDeed {
+    MANT_DEED_NONE = 0,
+    MANT_DEED_RETAINED = 1,     /* the PDU is in the record at `place` */
+    MANT_DEED_SENT_AGAIN = 2,   /* the PDU of the record at `place` is in the output, to be sent */
+    MANT_DEED_FAILED = 3,       /* the record at `place` was dropped: its PDU was not acknowledged */
+    MANT_DEED_FREED = 4,        /* the record at `place` was freed: its PDU was acknowledged */
+    MANT_DEED_ACKNOWLEDGED = 5  /* the acknowledgement of the PDU received is in the output, to be sent */
+};
+
+/* What the calls with a table of retained PDUs answer. With a number other than 0 the deed is 0 and `last` the one given; what a deed has not is 0. */
+typedef struct MantOutcome {
+    uint8_t number;
+    uint8_t deed;
+    uint64_t last;            /* the last accepted time, to be given to the next call */
+    size_t place;             /* with deeds 1 to 4: the record's, the first at 0 */
+    MantNames names;          /* with deeds 1 to 4: the retained PDU's; with 5: the received PDU's */
+    size_t length;            /* with deeds 2 and 5: how many bytes were written to the output */
+} MantOutcome;
+
+/* What an acknowledgement is sent with, as in MantFresh; hop limit and port count only where one is due. */
+typedef struct MantSending {
+    uint64_t hop_limit;       /* 0 to 7 */
+    uint64_t port;            /* 0 to 15 */
+    bool time_stamp_request;
+    bool with_path;
+} MantSending;
+
 /* A bound. Number 10: the hop limit is above 7. Too large: 64 bits do not hold the value. In both the value is 0. */
 typedef struct MantBound {
     uint8_t number;
@@ -370,6 +438,10 @@ MANT_SIZE(MantHeard, 6);
 MANT_SIZE(MantListened, 48);
 MANT_SIZE(MantLevel, 16);
 MANT_SIZE(MantBatch, 24);
+MANT_SIZE(MantRetained, 280);
+MANT_SIZE(MantNames, 6);
+MANT_SIZE(MantOutcome, 40);
+MANT_SIZE(MantSending, 24);
 MANT_SIZE(MantBound, 16);
 MANT_SIZE(MantLimits, 56);
 #undef MANT_SIZE
@@ -474,6 +546,29 @@ MantListened mant_hear_and_count(uint64_t edition, MantNode settings, const uint
                                  size_t destination_pass_length, const uint16_t *destination_reject, size_t destination_reject_length,
                                  const uint8_t *received, size_t received_length, uint8_t *output, size_t output_length, uint16_t *table,
                                  size_t table_words);
+
+/* Retains a PDU that is sent at this time, in the first free record, with count 0; nothing is written. Answers 74 where there are not MANT_RECORDS
+   records, 73 where the time is earlier than the last accepted one, 75 where the bytes are not exactly one PDU of protocol 1 with ACK clear and no path
+   address, 72 where it has more than MANT_RETAINED_LIMIT bytes, 71 where one of the same source, destination and ID is retained, 70 where no record is
+   free, the first that applies. Document 02, W-210, as the next two. */
+MantOutcome mant_retain(MantRetained *table, size_t records, uint64_t last, uint64_t time, const uint8_t *pdu, size_t pdu_length);
+
+/* One step: takes the first record in use whose time lies the delay or more before this time; one that lies after it is not taken. Where its PDU was
+   sent again as often as `tries` says, or more often, it is dropped and reported failed, and no room is asked for. Else its PDU is written to the output,
+   its time is set and its count one higher. Answers 74, 73, and then 77 where the PDU to be sent has no room in the output, also where a later one would
+   fit. Where none is due the time is accepted all the same. Go on at each moment while the deed is not 0; with delay 0 and tries left, that does not
+   end. */
+MantOutcome mant_retry(MantRetained *table, size_t records, uint64_t last, uint64_t time, uint64_t delay, uint64_t tries, uint8_t *output,
+                       size_t output_length);
+
+/* What the PDU at the start of the received bytes does once a node has answered for it, by mant_hear or a step. Where it was delivered (delivery number 0)
+   and has protocol 1: with ACK set it frees the first record with its ID and its addresses exchanged, or nothing where there is none; with ACK clear
+   its acknowledgement is written to the output. No other PDU does anything. Where an acknowledgement is due it answers 10 where the hop limit is above
+   7, 11 where the port is above 15; then, for any PDU, 74; then 77 where the acknowledgement, 9 bytes or with a path 10, has no room. What was delivered
+   stays delivered with each of them. It takes no time, and `last` comes back as it was. Of an answer that is not the node's for these bytes, what they
+   hold counts. */
+MantOutcome mant_acknowledge(MantRetained *table, size_t records, uint64_t last, const uint8_t *received, size_t received_length, MantAnswer answer,
+                             MantSending sending, uint8_t *output, size_t output_length);
 
 /* How many PDUs and bytes a queue holds: the two numbers that it keeps (W-207), without a look at its PDUs, so that the cost is the same for any number of
    them. A byte of the four that is not there counts as 0. Document 02, W-206, as all that take a queue. */

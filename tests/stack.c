@@ -4,7 +4,8 @@
 
        gcc -std=c11 -Wall -Wextra -pedantic tests/stack.c -Iinclude target/staticlib/libmant.a -o /tmp/stack && /tmp/stack
 
-   prints the bytes of each function, the most of the calls tried, and fails where they are more than 512 for mant_hear, 640 for another. */
+   prints the bytes of each function, the most of the calls tried, and fails where they are more than its limit: 512 for mant_hear, 3,584 for the three with
+   retained PDUs, which copy records, 640 for another. */
 #include <stdio.h>
 #include <string.h>
 
@@ -12,6 +13,7 @@
 
 #define HEAR_LIMIT 512
 #define LIMIT 640
+#define RETAINED_LIMIT 3584
 #define PAINTED 16384
 #define STACK_POINTER "mov %%rsp, %0"
 #define EDITION MANT_EDITION_1_2
@@ -20,6 +22,7 @@
 #define LENT pdu, sizeof pdu, output, sizeof output
 #define PDU_LENGTH 4613
 #define QUEUE queue, sizeof queue
+#define TABLE records, MANT_RECORDS, 160
 
 static const MantNode node = {.own = 2000, .echo = true, .repeating = true};
 static const MantNode listing = {.own = 2000, .echo = true, .repeating = true, .source_pass = true, .destination_pass = true};
@@ -27,10 +30,16 @@ static const MantFresh fresh = {.edition = EDITION, .source = 1000, .has_destina
                                 .reliable = true};
 static const uint8_t shortest[6] = {0, 0, 0, 0, 0, 5};
 static const uint8_t deep[12] = {20, 8, 10, 6, 11, 4, 20, 2, 0, 9, 0, 9};
+static const uint8_t acknowledgement[9] = {0x09, 0x01, 0x30, 0, 0x06, 0x40, 0x03, 0xE8, 100};
+static const uint8_t short_command[9] = {0x09, 0, 0x30, 0, 0x03, 0xE8, 0x06, 0x40, 99};
+static const MantAnswer delivered = {.taken = 9};
+static const MantSending sending = {.hop_limit = 7, .port = 15, .with_path = true};
 static const MantHeard heard = {.source = 1000, .path_bit = true};
 static const MantCursor start = {0, false};
 static uint16_t list[MANT_LIST_LIMIT], table[MANT_STATION_WORDS];
 static uint8_t pdu[MANT_PDU_LIMIT], output[MANT_PDU_LIMIT + 2], exchange[MANT_EXCHANGE_LIMIT], queue[MANT_QUEUE_LENGTH];
+static uint8_t command[MANT_RETAINED_LIMIT] = {0x09, 0, 0x30, 0xF7, 0x03, 0xE8, 0x06, 0x40, 7};
+static MantRetained records[MANT_RECORDS];
 static MantAnswer answer;
 static volatile uintptr_t top;
 static bool meant = true;
@@ -70,6 +79,13 @@ CALL(remove_station_call, mant_remove_station(table, MANT_STATION_WORDS, 1000) =
 CALL(write_exchange_call, mant_write_exchange(pdu, sizeof pdu, exchange, sizeof exchange).length == MANT_EXCHANGE_LIMIT - 2)
 CALL(read_exchange_call, mant_read_exchange(exchange, MANT_EXCHANGE_LIMIT - 2).payload_length == MANT_PAYLOAD_LIMIT)
 CALL(read_deep_exchange_call, mant_read_exchange(deep, sizeof deep).number == MANT_ELEMENT_TOO_DEEP)
+CALL(retain_call, mant_retain(records, MANT_RECORDS, 0, 100, command, sizeof command).place == MANT_RECORDS - 1)
+CALL(retain_full_call, mant_retain(records, MANT_RECORDS, 100, 100, short_command, sizeof short_command).number == MANT_RECORDS_IN_USE)
+CALL(retry_idle_call, mant_retry(records, MANT_RECORDS, 100, 129, 30, 1, output, sizeof output).deed == MANT_DEED_NONE)
+CALL(retry_call, mant_retry(records, MANT_RECORDS, 129, 130, 30, 1, output, sizeof output).deed == MANT_DEED_SENT_AGAIN)
+CALL(retry_failed_call, mant_retry(records, MANT_RECORDS, 130, 160, 30, 0, output, sizeof output).deed == MANT_DEED_FAILED)
+CALL(acknowledge_call, mant_acknowledge(TABLE, short_command, sizeof short_command, delivered, sending, output, 10).length == 10)
+CALL(acknowledge_freed_call, mant_acknowledge(TABLE, acknowledgement, sizeof acknowledgement, delivered, sending, output, 0).deed == MANT_DEED_FREED)
 CALL(queue_full_call, mant_queue_add(QUEUE, pdu, PDU_LENGTH) == MANT_QUEUE_FULL)
 CALL(queue_add_call, mant_queue_add(QUEUE, shortest, sizeof shortest) == 0)
 CALL(queue_level_call, mant_queue_level(QUEUE).pdus == 2)
@@ -101,6 +117,9 @@ static const struct {
     {"mant_remove_station", {remove_station_call}},
     {"mant_write_exchange", {write_exchange_call}},
     {"mant_read_exchange", {read_exchange_call, read_deep_exchange_call}},
+    {"mant_retain", {retain_call, retain_full_call}},
+    {"mant_retry", {retry_idle_call, retry_call, retry_failed_call}},
+    {"mant_acknowledge", {acknowledge_call, acknowledge_freed_call}},
     {"mant_queue_add", {queue_full_call, queue_add_call, queue_add_call}},
     {"mant_queue_level", {queue_level_call}},
     {"mant_queue_take", {queue_too_long_call, queue_take_call}},
@@ -109,6 +128,17 @@ static const struct {
     {"mant_most_bytes", {most_bytes_call}},
     {"mant_limits", {limits_call}},
 };
+
+static size_t limit_of(const char *name)
+{
+    static const char *const retaining[] = {"mant_retain", "mant_retry", "mant_acknowledge"};
+    for (size_t i = 0; i < sizeof retaining / sizeof retaining[0]; i++) {
+        if (strcmp(name, retaining[i]) == 0) {
+            return RETAINED_LIMIT;
+        }
+    }
+    return strcmp(name, "mant_hear") == 0 ? HEAR_LIMIT : LIMIT;
+}
 
 /* The bytes that a call takes below the stack pointer from which it is made, in whole words. */
 static size_t depth_of(void (*call)(void))
@@ -137,17 +167,29 @@ static void fill(void)
     }
 }
 
+/* A table of retained PDUs whose last record is free and whose others are not due. */
+static void fill_records(void)
+{
+    for (size_t i = 0; i < MANT_RECORDS - 1; i++) {
+        memcpy(records[i].pdu, command, sizeof command);
+        records[i].length = sizeof command;
+        records[i].sent_at = 1000;
+        records[i].pdu[8] = (uint8_t)(100 + i);
+    }
+}
+
 int main(void)
 {
     int status = 0;
     fill();
+    fill_records();
     for (size_t i = 0; i < sizeof functions / sizeof functions[0]; i++) {
         size_t most = 0;
         for (size_t k = 0; k < 3 && functions[i].calls[k] != NULL; k++) {
             size_t depth = depth_of(functions[i].calls[k]);
             most = depth > most ? depth : most;
         }
-        bool too_many = most > (strcmp(functions[i].name, "mant_hear") == 0 ? HEAR_LIMIT : LIMIT);
+        bool too_many = most > limit_of(functions[i].name);
         status = too_many ? 1 : status;
         printf("%s %zu%s\n", functions[i].name, most, too_many ? ", too many" : "");
     }

@@ -6,6 +6,7 @@ mod exchanging;
 mod inputs;
 mod plain;
 mod queueing;
+mod retaining;
 #[cfg(test)]
 mod tests;
 mod timing;
@@ -27,6 +28,7 @@ fn main() {
     counting::check_plain();
     exchanging::check_plain();
     queueing::check_plain();
+    retaining::check_plain();
     println!(
         "ns for one run, best / median of {ROUNDS} rounds at {} pairs of offsets within a page\n",
         OFFSETS.len()
@@ -62,6 +64,18 @@ fn main() {
     );
     row("read an exchange, full PDU", exchanging::reading());
     row("write an exchange, full PDU", exchanging::writing());
+    row(
+        "retain one of 64 bytes beside 15, and free it",
+        retaining::retaining_and_freeing(64),
+    );
+    row(
+        "step, 16 PDUs of 64 bytes, the first sent again",
+        retaining::stepping(64, 0),
+    );
+    row(
+        "step, 16 PDUs of 64 bytes, none due",
+        retaining::stepping(64, 1),
+    );
     row("queue level, 1 PDU of 64 bytes", queueing::level(1));
     row("queue level, 32 PDUs of 64 bytes", queueing::level(32));
     row(
@@ -85,7 +99,8 @@ fn main() {
     println!(
         "\nThe Rust reading is rust/reference. memcpy copies the PDU that is read, written or repeated, or \
          every PDU of the batch, one by one, or a station's words, or the exchange that is read, or a level, or \
-         each PDU that is added and then the batch that is taken. Ratios are of the best rounds."
+         each PDU that is added and then the batch that is taken, or a PDU that is retained or sent again. Ratios \
+         are of the best rounds."
     );
 }
 

@@ -1,8 +1,8 @@
 //! plain.c, called as the library is.
 
 use mant::raw::{
-    Answer, Batch, Exchange, Fresh, Header, Heard, Level, Listened, Lists, Node, Station, Written,
-    QUEUE_BYTES, QUEUE_PDUS, STATION_LIMIT,
+    Answer, Batch, Exchange, Fresh, Header, Heard, Level, Listened, Lists, Node, Outcome, Retained,
+    Sending, Station, Written, QUEUE_BYTES, QUEUE_PDUS, STATION_LIMIT,
 };
 
 #[repr(C)]
@@ -78,6 +78,14 @@ extern "C" {
         edition: u64, node: Node, lists: *const List, received: *const u8, length: usize, output: *mut u8, output_length: usize,
         table: *mut Table,
     ) -> Listened;
+    fn plain_retain(table: *mut Retained, records: usize, last: u64, time: u64, pdu: *const u8, length: usize) -> Outcome;
+    fn plain_retry(
+        table: *mut Retained, records: usize, last: u64, time: u64, delay: u64, tries: u64, output: *mut u8, output_length: usize,
+    ) -> Outcome;
+    fn plain_acknowledge(
+        table: *mut Retained, records: usize, last: u64, received: *const u8, length: usize, answer: Answer, sending: Sending,
+        output: *mut u8, output_length: usize,
+    ) -> Outcome;
     fn plain_queue_level(ring: *const Ring) -> Level;
     fn plain_queue_add(ring: *mut Ring, pdu: *const u8, length: usize) -> u8;
     fn plain_queue_take(ring: *mut Ring, output: *mut u8, output_length: usize) -> Batch;
@@ -201,6 +209,63 @@ pub fn hear_and_count(
             output.as_mut_ptr(),
             output.len(),
             table,
+        )
+    }
+}
+
+/// `plain_retain`.
+#[inline]
+pub fn retain(table: &mut [Retained], last: u64, time: u64, pdu: &[u8]) -> Outcome {
+    let (records, bytes) = (table.len(), pdu.as_ptr());
+    // SAFETY: records are laid out as in C.
+    unsafe { plain_retain(table.as_mut_ptr(), records, last, time, bytes, pdu.len()) }
+}
+
+/// `plain_retry`.
+#[inline]
+pub fn retry(
+    table: &mut [Retained],
+    (last, time): (u64, u64),
+    (delay, tries): (u64, u64),
+    output: &mut [u8],
+) -> Outcome {
+    // SAFETY: as above.
+    unsafe {
+        plain_retry(
+            table.as_mut_ptr(),
+            table.len(),
+            last,
+            time,
+            delay,
+            tries,
+            output.as_mut_ptr(),
+            output.len(),
+        )
+    }
+}
+
+/// `plain_acknowledge`.
+#[inline]
+pub fn acknowledge(
+    table: &mut [Retained],
+    last: u64,
+    received: &[u8],
+    answer: Answer,
+    sending: Sending,
+    output: &mut [u8],
+) -> Outcome {
+    // SAFETY: as above.
+    unsafe {
+        plain_acknowledge(
+            table.as_mut_ptr(),
+            table.len(),
+            last,
+            received.as_ptr(),
+            received.len(),
+            answer,
+            sending,
+            output.as_mut_ptr(),
+            output.len(),
         )
     }
 }

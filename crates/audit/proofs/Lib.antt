@@ -21,10 +21,13 @@ pub mod Joined
 pub mod Exchange
 pub mod Queue
 pub mod Transmit
+pub mod Retained
+pub mod Answering
 pub mod Chains
 pub mod Bound
 pub mod Boundary
 pub mod Mant
+pub mod Reliable
 pub mod Demands
 pub mod StationsHeard
 pub mod SerialExchange
@@ -35,3 +38,4 @@ pub mod LeastReach
 pub mod Examples
 pub mod LastSender
 pub mod TwoEditions
+pub mod ReliableMessages

@@ -38,7 +38,7 @@ use Rattle.view.proofs.last_sender as last-sender-contract
 use Rattle.view.proofs.payload as payload-contract
 
 -- two facts give a third that follows from them
-both : {M : Type 1} (𝓤 : URA M) {φ ψ χ : Type 0} → (φ → ψ → χ) → ent 𝓤 (sep 𝓤 (fact 𝓤 φ) (fact 𝓤 ψ)) (fact 𝓤 χ)
+pub both : {M : Type 1} (𝓤 : URA M) {φ ψ χ : Type 0} → (φ → ψ → χ) → ent 𝓤 (sep 𝓤 (fact 𝓤 φ) (fact 𝓤 ψ)) (fact 𝓤 χ)
 both 𝓤 {φ} {ψ} {χ} f =
     fact-use 𝓤 φ (fst∗ 𝓤 (fact 𝓤 φ) (fact 𝓤 ψ))
     (λ p. via 𝓤 (fact 𝓤 ψ) (snd∗ 𝓤 (fact 𝓤 φ) (fact 𝓤 ψ)) (fact-mono 𝓤 ψ χ (λ q. f p q)))

@@ -9,3 +9,4 @@ pub mod LeastReach
 pub mod Examples
 pub mod LastSender
 pub mod TwoEditions
+pub mod ReliableMessages

@@ -2,7 +2,8 @@
 //! generated inputs: every number, field, delivered part and output byte.
 //!
 //! `differential [seed [count [first]]]`: the seed of the inputs (1), how many
-//! (248,000), and the first (0), so that one input can be run alone.
+//! (2,000 for each share of a kind), and the first (0), so that one input can
+//! be run alone.
 
 mod bounding;
 mod by_hand;
@@ -10,12 +11,15 @@ mod counting;
 mod exchanging;
 mod flooding;
 mod hearing;
+mod lent;
 mod listing;
+mod lossy;
 mod memory;
 mod originating;
 mod output;
 mod queueing;
 mod reading;
+mod retaining;
 mod same;
 mod table;
 mod walking;
@@ -35,7 +39,7 @@ const MOST_DIFFERENCES: u64 = 10;
 type Kind = (&'static str, usize, fn(&mut Random) -> Compared);
 
 /// The kinds of input.
-const KINDS: [Kind; 13] = [
+const KINDS: [Kind; 15] = [
     ("reading and writing again", 28, reading::compare),
     ("origination", 13, originating::compare),
     ("lists", 6, listing::compare),
@@ -47,6 +51,8 @@ const KINDS: [Kind; 13] = [
     ("tables put together by hand", 1, by_hand::compare),
     ("exchanges read", 6, exchanging::compare_reading),
     ("exchanges written", 3, exchanging::compare_writing),
+    ("histories of retained PDUs", 6, retaining::compare),
+    ("two nodes and a channel that loses", 1, lossy::compare),
     ("histories of a queue", 6, queueing::compare_history),
     ("queues put together by hand", 2, queueing::compare_by_hand),
 ];
@@ -71,7 +77,7 @@ fn main() -> ExitCode {
 
 /// Reads the arguments.
 fn asked() -> Result<Asked, String> {
-    let mut numbers = [1, 248_000, 0];
+    let mut numbers = [1, 2_000 * shares() as u64, 0];
     let mut arguments = std::env::args().skip(1);
     for (number, argument) in numbers.iter_mut().zip(arguments.by_ref()) {
         *number = argument
@@ -118,9 +124,14 @@ fn compare_one(kind: usize, random: &mut Random) -> Compared {
     catch_unwind(run).unwrap_or_else(|_| Err(String::from("it panicked")))
 }
 
+/// The shares of all kinds.
+fn shares() -> usize {
+    KINDS.iter().map(|kind| kind.1).sum()
+}
+
 /// The kind of an input, by the shares.
 fn kind(random: &mut Random) -> usize {
-    let mut drawn = random.below(KINDS.iter().map(|kind| kind.1).sum());
+    let mut drawn = random.below(shares());
     for (place, kind) in KINDS.iter().enumerate() {
         if drawn < kind.1 {
             return place;

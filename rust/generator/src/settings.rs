@@ -92,7 +92,7 @@ pub fn origination(random: &mut Random) -> Origination {
 
 /// A number up to the most allowed, or once in eight times one above it,
 /// among them those that look allowed when trimmed.
-fn setting(random: &mut Random, most: u64) -> u64 {
+pub fn setting(random: &mut Random, most: u64) -> u64 {
     if !random.one_in(8) {
         return random.below(most as usize + 1) as u64;
     }

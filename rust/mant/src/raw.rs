@@ -165,6 +165,47 @@ pub struct Batch {
     pub bytes: usize,
 }
 
+/// `MantRetained`.
+#[repr(C)]
+#[derive(Clone, Copy, Debug, PartialEq, Eq)]
+pub struct Retained {
+    pub pdu: [u8; RETAINED_LIMIT],
+    pub length: usize,
+    pub sent_at: u64,
+    pub count: u64,
+}
+
+/// `MantNames`.
+#[repr(C)]
+#[derive(Clone, Copy, Debug, Default, PartialEq, Eq)]
+pub struct Names {
+    pub source: u16,
+    pub destination: u16,
+    pub pdu_id: u8,
+}
+
+/// `MantOutcome`.
+#[repr(C)]
+#[derive(Clone, Copy, Debug, Default, PartialEq, Eq)]
+pub struct Outcome {
+    pub number: u8,
+    pub deed: u8,
+    pub last: u64,
+    pub place: usize,
+    pub names: Names,
+    pub length: usize,
+}
+
+/// `MantSending`.
+#[repr(C)]
+#[derive(Clone, Copy, Debug, Default, PartialEq, Eq)]
+pub struct Sending {
+    pub hop_limit: u64,
+    pub port: u64,
+    pub time_stamp_request: bool,
+    pub with_path: bool,
+}
+
 /// `MantBound`.
 #[repr(C)]
 #[derive(Clone, Copy, Debug, Default, PartialEq, Eq)]
@@ -214,6 +255,22 @@ pub const QUEUE_BYTES: usize = 2048;
 /// `MANT_QUEUE_LENGTH`.
 pub const QUEUE_LENGTH: usize = 2052;
 
+/// `MANT_RECORDS`.
+pub const RECORDS: usize = 16;
+/// `MANT_RETAINED_LIMIT`.
+pub const RETAINED_LIMIT: usize = 256;
+
+/// `MANT_DEED_RETAINED`.
+pub const DEED_RETAINED: u8 = 1;
+/// `MANT_DEED_SENT_AGAIN`.
+pub const DEED_SENT_AGAIN: u8 = 2;
+/// `MANT_DEED_FAILED`.
+pub const DEED_FAILED: u8 = 3;
+/// `MANT_DEED_FREED`.
+pub const DEED_FREED: u8 = 4;
+/// `MANT_DEED_ACKNOWLEDGED`.
+pub const DEED_ACKNOWLEDGED: u8 = 5;
+
 /// `MANT_EXCHANGE_LIMIT`.
 pub const EXCHANGE_LIMIT: usize = 4626;
 
@@ -233,6 +290,10 @@ const _: () = {
     assert!(size_of::<Listened>() == 48);
     assert!(size_of::<Level>() == 16);
     assert!(size_of::<Batch>() == 24);
+    assert!(size_of::<Retained>() == 280);
+    assert!(size_of::<Names>() == 6);
+    assert!(size_of::<Outcome>() == 40);
+    assert!(size_of::<Sending>() == 24);
     assert!(size_of::<Bound>() == 16);
     assert!(size_of::<Limits>() == 56);
 };
@@ -278,6 +339,14 @@ extern "C" {
         destination_pass: *const u16, destination_pass_length: usize, destination_reject: *const u16, destination_reject_length: usize,
         received: *const u8, received_length: usize, output: *mut u8, output_length: usize, table: *mut u16, table_words: usize,
     ) -> Listened;
+    fn mant_retain(table: *mut Retained, records: usize, last: u64, time: u64, pdu: *const u8, pdu_length: usize) -> Outcome;
+    fn mant_retry(
+        table: *mut Retained, records: usize, last: u64, time: u64, delay: u64, tries: u64, output: *mut u8, output_length: usize,
+    ) -> Outcome;
+    fn mant_acknowledge(
+        table: *mut Retained, records: usize, last: u64, received: *const u8, received_length: usize, answer: Answer, sending: Sending,
+        output: *mut u8, output_length: usize,
+    ) -> Outcome;
     fn mant_queue_level(queue: *const u8, queue_length: usize) -> Level;
     fn mant_queue_add(queue: *mut u8, queue_length: usize, pdu: *const u8, pdu_length: usize) -> u8;
     fn mant_queue_take(queue: *mut u8, queue_length: usize, output: *mut u8, output_length: usize) -> Batch;
@@ -532,6 +601,71 @@ pub fn hear_and_count(
             output.len(),
             table.as_mut_ptr(),
             table.len(),
+        )
+    }
+}
+
+/// `mant_retain`.
+#[inline]
+pub fn retain(table: &mut [Retained], last: u64, time: u64, pdu: &[u8]) -> Outcome {
+    // SAFETY: as above.
+    unsafe {
+        mant_retain(
+            table.as_mut_ptr(),
+            table.len(),
+            last,
+            time,
+            pdu.as_ptr(),
+            pdu.len(),
+        )
+    }
+}
+
+/// `mant_retry`.
+#[inline]
+pub fn retry(
+    table: &mut [Retained],
+    (last, time): (u64, u64),
+    (delay, tries): (u64, u64),
+    output: &mut [u8],
+) -> Outcome {
+    // SAFETY: as above.
+    unsafe {
+        mant_retry(
+            table.as_mut_ptr(),
+            table.len(),
+            last,
+            time,
+            delay,
+            tries,
+            output.as_mut_ptr(),
+            output.len(),
+        )
+    }
+}
+
+/// `mant_acknowledge`.
+#[inline]
+pub fn acknowledge(
+    table: &mut [Retained],
+    last: u64,
+    received: &[u8],
+    answer: Answer,
+    sending: Sending,
+    output: &mut [u8],
+) -> Outcome {
+    // SAFETY: as above.
+    unsafe {
+        mant_acknowledge(
+            table.as_mut_ptr(),
+            table.len(),
+            last,
+            received.as_ptr(),
+            received.len(),
+            answer,
+            sending,
+            output.as_mut_ptr(),
+            output.len(),
         )
     }
 }

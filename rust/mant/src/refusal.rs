@@ -77,6 +77,13 @@ refusals! {
     NotOnePdu = 61, "not one whole PDU with nothing after it";
     OldestTooLong = 62, "the output has no room for the oldest PDU of the queue";
     NotSplitAtHeader = 63, "bytes follow the PDU, or its two parts do not meet at the header's end";
+    RecordsInUse = 70, "all 16 records are in use";
+    AlreadyRetained = 71, "a PDU of this source, destination and ID is already retained";
+    Above256Bytes = 72, "the PDU to retain has more than 256 bytes";
+    EarlierTime = 73, "the time is earlier than the last accepted one";
+    Not16Records = 74, "the lent memory is not 16 records";
+    NotRetainable = 75, "not exactly one PDU of protocol 1 with ACK clear and no path address";
+    SendingTooLong = 77, "the output has no room for what is to be sent";
 }
 
 impl Refusal {

@@ -18,6 +18,7 @@ mod octets;
 mod origin;
 mod queue;
 mod reach;
+mod retained;
 mod stations;
 mod writing;
 
@@ -33,5 +34,6 @@ pub use numbers::{described, meaning};
 pub use origin::{originate, Origination};
 pub use queue::{Queue, Taken, MOST_HELD, MOST_HELD_BYTES};
 pub use reach::{reach, shortest_chains, Network};
+pub use retained::{Done, Names, Retained, Sending, Table, MOST_RETAINED, RECORDS};
 pub use stations::{counts_as_echo, hear_and_count, Station, Stations, MOST_STATIONS};
 pub use writing::{write, write_again};

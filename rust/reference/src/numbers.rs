@@ -57,6 +57,13 @@ numbers! {
     NOT_ONE_PDU = 61, "not one whole PDU with nothing after it";
     OLDEST_TOO_LONG = 62, "the output has no room for the oldest PDU of the queue";
     NOT_SPLIT_AT_HEADER = 63, "bytes follow the PDU, or its two parts do not meet at the header's end";
+    RECORDS_IN_USE = 70, "all 16 records are in use";
+    ALREADY_RETAINED = 71, "a PDU of this source, destination and ID is already retained";
+    ABOVE_256_BYTES = 72, "the PDU to retain has more than 256 bytes";
+    EARLIER_TIME = 73, "the time is earlier than the last accepted one";
+    NOT_16_RECORDS = 74, "the lent memory is not 16 records";
+    NOT_RETAINABLE = 75, "not exactly one PDU of protocol 1 with ACK clear and no path address";
+    SENDING_TOO_LONG = 77, "the output has no room for what is to be sent";
 }
 
 /// What a number of the table means, in words.

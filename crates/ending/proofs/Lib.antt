@@ -1,0 +1,11 @@
+pub mod First
+pub mod Facts
+pub mod Holding
+pub mod Ends
+pub mod Settles
+pub mod Lowest
+pub mod Retaining
+pub mod Stepping
+pub mod Hearing
+pub mod Exchanged
+pub mod Sendings

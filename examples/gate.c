@@ -1,0 +1,87 @@
+/* A command from base 1000 to gate 1600 that is sent, lost, sent again and acknowledged, and one that nobody answers. From the repository's root:
+
+       rt staticlib mant
+       gcc -std=c11 -Wall -Wextra -pedantic examples/gate.c -Iinclude target/staticlib/libmant.a -o /tmp/gate && /tmp/gate
+
+   prints examples/gate.expected. */
+#include <stdio.h>
+
+#include "mant.h"
+
+#define NO_LISTS NULL, 0, NULL, 0, NULL, 0, NULL, 0
+#define DELAY 30 /* seconds until a command is sent again */
+#define TRIES 2  /* times that it is sent again */
+
+/* A site: its settings, the PDUs that it retains, and the last time that it gave. Free records may hold anything; these hold zeros. */
+typedef struct {
+    MantNode node;
+    MantRetained table[MANT_RECORDS];
+    uint64_t last;
+} Site;
+
+static Site base = {.node = {.own = 1000, .echo = true}}, gate = {.node = {.own = 1600, .echo = true}};
+static const MantSending sending = {.hop_limit = 1, .with_path = true};
+
+static void print_outcome(const char *name, MantOutcome outcome)
+{
+    static const char *const deeds[] = {"nothing", "retained", "sent again", "reported failed", "freed by its acknowledgement", "acknowledged"};
+
+    printf("%s: %u, %s\n", name, outcome.number, mant_meaning(outcome.number));
+    if (outcome.deed != MANT_DEED_NONE) {
+        printf("    PDU %u from %u to %u is %s\n", outcome.names.pdu_id, outcome.names.source, outcome.names.destination, deeds[outcome.deed]);
+    }
+}
+
+/* Originates a command and retains it; it is then to be sent. */
+static size_t give(uint8_t pdu_id, uint64_t time, uint8_t *output)
+{
+    const MantFresh settings = {.source = 1000, .has_destination = true, .destination = 1600, .hop_limit = 1, .reliable = true, .pdu_id = pdu_id};
+    const uint8_t open_gate[] = {0x01};
+    MantWritten written = mant_originate(settings, open_gate, sizeof open_gate, output, MANT_RETAINED_LIMIT);
+    MantOutcome outcome = mant_retain(base.table, MANT_RECORDS, base.last, time, output, written.length);
+
+    base.last = outcome.last;
+    print_outcome("command given", outcome);
+    return written.length;
+}
+
+/* One step at the base; gives the bytes to be sent, if any. */
+static size_t step(uint64_t time, uint8_t *output)
+{
+    MantOutcome outcome = mant_retry(base.table, MANT_RECORDS, base.last, time, DELAY, TRIES, output, MANT_RETAINED_LIMIT);
+
+    base.last = outcome.last;
+    printf("at %u s ", (unsigned)time);
+    print_outcome("a step", outcome);
+    return outcome.length;
+}
+
+/* A site hears a PDU; gives the bytes of the acknowledgement to be sent, if any. A gate would act on what is delivered to it. */
+static size_t hear(const char *name, Site *site, const uint8_t *pdu, size_t length, uint8_t *output)
+{
+    MantAnswer answer = mant_hear(site->node, NO_LISTS, pdu, length, NULL, 0);
+    MantOutcome outcome = mant_acknowledge(site->table, MANT_RECORDS, site->last, pdu, length, answer, sending, output, MANT_RETAINED_LIMIT);
+
+    printf("%s, payload bytes delivered: %zu\n", name, answer.delivered_length);
+    print_outcome("its table", outcome);
+    return outcome.length;
+}
+
+int main(void)
+{
+    uint8_t command[MANT_RETAINED_LIMIT], acknowledgement[MANT_RETAINED_LIMIT], none[MANT_RETAINED_LIMIT];
+
+    give(7, 100, command); /* sent, and lost on its way */
+    step(129, command);
+    size_t length = step(130, command);
+    length = hear("the gate hears it", &gate, command, length, acknowledgement);
+    hear("the base hears the acknowledgement", &base, acknowledgement, length, none);
+    step(160, command);
+
+    give(8, 200, command); /* nobody answers */
+    for (uint64_t time = 230; time <= 290; time += DELAY) {
+        step(time, command);
+    }
+    step(289, command);
+    return 0;
+}

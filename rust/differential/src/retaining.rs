@@ -1,0 +1,246 @@
+//! Reliable messages: histories of a table of retained PDUs.
+
+use crate::lent::Lent;
+use crate::output::Output;
+use crate::same::{answer, node, Input};
+use crate::table::answer_for;
+use crate::Compared;
+use generator::{habits, records, reliable_deed, Random, ReliableDeed};
+use mant::raw::{self, Outcome, RECORDS};
+use reference::{hear, Done, Lists, Names, Sending, Table, MOST_PDU};
+
+/// A table in the library, in the reference, and in the wrapper where it has
+/// 16 records.
+struct Tables {
+    library: Lent,
+    last: u64,
+    reference: Table,
+    wrapper: Option<mant::Reliable>,
+}
+
+/// What the reference did or refused; or, before that, what differs.
+type Answered = Result<Result<Done, u8>, String>;
+
+/// What is asked of the three tables: received bytes with the node's answer
+/// for them, in the library's words and the reference's number.
+struct Asked<'a> {
+    received: &'a [u8],
+    answer: raw::Answer,
+    delivery: u8,
+    sending: &'a Sending,
+}
+
+/// Compares a history: all that is answered and written, and every record after
+/// each deed.
+pub fn compare(random: &mut Random) -> Compared {
+    let habits = habits(random);
+    let records = records(random, &habits);
+    let mut tables = Tables::of(random, &records);
+    for _ in 0..habits.turns {
+        let deed = reliable_deed(random, &habits, &tables.reference);
+        let before = tables.library.clone();
+        let input = Input {
+            bytes: &[],
+            rest: &(&deed, tables.last, before.table()),
+        };
+        let done = tables.done(random, &input, &deed)?;
+        let left = before.after(&deed, done);
+        input.same("records", &tables.library, &left)?;
+        tables.compare_shown(&input)?;
+    }
+    Ok(())
+}
+
+impl Tables {
+    /// The three tables in the records.
+    fn of(random: &mut Random, records: &[generator::Record]) -> Tables {
+        let library = Lent::of(random, records);
+        let last = match random.flag() {
+            true => 0,
+            false => random.draw() >> random.below(64),
+        };
+        let wrapper = <[raw::Retained; RECORDS]>::try_from(library.table()).ok();
+        Tables {
+            reference: library.read(last),
+            wrapper: wrapper.map(|records| mant::Reliable::from_records(records, last)),
+            library,
+            last,
+        }
+    }
+
+    /// Does a deed with all tables: what the reference says it did.
+    fn done(&mut self, random: &mut Random, input: &Input, deed: &ReliableDeed) -> Answered {
+        match deed {
+            ReliableDeed::Retain(time, pdu) => self.retained(input, *time, pdu),
+            ReliableDeed::Step(time, delay, tries, room) => {
+                let output = Output::of(random, *room);
+                self.stepped(input, *time, (*delay, *tries), &output)
+            }
+            ReliableDeed::Hear(settings, received, sending, room) => {
+                let mut repeated = [0; MOST_PDU];
+                let heard = hear(settings, &Lists::EMPTY, received, &mut repeated);
+                let lists = Lists::EMPTY.in_order();
+                let library = raw::hear(node(settings), lists, received, &mut repeated);
+                input.same("node's answer", library, answer(&heard))?;
+                let asked = Asked {
+                    received,
+                    answer: library,
+                    delivery: heard.delivery,
+                    sending,
+                };
+                let output = Output::of(random, *room);
+                self.heard(input, &asked, &output)
+            }
+            ReliableDeed::Answer(received, delivery, sending, room) => {
+                let asked = Asked {
+                    received,
+                    answer: answer_for(received, *delivery),
+                    delivery: *delivery,
+                    sending,
+                };
+                let output = Output::of(random, *room);
+                self.heard(input, &asked, &output)
+            }
+        }
+    }
+
+    /// A PDU is retained.
+    fn retained(&mut self, input: &Input, time: u64, pdu: &[u8]) -> Answered {
+        let outcome = raw::retain(self.library.change(), self.last, time, pdu);
+        let wanted = self.reference.retain(time, pdu);
+        self.answered(input, outcome, wanted)?;
+        if let Some(table) = &mut self.wrapper {
+            let wrapped = table.retain(time, pdu).map_err(mant::Refusal::number);
+            input.same("wrapped retaining", wrapped, wanted.map(in_wrapper))?;
+        }
+        Ok(wanted)
+    }
+
+    /// One step.
+    fn stepped(
+        &mut self,
+        input: &Input,
+        time: u64,
+        (delay, tries): (u64, u64),
+        output: &Output,
+    ) -> Answered {
+        let (mut library, mut reference) = (output.clone(), output.clone());
+        let mut wrapper = output.clone();
+        let (table, times) = (self.library.change(), (self.last, time));
+        let outcome = raw::retry(table, times, (delay, tries), library.room());
+        let wanted = self.reference.step(time, delay, tries, reference.room());
+        self.answered(input, outcome, wanted)?;
+        input.same_bytes("output", library.all(), reference.all())?;
+        if let Some(table) = &mut self.wrapper {
+            let wrapped = table.retry(time, delay, tries, wrapper.room());
+            let wrapped = wrapped.map_err(mant::Refusal::number);
+            input.same("wrapped step", wrapped, wanted.map(in_wrapper))?;
+            input.same_bytes("wrapped output", wrapper.all(), reference.all())?;
+        }
+        Ok(wanted)
+    }
+
+    /// A PDU was heard.
+    fn heard(&mut self, input: &Input, asked: &Asked, output: &Output) -> Answered {
+        let (mut library, mut reference) = (output.clone(), output.clone());
+        let mut wrapper = output.clone();
+        let Asked {
+            received, sending, ..
+        } = asked;
+        let settings = in_library(sending);
+        let (table, room) = (self.library.change(), library.room());
+        let outcome = raw::acknowledge(table, self.last, received, asked.answer, settings, room);
+        let room = reference.room();
+        let wanted = self
+            .reference
+            .heard(received, asked.delivery, sending, room);
+        self.answered(input, outcome, wanted)?;
+        input.same_bytes("output", library.all(), reference.all())?;
+        if let Some(table) = &mut self.wrapper {
+            let heard = crate::same::wrapped(&asked.answer);
+            let wrapped = table.acknowledge(received, &heard, &settings, wrapper.room());
+            let wrapped = wrapped.map_err(mant::Refusal::number);
+            input.same("wrapped hearing", wrapped, wanted.map(in_wrapper))?;
+            input.same_bytes("wrapped output", wrapper.all(), reference.all())?;
+        }
+        Ok(wanted)
+    }
+
+    /// The library's answer is the reference's; its time is kept.
+    fn answered(&mut self, input: &Input, answered: Outcome, wanted: Result<Done, u8>) -> Compared {
+        let last = self.reference.last();
+        input.same("outcome", answered, outcome(wanted, last))?;
+        self.last = answered.last;
+        Ok(())
+    }
+
+    /// The records hold what the reference holds, and the wrapper's are the
+    /// same.
+    fn compare_shown(&self, input: &Input) -> Compared {
+        let read = self.library.read(self.last);
+        input.same("table", &read, &self.reference)?;
+        let Some(table) = &self.wrapper else {
+            return Ok(());
+        };
+        input.same("wrapper's last time", table.last(), self.last)?;
+        let records = &table.records()[..];
+        input.same("wrapper's records", records, self.library.table())
+    }
+}
+
+/// What was done as the library answers it.
+fn outcome(done: Result<Done, u8>, last: u64) -> Outcome {
+    let none = Outcome {
+        last,
+        ..Outcome::default()
+    };
+    let (deed, place, names, length) = match done {
+        Err(number) => return Outcome { number, ..none },
+        Ok(Done::Nothing) => return none,
+        Ok(Done::Retained(place, names)) => (1, place, names, 0),
+        Ok(Done::SentAgain(place, names, length)) => (2, place, names, length),
+        Ok(Done::Failed(place, names)) => (3, place, names, 0),
+        Ok(Done::Acknowledged(place, names)) => (4, place, names, 0),
+        Ok(Done::Answered(names, length)) => (5, 0, names, length),
+    };
+    Outcome {
+        deed,
+        place,
+        names: names_in_library(names),
+        length,
+        ..none
+    }
+}
+
+/// What was done as the wrapper gives it.
+fn in_wrapper(done: Done) -> mant::Deed {
+    match done {
+        Done::Nothing => mant::Deed::Nothing,
+        Done::Retained(place, names) => mant::Deed::Retained(place, names_in_library(names)),
+        Done::SentAgain(place, names, length) => {
+            mant::Deed::SentAgain(place, names_in_library(names), length)
+        }
+        Done::Failed(place, names) => mant::Deed::Failed(place, names_in_library(names)),
+        Done::Acknowledged(place, names) => mant::Deed::Freed(place, names_in_library(names)),
+        Done::Answered(names, length) => mant::Deed::Acknowledged(names_in_library(names), length),
+    }
+}
+
+/// The reference's names as the library gives them.
+fn names_in_library(names: Names) -> mant::Names {
+    mant::Names {
+        source: names.source,
+        destination: names.destination,
+        pdu_id: names.pdu_id,
+    }
+}
+
+/// The settings of an acknowledgement for the library.
+fn in_library(sending: &Sending) -> mant::Sending {
+    mant::Sending {
+        hop_limit: sending.hop,
+        port: sending.port,
+        time_stamp_request: sending.time_stamp_request,
+        with_path: sending.path,
+    }
+}

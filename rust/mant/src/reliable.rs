@@ -1,0 +1,136 @@
+//! Reliable messages (02, W-210).
+
+use crate::raw::{self, Outcome, Retained, RECORDS, RETAINED_LIMIT};
+use crate::{Answer, Names, Refusal, Sending};
+
+/// What was done with a table of retained PDUs. A place counts from 0.
+#[derive(Clone, Copy, Debug, PartialEq, Eq)]
+pub enum Deed {
+    /// Nothing.
+    Nothing,
+    /// The PDU is in the record at this place.
+    Retained(usize, Names),
+    /// The PDU of the record at this place is in the output, to be sent, and
+    /// has so many bytes.
+    SentAgain(usize, Names, usize),
+    /// The record at this place was dropped: its PDU was not acknowledged.
+    Failed(usize, Names),
+    /// The record at this place was freed: its PDU was acknowledged.
+    Freed(usize, Names),
+    /// The acknowledgement of the received PDU, known by these names, is in
+    /// the output, to be sent, and has so many bytes.
+    Acknowledged(Names, usize),
+}
+
+/// The reliable PDUs that wait for their acknowledgement, 16 of them at most,
+/// and the last accepted time, in seconds. It begins free.
+#[derive(Clone, Debug, PartialEq, Eq)]
+pub struct Reliable {
+    records: [Retained; RECORDS],
+    last: u64,
+}
+
+impl Reliable {
+    /// So many PDUs are retained at most.
+    pub const RECORDS: usize = RECORDS;
+    /// So many bytes each of them has at most.
+    pub const LIMIT: usize = RETAINED_LIMIT;
+
+    /// 16 free records, and no time accepted yet.
+    pub const fn new() -> Reliable {
+        Reliable::from_records([Retained::FREE; RECORDS], 0)
+    }
+
+    /// The table in these records, which `include/mant.h` describes, and the
+    /// last accepted time. Any records are a table.
+    pub const fn from_records(records: [Retained; RECORDS], last: u64) -> Reliable {
+        Reliable { records, last }
+    }
+
+    /// The records, to be kept elsewhere.
+    pub const fn records(&self) -> &[Retained; RECORDS] {
+        &self.records
+    }
+
+    /// The last accepted time.
+    pub const fn last(&self) -> u64 {
+        self.last
+    }
+
+    /// Retains a PDU that is sent at this time; 73, 75, 72, 71 or 70 where it
+    /// can't.
+    pub fn retain(&mut self, time: u64, pdu: &[u8]) -> Result<Deed, Refusal> {
+        let outcome = raw::retain(&mut self.records, self.last, time, pdu);
+        self.after(outcome)
+    }
+
+    /// One step: the first PDU that was last sent the delay ago, or longer, is
+    /// sent again, or, where it was sent again so many times, reported failed.
+    /// At each moment, go on while something is done.
+    pub fn retry(
+        &mut self,
+        time: u64,
+        delay: u64,
+        tries: u64,
+        output: &mut [u8],
+    ) -> Result<Deed, Refusal> {
+        let times = (self.last, time);
+        let outcome = raw::retry(&mut self.records, times, (delay, tries), output);
+        self.after(outcome)
+    }
+
+    /// What the PDU at the start of the received bytes does, for which a node
+    /// has answered: it frees a record, or is acknowledged, or neither.
+    pub fn acknowledge(
+        &mut self,
+        received: &[u8],
+        answer: &Answer,
+        sending: &Sending,
+        output: &mut [u8],
+    ) -> Result<Deed, Refusal> {
+        let (last, answer) = (self.last, answer.raw());
+        let outcome = raw::acknowledge(&mut self.records, last, received, answer, *sending, output);
+        self.after(outcome)
+    }
+
+    /// Keeps the time, and says what was done.
+    fn after(&mut self, outcome: Outcome) -> Result<Deed, Refusal> {
+        self.last = outcome.last;
+        Refusal::check(outcome.number).map(|()| Deed::of(outcome))
+    }
+}
+
+impl Default for Reliable {
+    fn default() -> Reliable {
+        Reliable::new()
+    }
+}
+
+impl Deed {
+    fn of(outcome: Outcome) -> Deed {
+        let Outcome {
+            place,
+            names,
+            length,
+            ..
+        } = outcome;
+        match outcome.deed {
+            raw::DEED_RETAINED => Deed::Retained(place, names),
+            raw::DEED_SENT_AGAIN => Deed::SentAgain(place, names, length),
+            raw::DEED_FAILED => Deed::Failed(place, names),
+            raw::DEED_FREED => Deed::Freed(place, names),
+            raw::DEED_ACKNOWLEDGED => Deed::Acknowledged(names, length),
+            _ => Deed::Nothing,
+        }
+    }
+}
+
+impl Retained {
+    /// A record of all zeros.
+    pub const FREE: Retained = Retained {
+        pdu: [0; RETAINED_LIMIT],
+        length: 0,
+        sent_at: 0,
+        count: 0,
+    };
+}
