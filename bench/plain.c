@@ -43,7 +43,8 @@ typedef struct {
 
 typedef struct {
     uint16_t own;
-    bool echo, repeating, source_pass, source_reject, destination_pass, destination_reject;
+    bool echo, repeating;
+    uint8_t source_pass, source_reject, destination_pass, destination_reject;
 } Node;
 
 typedef struct {
@@ -255,17 +256,23 @@ static bool list_holds(List list, uint16_t address)
     return false;
 }
 
+/* The list of a kind that is chosen, 1 for the first and 2 for the second, or NULL. */
+static const List *chosen(const List lists[8], int kind, uint8_t choice)
+{
+    return choice == 1 || choice == 2 ? &lists[2 * kind + choice - 1] : NULL;
+}
+
 static Answer twice(uint8_t number, Header header)
 {
     return (Answer){number, number, header.has_last_sender, header.last_sender, 0, 0, 0, header.pdu_length};
 }
 
-Answer plain_hear(uint64_t edition, Node node, const List lists[4], const uint8_t *received, size_t length, uint8_t *output, size_t output_length)
+Answer plain_hear(uint64_t edition, Node node, const List lists[8], const uint8_t *received, size_t length, uint8_t *output, size_t output_length)
 {
     if (!is_edition(edition)) {
         return twice(17, (Header){0});
     }
-    for (int i = 0; i < 4; i++) {
+    for (int i = 0; i < 8; i++) {
         uint8_t fault = list_fault(lists[i]);
         if (fault != 0) {
             return twice(fault, (Header){0});
@@ -286,17 +293,21 @@ Answer plain_hear(uint64_t edition, Node node, const List lists[4], const uint8_
             return twice(42, header);
         }
     }
-    if (node.source_pass && !list_holds(lists[0], header.source)) {
+    const List *list = chosen(lists, 0, node.source_pass);
+    if (list != NULL && !list_holds(*list, header.source)) {
         return twice(31, header);
     }
-    if (node.source_reject && list_holds(lists[1], header.source)) {
+    list = chosen(lists, 1, node.source_reject);
+    if (list != NULL && list_holds(*list, header.source)) {
         return twice(32, header);
     }
     if (header.has_destination) {
-        if (node.destination_pass && !list_holds(lists[2], header.destination)) {
+        list = chosen(lists, 2, node.destination_pass);
+        if (list != NULL && !list_holds(*list, header.destination)) {
             return twice(33, header);
         }
-        if (node.destination_reject && list_holds(lists[3], header.destination)) {
+        list = chosen(lists, 3, node.destination_reject);
+        if (list != NULL && list_holds(*list, header.destination)) {
             return twice(34, header);
         }
     }
@@ -337,7 +348,7 @@ Answer plain_hear(uint64_t edition, Node node, const List lists[4], const uint8_
 }
 
 /* The whole walk: how many PDUs were answered for, and where it ended. */
-size_t plain_walk(uint64_t edition, Node node, const List lists[4], const uint8_t *batch, size_t length, uint8_t *output, size_t output_length,
+size_t plain_walk(uint64_t edition, Node node, const List lists[8], const uint8_t *batch, size_t length, uint8_t *output, size_t output_length,
                   size_t *end)
 {
     size_t count = 0;
@@ -402,7 +413,7 @@ uint8_t plain_count(Table *table, Heard heard)
     return 0;
 }
 
-Listened plain_hear_and_count(uint64_t edition, Node node, const List lists[4], const uint8_t *received, size_t length, uint8_t *output,
+Listened plain_hear_and_count(uint64_t edition, Node node, const List lists[8], const uint8_t *received, size_t length, uint8_t *output,
                               size_t output_length, Table *table)
 {
     Listened listened = {plain_hear(edition, node, lists, received, length, output, output_length), 0};

@@ -1,4 +1,4 @@
-/* One report from gauge 1000 to base 1600, relayed at node 2000. From the repository's root:
+/* One report from gauge 1000 to base 1600, relayed at node 2000, which then gets a list for each season. From the repository's root:
 
        rt staticlib mant
        gcc -std=c11 -Wall -Wextra -pedantic examples/relay_one.c -Iinclude target/staticlib/libmant.a -o /tmp/relay_one && /tmp/relay_one
@@ -32,6 +32,19 @@ static void print_sender(const char *name, bool known, uint16_t address)
     }
 }
 
+/* Gauge 1000 passes in the flood season alone. To change over is to change one number. */
+static void print_seasons(MantNode node, const uint8_t *pdu, size_t length)
+{
+    const uint16_t dry[] = {1001, 1999}, flood[] = {1000, 1999, 3000, 3999};
+    const MantLists lists = {.source_pass = {.first = {dry, 2}, .second = {flood, 4}}};
+    uint8_t repeated[MANT_PDU_LIMIT];
+
+    node.source_pass = MANT_FIRST_LIST;
+    print_number("in the dry season", mant_hear(MANT_EDITION_1_2, node, &lists, pdu, length, repeated, sizeof repeated).repeat);
+    node.source_pass = MANT_SECOND_LIST;
+    print_number("in the flood season", mant_hear(MANT_EDITION_1_2, node, &lists, pdu, length, repeated, sizeof repeated).repeat);
+}
+
 int main(void)
 {
     const uint8_t payload[] = {0x70, 0x01, 0x08, 0x12, 0x12, 0x03, 0x24, 0x13, 0x22, 0x02, 0x76};
@@ -47,9 +60,8 @@ int main(void)
     print_number("hop limit 1", written.number);
     print_hex("originated", fresh, written.length);
 
-    /* Four lists that are off and empty. */
     const MantNode node = {.own = 2000, .echo = true, .repeating = true};
-    MantAnswer answer = mant_hear(MANT_EDITION_1_2, node, NULL, 0, NULL, 0, NULL, 0, NULL, 0, fresh, written.length, repeated, sizeof repeated);
+    MantAnswer answer = mant_hear(MANT_EDITION_1_2, node, NULL, fresh, written.length, repeated, sizeof repeated);
     print_number("delivery at node 2000", answer.delivery);
     print_number("repeat at node 2000", answer.repeat);
     print_sender("node 2000 heard it", answer.has_last_sender, answer.last_sender);
@@ -61,7 +73,9 @@ int main(void)
     print_sender("the repeat is heard", header.has_last_sender, header.last_sender);
 
     /* The node hears its own repeat. */
-    answer = mant_hear(MANT_EDITION_1_2, node, NULL, 0, NULL, 0, NULL, 0, NULL, 0, repeated, answer.repeated_length, fresh, sizeof fresh);
+    answer = mant_hear(MANT_EDITION_1_2, node, NULL, repeated, answer.repeated_length, fresh, sizeof fresh);
     print_number("repeat of the repeat", answer.repeat);
+
+    print_seasons(node, fresh, written.length);
     return 0;
 }

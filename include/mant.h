@@ -2,9 +2,9 @@
  * mant.h: the MANT layer of ALERT2 for C, linked from libmant.a (rt staticlib mant).
  *
  * Every call answers for every input: nothing has to be checked before it. What each answers is proved of the code in the library, against the
- * definitions in the crates' specs/ folders; this header only declares it. No call keeps anything between calls, allocates, or does input or output.
- * The library needs memcpy and memset, and no other function of the C library. A call takes less than 640 bytes of stack, mant_hear less than 512, and
- * the three with retained PDUs less than 3,584.
+ * definitions in the crates' specs/ folders; this header declares it, and for a node hands its lists on from a struct. No call keeps anything between
+ * calls, allocates, or does input or output.
+ * The library needs no function of the C library. A call takes less than 640 bytes of stack, one that takes a node's lists less than 1,280.
  *
  * Slices. A slice is passed as a pointer and then a length, which counts elements: bytes, or uint16_t values of a list or words of a table. Only so
  * many elements are ever read or written.
@@ -12,12 +12,16 @@
  * What a caller owes, since no code can look whether it holds. A pointer with a length other than 0 points to that many elements, aligned for them
  * (a list or a table at an even address), which nothing else changes during the call; with length 0 it may be anything, NULL too, and is not followed.
  * An output shares no memory with another slice of the call, nor does a table or a queue. Structs are those declared here, passed by value and so
- * aligned by the compiler, and a bool in them holds 0 or 1, as C's does unless it was written by other means, such as memcpy.
+ * aligned by the compiler, MantLists by its address; a bool in them holds 0 or 1, as C's does unless it was written by other means, such as memcpy.
  *
  * Edition. In edition 1.1 of the protocol the three bits after the port are one reserved number; in 1.2 the first of them is the encrypted flag
  * (document 02, W-209). What shows or sets these bits takes the edition as a number, MANT_EDITION_1_1 or MANT_EDITION_1_2, and so does a node. Any
  * other number, also one that would be 11 or 12 if it were cut to fewer bits, is answered 17 before all else is looked at. A node answers and repeats
  * the same, byte for byte, under both. What tells of paths, exchanges and queues shows none of these bits, and so takes no edition.
+ *
+ * Lists. A node has eight address lists, two of each kind, such as one for the dry season and one for floods (document 02, W-211). They stand together in
+ * a struct MantLists that is passed by its address, NULL for eight empty lists. Which of them a node reads is chosen in its settings, for each kind by
+ * itself; to change over is to change that choice and nothing else. All eight are checked at every call, whatever is chosen.
  *
  * Output. It changes only where a PDU, an exchange or what was taken from a queue is written (number 0), or, at a node, where the repeat number is 0.
  * It then begins with that, and keeps its bytes past the end of it. With every other number the output is left as it was. MANT_PDU_LIMIT bytes are room
@@ -275,16 +279,42 @@ typedef struct MantFresh {
     bool encrypted;           /* the payload is encrypted already: sets the flag, which edition 1.1 does not have */
 } MantFresh;
 
-/* What a node is set to. Each of its four lists is on or off; a pass list that is on and empty passes nothing. */
+/* Which of a kind's two lists a node reads. Any other number chooses none, as 0 does. */
+enum MantChoice {
+    MANT_NO_LIST = 0,
+    MANT_FIRST_LIST = 1,
+    MANT_SECOND_LIST = 2
+};
+
+/* What a node is set to. A pass list that is chosen and empty passes nothing; with none chosen the kind is off and stops nothing. */
 typedef struct MantNode {
     uint16_t own;
     bool echo;                /* drop a PDU whose path holds the own address, or whose source it is */
     bool repeating;
-    bool source_pass;
-    bool source_reject;
-    bool destination_pass;
-    bool destination_reject;
+    uint8_t source_pass;      /* a MantChoice, as the three below */
+    uint8_t source_reject;
+    uint8_t destination_pass;
+    uint8_t destination_reject;
 } MantNode;
+
+/* A list: low, high, low, high and so on, both ends included, in any order; overlaps are allowed. The length counts values. */
+typedef struct MantList {
+    const uint16_t *values;
+    size_t length;
+} MantList;
+
+typedef struct MantTwoLists {
+    MantList first;
+    MantList second;
+} MantTwoLists;
+
+/* The lists of a node, two of each kind; those that are not set are empty. */
+typedef struct MantLists {
+    MantTwoLists source_pass;
+    MantTwoLists source_reject;
+    MantTwoLists destination_pass;
+    MantTwoLists destination_reject;
+} MantLists;
 
 /* What a node answers for one PDU. Places count from the PDU's first byte. */
 typedef struct MantAnswer {
@@ -429,6 +459,9 @@ MANT_SIZE(MantWritten, 16);
 MANT_SIZE(MantExchange, 40);
 MANT_SIZE(MantFresh, 40);
 MANT_SIZE(MantNode, 8);
+MANT_SIZE(MantList, 16);
+MANT_SIZE(MantTwoLists, 32);
+MANT_SIZE(MantLists, 128);
 MANT_SIZE(MantAnswer, 40);
 MANT_SIZE(MantCursor, 16);
 MANT_SIZE(MantStep, 64);
@@ -476,26 +509,60 @@ MantWritten mant_write_exchange(const uint8_t *bytes, size_t bytes_length, uint8
    unless the number is 0. */
 MantWritten mant_originate(MantFresh settings, const uint8_t *payload, size_t payload_length, uint8_t *output, size_t output_length);
 
-/* What is wrong with the lists of a node: the number of the first list that has a fault, in this order, or 0. In each list 22, 21, then 20. A list
-   is low, high, low, high and so on, both ends included, in any order; overlaps are allowed. */
-uint8_t mant_list_fault(const uint16_t *source_pass, size_t source_pass_length, const uint16_t *source_reject, size_t source_reject_length,
-                        const uint16_t *destination_pass, size_t destination_pass_length, const uint16_t *destination_reject,
-                        size_t destination_reject_length);
-
 /* Whether an address is in some range of a list. An empty list holds none; a last value without a partner is no range. */
 bool mant_list_holds(const uint16_t *list, size_t list_length, uint16_t address);
 
+/* The library's own calls of a node take each list as a pointer and a length, in this order. Call the functions below instead: each hands the lists of a
+   struct on to one of these, and does nothing else. */
+#define MANT_EIGHT_LISTS                                                                                                                        \
+    const uint16_t *source_pass_first, size_t source_pass_first_length, const uint16_t *source_pass_second, size_t source_pass_second_length,   \
+        const uint16_t *source_reject_first, size_t source_reject_first_length, const uint16_t *source_reject_second,                           \
+        size_t source_reject_second_length, const uint16_t *destination_pass_first, size_t destination_pass_first_length,                       \
+        const uint16_t *destination_pass_second, size_t destination_pass_second_length, const uint16_t *destination_reject_first,               \
+        size_t destination_reject_first_length, const uint16_t *destination_reject_second, size_t destination_reject_second_length
+uint8_t mant_list_fault_eight(MANT_EIGHT_LISTS);
+MantAnswer mant_hear_eight(uint64_t edition, MantNode settings, MANT_EIGHT_LISTS, const uint8_t *received, size_t received_length, uint8_t *output,
+                           size_t output_length);
+MantStep mant_step_eight(uint64_t edition, MantNode settings, MANT_EIGHT_LISTS, const uint8_t *batch, size_t batch_length, MantCursor cursor,
+                         uint8_t *output, size_t output_length);
+MantListened mant_hear_and_count_eight(uint64_t edition, MantNode settings, MANT_EIGHT_LISTS, const uint8_t *received, size_t received_length,
+                                       uint8_t *output, size_t output_length, uint16_t *table, size_t table_words);
+#undef MANT_EIGHT_LISTS
+
+/* The lists at the address, or eight that are empty where it is NULL. */
+static inline const MantLists *mant_lists_at(const MantLists *lists)
+{
+    static const MantLists empty = {{{NULL, 0}, {NULL, 0}}, {{NULL, 0}, {NULL, 0}}, {{NULL, 0}, {NULL, 0}}, {{NULL, 0}, {NULL, 0}}};
+    return lists != NULL ? lists : &empty;
+}
+
+#define MANT_LIST(list) (list).values, (list).length
+#define MANT_TWO_LISTS(two) MANT_LIST((two).first), MANT_LIST((two).second)
+#define MANT_SPREAD(lists)                                                                                                      \
+    MANT_TWO_LISTS((lists)->source_pass), MANT_TWO_LISTS((lists)->source_reject), MANT_TWO_LISTS((lists)->destination_pass),    \
+        MANT_TWO_LISTS((lists)->destination_reject)
+
+/* What is wrong with the lists of a node: the number of the first of the eight that has a fault, or 0. They are looked at kind by kind in the order of
+   the struct, first before second; in each list 22, 21, then 20. */
+static inline uint8_t mant_list_fault(const MantLists *lists)
+{
+    lists = mant_lists_at(lists);
+    return mant_list_fault_eight(MANT_SPREAD(lists));
+}
+
 /* What a node answers for the PDU at the start of the received bytes: a number for delivery and one for repeating. 17, faults of the lists (20 to 22),
-   of reading (1 to 6), 30, 42, 31 to 34 and 40, the first of them in this order, are given as both, and nothing is delivered then. The lists are
-   checked even where they are off. With echo on, 30 is given where the path holds the own address, and 42 where the source is the own address, with
-   the path bit or without (document 02, W-203); with echo off, neither. The delivered payload is the delivered_length bytes from received +
-   delivered_place on. With length 0 there are none, and that place may be the end of the received bytes. The repeated PDU is written to the output
-   where the repeat number is 0; with any other the output is left alone. The last sender is told with every number but 17 and those of the lists
-   and of reading, so also where the PDU is dropped (document 02, W-205). */
-MantAnswer mant_hear(uint64_t edition, MantNode settings, const uint16_t *source_pass, size_t source_pass_length, const uint16_t *source_reject,
-                     size_t source_reject_length, const uint16_t *destination_pass, size_t destination_pass_length,
-                     const uint16_t *destination_reject, size_t destination_reject_length, const uint8_t *received, size_t received_length,
-                     uint8_t *output, size_t output_length);
+   of reading (1 to 6), 30, 42, 31 to 34 and 40, the first of them in this order, are given as both, and nothing is delivered then. All eight lists are
+   checked, as by mant_list_fault; 31 to 34 are given by those that are chosen. With echo on, 30 is given where the path holds the own address, and 42
+   where the source is the own address, with the path bit or without (document 02, W-203); with echo off, neither. The delivered payload is the
+   delivered_length bytes from received + delivered_place on. With length 0 there are none, and that place may be the end of the received bytes. The
+   repeated PDU is written to the output where the repeat number is 0; with any other the output is left alone. The last sender is told with every
+   number but 17 and those of the lists and of reading, so also where the PDU is dropped (document 02, W-205). */
+static inline MantAnswer mant_hear(uint64_t edition, MantNode settings, const MantLists *lists, const uint8_t *received, size_t received_length,
+                                   uint8_t *output, size_t output_length)
+{
+    lists = mant_lists_at(lists);
+    return mant_hear_eight(edition, settings, MANT_SPREAD(lists), received, received_length, output, output_length);
+}
 
 /* One step of the walk over PDUs that lie back to back: what mant_hear answers for the PDU at the cursor, whose first byte is
    batch[cursor.place], and the cursor of the next. After 17, a list fault or a PDU that can't be read the next cursor has ended, at the same
@@ -507,10 +574,12 @@ MantAnswer mant_hear(uint64_t edition, MantNode settings, const uint16_t *source
    there: a delivered payload begins at batch + (s.next.place - s.answer.taken) + s.answer.delivered_place.
 
        for (MantStep s = mant_step(.., (MantCursor){0, false}, ..); s.kind == MANT_ANSWERED; s = mant_step(.., s.next, ..)) { .. } */
-MantStep mant_step(uint64_t edition, MantNode settings, const uint16_t *source_pass, size_t source_pass_length, const uint16_t *source_reject,
-                   size_t source_reject_length, const uint16_t *destination_pass, size_t destination_pass_length,
-                   const uint16_t *destination_reject, size_t destination_reject_length, const uint8_t *batch, size_t batch_length,
-                   MantCursor cursor, uint8_t *output, size_t output_length);
+static inline MantStep mant_step(uint64_t edition, MantNode settings, const MantLists *lists, const uint8_t *batch, size_t batch_length,
+                                 MantCursor cursor, uint8_t *output, size_t output_length)
+{
+    lists = mant_lists_at(lists);
+    return mant_step_eight(edition, settings, MANT_SPREAD(lists), batch, batch_length, cursor, output, output_length);
+}
 
 /* How many stations the table has room for, 0 to 128, and how many it holds. Document 02, W-201, as all that take a table. */
 size_t mant_stations_capacity(const uint16_t *table, size_t table_words);
@@ -541,11 +610,16 @@ uint8_t mant_count_answer(uint16_t *table, size_t table_words, const uint8_t *re
 /* What mant_hear answers and writes to the output, and the PDU counted in the table as by mant_count_answer, so that no PDU is forgotten. Every PDU
    that could be read is counted, also one that a list then stops and one for whose repeat the output is too short. With table number 55 the PDU is
    delivered and repeated all the same. */
-MantListened mant_hear_and_count(uint64_t edition, MantNode settings, const uint16_t *source_pass, size_t source_pass_length,
-                                 const uint16_t *source_reject, size_t source_reject_length, const uint16_t *destination_pass,
-                                 size_t destination_pass_length, const uint16_t *destination_reject, size_t destination_reject_length,
-                                 const uint8_t *received, size_t received_length, uint8_t *output, size_t output_length, uint16_t *table,
-                                 size_t table_words);
+static inline MantListened mant_hear_and_count(uint64_t edition, MantNode settings, const MantLists *lists, const uint8_t *received,
+                                               size_t received_length, uint8_t *output, size_t output_length, uint16_t *table, size_t table_words)
+{
+    lists = mant_lists_at(lists);
+    return mant_hear_and_count_eight(edition, settings, MANT_SPREAD(lists), received, received_length, output, output_length, table, table_words);
+}
+
+#undef MANT_LIST
+#undef MANT_TWO_LISTS
+#undef MANT_SPREAD
 
 /* Retains a PDU that is sent at this time, in the first free record, with count 0; nothing is written. Answers 74 where there are not MANT_RECORDS
    records, 73 where the time is earlier than the last accepted one, 75 where the bytes are not exactly one PDU of protocol 1 with ACK clear and no path

@@ -2,30 +2,31 @@
    lies between that and the caller's stack pointer is the call's, its return address and what the C library's functions take included. From the
    repository's root, after rt staticlib mant:
 
-       gcc -std=c11 -Wall -Wextra -pedantic tests/stack.c -Iinclude target/staticlib/libmant.a -o /tmp/stack && /tmp/stack
+       gcc -std=c11 -O2 -Wall -Wextra -pedantic tests/stack.c -Iinclude target/staticlib/libmant.a -o /tmp/stack && /tmp/stack
 
-   prints the bytes of each function, the most of the calls tried, and fails where they are more than its limit: 512 for mant_hear, 3,584 for the three with
-   retained PDUs, which copy records, 640 for another. */
+   prints the bytes of each function, the most of the calls tried, and fails where they are more than 1,280 for one that takes a node's lists, 640 for
+   another. Those that take lists are called through the functions of mant.h, and what these take is counted too. */
 #include <stdio.h>
 #include <string.h>
 
 #include "mant.h"
 
-#define HEAR_LIMIT 512
+#define LISTED_LIMIT 1280
 #define LIMIT 640
 #define RETAINED_LIMIT 3584
 #define PAINTED 16384
 #define STACK_POINTER "mov %%rsp, %0"
 #define EDITION MANT_EDITION_1_2
-#define NO_LISTS NULL, 0, NULL, 0, NULL, 0, NULL, 0
-#define LISTS list, 128, list, 128, list, 128, list, 128
+#define NO_LISTS NULL
+#define TWO {{list, MANT_LIST_LIMIT}, {list, MANT_LIST_LIMIT}}
+#define LISTS &lists
 #define LENT pdu, sizeof pdu, output, sizeof output
 #define PDU_LENGTH 4613
 #define QUEUE queue, sizeof queue
 #define TABLE records, MANT_RECORDS, 160
 
 static const MantNode node = {.own = 2000, .echo = true, .repeating = true};
-static const MantNode listing = {.own = 2000, .echo = true, .repeating = true, .source_pass = true, .destination_pass = true};
+static const MantNode listing = {.own = 2000, .echo = true, .repeating = true, .source_pass = MANT_FIRST_LIST, .destination_pass = MANT_SECOND_LIST};
 static const MantFresh fresh = {.edition = EDITION, .source = 1000, .has_destination = true, .destination = 1600, .hop_limit = 1, .with_path = true,
                                 .reliable = true};
 static const uint8_t shortest[6] = {0, 0, 0, 0, 0, 5};
@@ -37,6 +38,7 @@ static const MantSending sending = {.hop_limit = 7, .port = 15, .with_path = tru
 static const MantHeard heard = {.source = 1000, .path_bit = true};
 static const MantCursor start = {0, false};
 static uint16_t list[MANT_LIST_LIMIT], table[MANT_STATION_WORDS];
+static const MantLists lists = {TWO, TWO, TWO, TWO};
 static uint8_t pdu[MANT_PDU_LIMIT], output[MANT_PDU_LIMIT + 2], exchange[MANT_EXCHANGE_LIMIT], queue[MANT_QUEUE_LENGTH];
 static uint8_t command[MANT_RETAINED_LIMIT] = {0x09, 0, 0x30, 0xF7, 0x03, 0xE8, 0x06, 0x40, 7};
 static MantRetained records[MANT_RECORDS];
@@ -103,15 +105,15 @@ static const struct {
     {"mant_path_has", {path_has_call}},
     {"mant_write_again", {write_again_call}},
     {"mant_originate", {originate_call}},
-    {"mant_list_fault", {list_fault_call}},
+    {"mant_list_fault_eight", {list_fault_call}},
     {"mant_list_holds", {list_holds_call}},
-    {"mant_hear", {hear_cut_call, hear_call, hear_listed_call}},
-    {"mant_step", {step_call, step_listed_call}},
+    {"mant_hear_eight", {hear_cut_call, hear_call, hear_listed_call}},
+    {"mant_step_eight", {step_call, step_listed_call}},
     {"mant_stations_capacity", {capacity_call}},
     {"mant_stations_held", {held_call}},
     {"mant_count_heard", {count_heard_call}},
     {"mant_count_answer", {count_answer_call}},
-    {"mant_hear_and_count", {hear_and_count_call, hear_and_count_listed_call}},
+    {"mant_hear_and_count_eight", {hear_and_count_call, hear_and_count_listed_call}},
     {"mant_station_at", {station_at_call}},
     {"mant_station_of", {station_of_call}},
     {"mant_remove_station", {remove_station_call}},
@@ -189,7 +191,7 @@ int main(void)
             size_t depth = depth_of(functions[i].calls[k]);
             most = depth > most ? depth : most;
         }
-        bool too_many = most > limit_of(functions[i].name);
+        bool too_many = most > (strstr(functions[i].name, "_eight") != NULL ? LISTED_LIMIT : LIMIT);
         status = too_many ? 1 : status;
         printf("%s %zu%s\n", functions[i].name, most, too_many ? ", too many" : "");
     }

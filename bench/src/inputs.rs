@@ -1,7 +1,7 @@
 //! What is measured on.
 
 use mant::raw;
-use reference::{Origination, Settings, EDITION_1_2};
+use reference::{Choice, Origination, Settings, EDITION_1_2};
 
 /// All is measured under edition 1.2.
 pub const EDITION: u64 = EDITION_1_2;
@@ -45,10 +45,10 @@ pub const NODE: raw::Node = raw::Node {
     own: 2000,
     echo: true,
     repeating: true,
-    source_pass: false,
-    source_reject: false,
-    destination_pass: false,
-    destination_reject: false,
+    source_pass: raw::NO_LIST,
+    source_reject: raw::NO_LIST,
+    destination_pass: raw::NO_LIST,
+    destination_reject: raw::NO_LIST,
 };
 
 /// The same for the reference.
@@ -56,27 +56,27 @@ pub const SETTINGS: Settings = Settings {
     own_address: 2000,
     echo: true,
     repeating: true,
-    source_pass_on: false,
-    source_reject_on: false,
-    destination_pass_on: false,
-    destination_reject_on: false,
+    source_pass: Choice::None,
+    source_reject: Choice::None,
+    destination_pass: Choice::None,
+    destination_reject: Choice::None,
 };
 
-/// Node 2000 with its four lists on, for the library.
+/// Node 2000 with the first list of each kind on, for the library.
 pub const NODE_WITH_LISTS: raw::Node = raw::Node {
-    source_pass: true,
-    source_reject: true,
-    destination_pass: true,
-    destination_reject: true,
+    source_pass: raw::FIRST_LIST,
+    source_reject: raw::FIRST_LIST,
+    destination_pass: raw::FIRST_LIST,
+    destination_reject: raw::FIRST_LIST,
     ..NODE
 };
 
 /// The same for the reference.
 pub const SETTINGS_WITH_LISTS: Settings = Settings {
-    source_pass_on: true,
-    source_reject_on: true,
-    destination_pass_on: true,
-    destination_reject_on: true,
+    source_pass: Choice::First,
+    source_reject: Choice::First,
+    destination_pass: Choice::First,
+    destination_reject: Choice::First,
     ..SETTINGS
 };
 

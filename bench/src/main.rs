@@ -17,8 +17,8 @@ use reference::{Lists, Settings};
 use std::hint::black_box;
 use timing::{measure, Measured, OFFSETS, ROUNDS};
 
-/// Four lists that are empty.
-const NO_LISTS: raw::Lists = [&[]; 4];
+/// Eight lists that are empty.
+const NO_LISTS: raw::Lists = [&[]; 8];
 
 /// The largest output that a case copies.
 const ROOM: usize = 16_384;
@@ -209,12 +209,12 @@ fn hearing(pdu: &[u8]) -> [Measured; 4] {
     hearing_at(pdu, NODE, &SETTINGS, NO_LISTS)
 }
 
-/// The same with the four lists on, so many ranges in each. Every range is
-/// looked at, and the PDU is repeated.
+/// The same with the first list of each kind on, so many ranges in each. Every
+/// range is looked at, and the PDU is repeated.
 fn hearing_by_lists(pdu: &[u8], ranges: usize) -> [Measured; 4] {
     let passing = inputs::passing(ranges);
     let rejecting = inputs::rejecting(ranges);
-    let lists: raw::Lists = [&passing, &rejecting, &passing, &rejecting];
+    let lists = Lists::firsts([&passing, &rejecting, &passing, &rejecting]).in_order();
     hearing_at(
         pdu,
         inputs::NODE_WITH_LISTS,

@@ -299,7 +299,7 @@ pub fn queue_clear(ring: &mut Ring) {
 }
 
 #[inline]
-fn of(lists: Lists) -> [List; 4] {
+fn of(lists: Lists) -> [List; 8] {
     lists.map(|list| List {
         values: list.as_ptr(),
         length: list.len(),

@@ -3,13 +3,22 @@
 
 use crate::plain;
 use generator::{
-    exchange, exchanged_pdu, four_lists, habits, origination, output, pace, payload_to_send,
-    queue_deed, received, reliable_deed, room, settings_for, QueueDeed, Random, ReliableDeed,
+    edition, eight_lists, exchange, exchanged_pdu, origination, output, pace, payload_to_send,
+    queue_deed, received, room, settings_for, QueueDeed, Random,
 };
 use mant::raw;
-use reference::{Done, Lists, Queue, Sending, Stations, Table};
+use reference::{Choice, Queue, Stations};
 
 const INPUTS: usize = 20_000;
+
+/// A choice as the library takes it.
+fn number(choice: Choice) -> u8 {
+    match choice {
+        Choice::None => raw::NO_LIST,
+        Choice::First => raw::FIRST_LIST,
+        Choice::Second => raw::SECOND_LIST,
+    }
+}
 
 #[test]
 fn plain_reads_as_the_library_does() {
@@ -53,7 +62,7 @@ fn plain_originates_as_the_reference_does() {
 fn plain_hears_as_the_reference_does() {
     let mut random = Random::from_seed(3);
     for _ in 0..INPUTS {
-        let four = four_lists(&mut random);
+        let eight = eight_lists(&mut random);
         let (edition, bytes) = (edition(&mut random), received(&mut random));
         let settings = settings_for(&mut random, &bytes);
         let room = room(&mut random, bytes.len() + 2);
@@ -63,14 +72,14 @@ fn plain_hears_as_the_reference_does() {
             own: settings.own_address,
             echo: settings.echo,
             repeating: settings.repeating,
-            source_pass: settings.source_pass_on,
-            source_reject: settings.source_reject_on,
-            destination_pass: settings.destination_pass_on,
-            destination_reject: settings.destination_reject_on,
+            source_pass: number(settings.source_pass),
+            source_reject: number(settings.source_reject),
+            destination_pass: number(settings.destination_pass),
+            destination_reject: number(settings.destination_reject),
         };
-        let four = four.lists();
-        let answer = plain::hear(edition, node, four.in_order(), &bytes, &mut one);
-        let wanted = reference::hear(edition, &settings, &four, &bytes, &mut other);
+        let eight = eight.lists();
+        let answer = plain::hear(edition, node, eight.in_order(), &bytes, &mut one);
+        let wanted = reference::hear(edition, &settings, &eight, &bytes, &mut other);
         assert_eq!(
             (answer.delivery, answer.repeat),
             (wanted.delivery, wanted.repeat)

@@ -7,12 +7,12 @@ use Rattle.boundary.proofs.refused_header.Reads as refused-header-reads
 use Rattle.boundary.proofs.refused_header.Kinds as refused-header-kinds
 use Rattle.boundary.proofs.fresh_from_c.Reads as fresh-from-c-reads
 use Rattle.boundary.proofs.fresh_from_c.Kinds as fresh-from-c-kinds
+use Rattle.boundary.proofs.node_from_c.Reads as node-from-c-reads
+use Rattle.boundary.proofs.node_from_c.Kinds as node-from-c-kinds
 use Rattle.boundary.proofs.answer_in_c.Reads as answer-in-c-reads
 use Rattle.boundary.proofs.answer_in_c.Kinds as answer-in-c-kinds
 use Rattle.boundary.proofs.answer_from_c.Reads as answer-from-c-reads
 use Rattle.boundary.proofs.answer_from_c.Kinds as answer-from-c-kinds
-use Rattle.boundary.proofs.listened_in_c.Reads as listened-in-c-reads
-use Rattle.boundary.proofs.listened_in_c.Kinds as listened-in-c-kinds
 use Rattle.boundary.proofs.step_in_c.Reads as step-in-c-reads
 use Rattle.boundary.proofs.step_in_c.Kinds as step-in-c-kinds
 use Rattle.boundary.proofs.bound_in_c.Reads as bound-in-c-reads
@@ -29,14 +29,14 @@ refused-header = (λ κs a. tt, λ κs a x y s t p q. p ∙ sym q)
 pub fresh-from-c : Promised 0 fresh-from-c-kinds.ps fresh-from-c-kinds.r fresh-from-c-reads.Asked fresh-from-c-reads.Post (λ κs x. x)
 fresh-from-c = (λ κs a. tt, λ κs a x y s t p q. p ∙ sym q)
 
+pub node-from-c : Promised 0 node-from-c-kinds.ps node-from-c-kinds.r node-from-c-reads.Asked node-from-c-reads.Post (λ κs x. x)
+node-from-c = (λ κs a. tt, λ κs a x y s t p q. p ∙ sym q)
+
 pub answer-in-c : Promised 0 answer-in-c-kinds.ps answer-in-c-kinds.r answer-in-c-reads.Asked answer-in-c-reads.Post (λ κs x. x)
 answer-in-c = (λ κs a. tt, λ κs a x y s t p q. p ∙ sym q)
 
 pub answer-from-c : Promised 0 answer-from-c-kinds.ps answer-from-c-kinds.r answer-from-c-reads.Asked answer-from-c-reads.Post (λ κs x. x)
 answer-from-c = (λ κs a. tt, λ κs a x y s t p q. p ∙ sym q)
-
-pub listened-in-c : Promised 0 listened-in-c-kinds.ps listened-in-c-kinds.r listened-in-c-reads.Asked listened-in-c-reads.Post (λ κs x. x)
-listened-in-c = (λ κs a. tt, λ κs a x y s t p q. p ∙ sym q)
 
 pub step-in-c : Promised 0 step-in-c-kinds.ps step-in-c-kinds.r step-in-c-reads.Asked step-in-c-reads.Post (λ κs x. x)
 step-in-c = (λ κs a. tt, λ κs a x y s t p q. p ∙ sym q)

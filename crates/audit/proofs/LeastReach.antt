@@ -20,16 +20,32 @@ use Rattle.coverage.proofs.Covered.{reach, schedule}
 use Rattle.coverage.proofs.Told.{told}
 use Rattle.audit.specs.LeastReach.{LeastReach}
 
+own-answer : (editionOf : ℕ → ℕ) (n : Repeater) (received output left : List ℕ) (answer : Answer)
+    → known (editionOf (address n)) ≡ true → length output ≡ n .room
+    → HearsUnder (editionOf (address n)) (n .node) received output answer left → answer ≡ answerOf (n .node) (n .room) received
+own-answer editionOf n received output left answer named long hears =
+    hears .0 ∙ known-answer (editionOf (address n)) (n .node) named (length output) received
+    ∙ ap (λ (room : ℕ). answerOf (n .node) room received) long
+
 answered : (editionOf : ℕ → ℕ) (n : Repeater) (received output left payload : List ℕ) (answer : Answer)
     → known (editionOf (address n)) ≡ true → length output ≡ n .room
     → HearsUnder (editionOf (address n)) (n .node) received output answer left → Delivers n received payload
     → (answer .delivery ≡ 0) × (take (answer .«delivered_length») (drop (answer .«delivered_place») received) ≡ payload)
 answered editionOf n received output left payload answer named long hears delivers =
-    let is : answer ≡ answerOf (n .node) (n .room) received =
-    hears .0 ∙ known-answer (editionOf (address n)) (n .node) named (length output) received
-    ∙ ap (λ (room : ℕ). answerOf (n .node) room received) long in
+    let is = own-answer editionOf n received output left answer named long hears in
     subst (λ (a : Answer). (a .delivery ≡ 0) × (take (a .«delivered_length») (drop (a .«delivered_place») received) ≡ payload)) (sym is)
     (delivers .number, delivers .part)
+
+answered-only : (editionOf : ℕ → ℕ) (n : Repeater) (received output left : List ℕ) (answer : Answer)
+    → known (editionOf (address n)) ≡ true → length output ≡ n .room
+    → HearsUnder (editionOf (address n)) (n .node) received output answer left → answer .delivery ≡ 0
+    → Delivers n received (take (answer .«delivered_length») (drop (answer .«delivered_place») received))
+answered-only editionOf n received output left answer named long hears done =
+    let is = sym (own-answer editionOf n received output left answer named long hears) in
+    record {
+      number = ap (λ (a : Answer). a .delivery) is ∙ done;
+      part = ap (λ (a : Answer). take (a .«delivered_length») (drop (a .«delivered_place») received)) is;
+    }
 
 sent : (editionOf : ℕ → ℕ) (n : Repeater) (received : List ℕ) → known (editionOf (address n)) ≡ true
     → sends n received
@@ -46,6 +62,7 @@ least-reach =
       told = told;
       pair = (refl, refl);
       answered = answered;
+      answered-only = answered-only;
       sent = sent;
       line-planned = cases.line-planned;
       line-taken = cases.line-taken;

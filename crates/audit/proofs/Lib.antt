@@ -9,6 +9,7 @@ pub mod Decision
 pub mod Node
 pub mod Batch
 pub mod Hearing
+pub mod Seasons
 pub mod Text
 pub mod Lines
 pub mod Job
@@ -39,3 +40,5 @@ pub mod Examples
 pub mod LastSender
 pub mod TwoEditions
 pub mod ReliableMessages
+pub mod SeasonAir
+pub mod TwoLists

@@ -42,11 +42,15 @@ pub record LeastReach : Type 0 where
   -- a pair is a sender's place, and then the place of a node that hears it
   pub pair : (heard (1 ∷ 2 ∷ []) 1 2 ≡ true) × (heard (1 ∷ 2 ∷ []) 2 1 ≡ false)
   -- the nodes have edition 1.1 or 1.2 each, as their addresses say (W-209). A node of the model delivers what its function `hear` answers under its
-  -- edition: number 0, and the payload at the answer's place; and it sends where that answer's repeat number is 0
+  -- edition: number 0, and the payload at the answer's place, and no other; and it sends where that answer's repeat number is 0
   pub answered : (editionOf : ℕ → ℕ) (n : Repeater) (received output left payload : List ℕ) (answer : Answer)
       → known (editionOf (address n)) ≡ true → length output ≡ n .room
       → HearsUnder (editionOf (address n)) (n .node) received output answer left → Delivers n received payload
       → (answer .delivery ≡ 0) × (take (answer .«delivered_length») (drop (answer .«delivered_place») received) ≡ payload)
+  pub answered-only : (editionOf : ℕ → ℕ) (n : Repeater) (received output left : List ℕ) (answer : Answer)
+      → known (editionOf (address n)) ≡ true → length output ≡ n .room
+      → HearsUnder (editionOf (address n)) (n .node) received output answer left → answer .delivery ≡ 0
+      → Delivers n received (take (answer .«delivered_length») (drop (answer .«delivered_place») received))
   pub sent : (editionOf : ℕ → ℕ) (n : Repeater) (received : List ℕ) → known (editionOf (address n)) ≡ true
       → sends n received
       ≡ cond (eqb (answerUnder (editionOf (address n)) (n .node) (n .room) received .repeat) 0) (some (repeated (address n) received)) none

@@ -10,3 +10,4 @@ pub mod Examples
 pub mod LastSender
 pub mod TwoEditions
 pub mod ReliableMessages
+pub mod TwoLists

@@ -1,9 +1,10 @@
--- The answers of the layer as the values that C sees where the layer has an enum, and what C gives for one. `Written`, a node's `Settings` and a walk's
--- `Cursor` go through as they are. What the values mean is defined below this crate.
+-- The answers of the layer as the values that C sees where the layer has an enum, and what C gives for one. `Written` and a walk's `Cursor` go
+-- through as they are. What the values mean is defined below this crate.
 use Prim.Native.Nat.{ℕ}
 use mathlib.Core.Bool.{Bool, true, false, cond}
 use mathlib.Core.List.{List, []}
 use mathlib.Core.Path.{_≡_}
+use lib.Dec.{eqb}
 use lib.ListN.{length}
 use Rattle.pdu.specs.declared.Destination.{Destination}
 use Rattle.pdu.specs.declared.Destination.the-variants.{Everyone, Address}
@@ -22,20 +23,23 @@ use Rattle.editions.specs.declared.Reading.the-variants as edition-reading
 use Rattle.editions.specs.Editions.{shownWith, wireOf}
 use Rattle.lists.specs.Lists.{valueLimit}
 use Rattle.origin.specs.declared.Settings as origin
-use Rattle.decision.specs.Decision.{Node}
 use Rattle.node.specs.declared.Answer.{Answer}
 use Rattle.node.specs.Answers.{twice}
 use Rattle.batch.specs.declared.Cursor.{Cursor}
 use Rattle.batch.specs.declared.Stepped.{Stepped}
 use Rattle.batch.specs.declared.Stepped.the-variants.{TooLong, Ended, Answered}
 use Rattle.batch.specs.Walk.{batchLimit}
-use Rattle.hearing.specs.Hearing.{answerUnder, outputUnder, stepUnder, stepOutputUnder}
-use Rattle.listening.specs.declared.Listened.{Listened}
+use Rattle.seasons.specs.declared.Choice.{Choice}
+use Rattle.seasons.specs.declared.Choice.the-variants.{First, Second, Neither}
+use Rattle.seasons.specs.declared.SeasonSettings.{SeasonSettings}
+use Rattle.seasons.specs.Choosing.{SeasonNode}
+use Rattle.seasons.specs.Under.{seasonAnswerUnder, seasonOutputUnder, seasonStepUnder, seasonStepOutputUnder}
 use Rattle.listening.specs.Listening.{answerNumber, memoryAfterAnswer}
 use Rattle.bound.specs.declared.Bound.{Bound}
 use Rattle.bound.specs.declared.Bound.the-variants.{Exactly, TooLarge, HopRefused}
 use Rattle.boundary.specs.declared.MantHeader.{MantHeader}
 use Rattle.boundary.specs.declared.MantFresh.{MantFresh}
+use Rattle.boundary.specs.declared.MantNode.{MantNode}
 use Rattle.boundary.specs.declared.MantAnswer.{MantAnswer}
 use Rattle.boundary.specs.declared.MantListened.{MantListened}
 use Rattle.boundary.specs.declared.MantStep.{MantStep}
@@ -146,6 +150,23 @@ freshFromC settings =
       encrypted = settings .encrypted;
     }
 
+-- which list of a kind is chosen (document 02, W-211): 0 none, 1 the first, 2 the second; any other number chooses none
+abbrev pub choiceFromC : ℕ → Choice
+choiceFromC number = cond (eqb number 1) First (cond (eqb number 2) Second Neither)
+
+-- what a node is set to, each kind by itself
+abbrev pub nodeFromC : MantNode → SeasonSettings
+nodeFromC node =
+    record {
+      own = node .own;
+      echo = node .echo;
+      repeating = node .repeating;
+      «source_pass» = choiceFromC (node .«source_pass»);
+      «source_reject» = choiceFromC (node .«source_reject»);
+      «destination_pass» = choiceFromC (node .«destination_pass»);
+      «destination_reject» = choiceFromC (node .«destination_reject»);
+    }
+
 -- a node's answer ("One PDU at one node"), its last sender so, and back
 abbrev pub answerInC : Answer → MantAnswer
 answerInC answer =
@@ -173,19 +194,16 @@ answerFromC answer =
     }
 
 -- what hearing a PDU under an edition answers and leaves in the output
-abbrev pub HearsInC : ℕ → Node → List ℕ → List ℕ → MantAnswer → List ℕ → Type 0
+abbrev pub HearsInC : ℕ → SeasonNode → List ℕ → List ℕ → MantAnswer → List ℕ → Type 0
 HearsInC edition node received output answer left =
-    (answer ≡ answerInC (answerUnder edition node (length output) received)) × (left ≡ outputUnder edition node received output)
+    (answer ≡ answerInC (seasonAnswerUnder edition node (length output) received)) × (left ≡ seasonOutputUnder edition node received output)
 
 -- and where it is counted too (document 02, W-201)
-abbrev pub ListensInC : ℕ → Node → List ℕ → List ℕ → List ℕ → MantListened → List ℕ → List ℕ → Type 0
+abbrev pub ListensInC : ℕ → SeasonNode → List ℕ → List ℕ → List ℕ → MantListened → List ℕ → List ℕ → Type 0
 ListensInC edition node received output memory listened left after =
     HearsInC edition node received output (listened .answer) left
-    × (listened .«table_number» ≡ answerNumber (answerUnder edition node (length output) received) received memory)
-    × (after ≡ memoryAfterAnswer (answerUnder edition node (length output) received) received memory)
-
-abbrev pub listenedInC : Listened → MantListened
-listenedInC listened = record { answer = answerInC (listened .answer); «table_number» = listened .«table_number» }
+    × (listened .«table_number» ≡ answerNumber (seasonAnswerUnder edition node (length output) received) received memory)
+    × (after ≡ memoryAfterAnswer (seasonAnswerUnder edition node (length output) received) received memory)
 
 -- a walk that ends has no answer and so no number; C's two fields for numbers are there all the same, and hold 255, which 01 gives to nothing
 abbrev pub noNumber : ℕ
@@ -198,9 +216,10 @@ stepInC cursor Ended = record { kind = 1; answer = answerInC (twice noNumber 0 U
 stepInC cursor TooLong = record { kind = 2; answer = answerInC (twice 54 0 Unknown); next = record { place = cursor .place; ended = true } }
 
 -- what a step under an edition answers and leaves in the output
-abbrev pub StepsInC : ℕ → Node → List ℕ → Cursor → List ℕ → MantStep → List ℕ → Type 0
+abbrev pub StepsInC : ℕ → SeasonNode → List ℕ → Cursor → List ℕ → MantStep → List ℕ → Type 0
 StepsInC edition node batch cursor output step left =
-    (step ≡ stepInC cursor (stepUnder edition node (length output) batch cursor)) × (left ≡ stepOutputUnder edition node batch cursor output)
+    (step ≡ stepInC cursor (seasonStepUnder edition node (length output) batch cursor))
+    × (left ≡ seasonStepOutputUnder edition node batch cursor output)
 
 -- a bound: the value, that it is too large, or number 10 ("Numbers answered"); the value is 0 where there is none
 abbrev pub boundInC : Bound → MantBound

@@ -4,24 +4,19 @@ use batch::Stepped;
 use bound::Bound;
 use editions::Bits;
 use editions::Shown;
-use listening::Listened;
 use node::Answer;
 use pdu::Destination;
 use pdu::Sender;
+use seasons::Choice;
+use seasons::SeasonSettings;
 ghost use mathlib.Core.Path.{_≡_};
-ghost use mathlib.Core.Bool.{cond};
-ghost use Prim.Native.Nat.{_+_, _*_, _-_, _≤_};
-ghost use lib.Dec.{eqb};
-ghost use Rattle.octets.specs.Octets.{at, wordAt};
-ghost use Rattle.pdu.specs.Header.{isSet, pathBit, payloadLength, pathCountPlace, headerOf};
-ghost use Rattle.pdu.specs.Sizes.{headerLimit};
-ghost use Rattle.pdu.specs.Parts.{lastSender};
 ghost use Rattle.pdu.specs.declared.Sender.the-variants.{Unknown};
 ghost use Rattle.node.specs.Answers.{twice};
 ghost use Rattle.boundary.specs.Boundary.{hasDestination, destinationAddress, refusedHeader, shownHeader, destinationFromC, freshFromC};
 ghost use Rattle.boundary.specs.Boundary.{hasFlag, flagOf, reservedOf};
+ghost use Rattle.boundary.specs.Boundary.{choiceFromC, nodeFromC};
 ghost use Rattle.boundary.specs.Boundary.{hasSender, senderAddress, senderFromC, answerInC, answerFromC};
-ghost use Rattle.boundary.specs.Boundary.{listenedInC, stepInC, boundInC, limitsInC};
+ghost use Rattle.boundary.specs.Boundary.{stepInC, boundInC, limitsInC};
 
 // What the fields for numbers hold where there is no answer.
 const NO_NUMBER: u8 = 255;
@@ -69,6 +64,18 @@ pub struct MantFresh {
     pub reliable: bool,
     pub pdu_id: u8,
     pub encrypted: bool,
+}
+
+// What a node is set to. Of each kind of list a number chooses: 1 the first of its two lists, 2 the second; 0, and any other number, chooses none.
+#[repr(C)]
+pub struct MantNode {
+    pub own: u16,
+    pub echo: bool,
+    pub repeating: bool,
+    pub source_pass: u8,
+    pub source_reject: u8,
+    pub destination_pass: u8,
+    pub destination_reject: u8,
 }
 
 // What a node answers for one PDU. `last_sender` counts where `has_last_sender` is set, and is 0 where not. The delivered payload lies at
@@ -286,6 +293,34 @@ fn sender_from_c(known: bool, address: u16) -> Sender
     }
 }
 
+fn choice_from_c(number: u8) -> Choice
+    ensures { λ r. ⌜ r ≡ choiceFromC number ⌝ }
+{
+    if number == 1 {
+        return Choice::First;
+    }
+    if number == 2 {
+        return Choice::Second;
+    }
+    Choice::Neither
+}
+
+// What C sets a node to, as the layer has it: of each kind by itself, 1 chooses the first list, 2 the second, and any other number none.
+// Document 02, W-211.
+pub fn node_from_c(node: MantNode) -> SeasonSettings
+    ensures { λ r. ⌜ r ≡ nodeFromC node ⌝ }
+{
+    SeasonSettings {
+        own: node.own,
+        echo: node.echo,
+        repeating: node.repeating,
+        source_pass: choice_from_c(node.source_pass),
+        source_reject: choice_from_c(node.source_reject),
+        destination_pass: choice_from_c(node.destination_pass),
+        destination_reject: choice_from_c(node.destination_reject),
+    }
+}
+
 // A node's answer, as C sees it. Document 01, "One PDU at one node"; document 02, W-205.
 pub fn answer_in_c(answer: Answer) -> MantAnswer
     ensures { λ r. ⌜ r ≡ answerInC answer ⌝ }
@@ -315,17 +350,6 @@ pub fn answer_from_c(answer: MantAnswer) -> Answer
         repeated_length: answer.repeated_length,
         taken: answer.taken,
         last_sender: sender_from_c(answer.has_last_sender, answer.last_sender),
-    }
-}
-
-// The answer of a node that counted what it heard, and the table's number, as C sees them. Document 02, W-201 and W-205.
-pub fn listened_in_c(listened: Listened) -> MantListened
-    ensures { λ r. ⌜ r ≡ listenedInC listened ⌝ }
-{
-    let answer = listened.answer;
-    MantListened {
-        answer: answer_in_c(answer),
-        table_number: listened.table_number,
     }
 }
 

@@ -4,8 +4,8 @@ ghost use lib.ListN.{length};
 ghost use Rattle.pdu.specs.Reading.{readOf};
 ghost use Rattle.editions.specs.Editions.{readUnder, writeAgainUnder, writtenAgainUnder};
 ghost use Rattle.origin.specs.Origination.{originated, originatedOutput};
-ghost use Rattle.lists.specs.Lists.{listsOf, listFault, holds};
-ghost use Rattle.decision.specs.Decision.{nodeOf};
+ghost use Rattle.lists.specs.Lists.{holds};
+ghost use Rattle.seasons.specs.Choosing.{two, eightOf, eightFault, seasonNodeOf};
 ghost use Rattle.bound.specs.Bound.{bound, bytesBound};
 ghost use Rattle.bound.specs.Answer.{answer};
 ghost use Rattle.stations.specs.Table.{capacity, tableIn};
@@ -21,8 +21,7 @@ ghost use Rattle.transmit.specs.Taking.{Takes};
 ghost use Rattle.retained.specs.Table.{retain, tableRetained, step, tableStepped, outputStepped};
 ghost use Rattle.answering.specs.Delivered.{acknowledge, tableAcknowledged, outputAcknowledged};
 ghost use Rattle.boundary.specs.Boundary.{headerInC, pathAddressIn, pathHas, freshFromC, boundInC, limitsInC};
-ghost use Rattle.boundary.specs.Boundary.{HearsInC, StepsInC, answerFromC, ListensInC};
-use answering::Sending;
+ghost use Rattle.boundary.specs.Boundary.{nodeFromC, HearsInC, StepsInC, answerFromC, ListensInC};
 use batch::Cursor;
 use boundary::MantAnswer;
 use boundary::MantBound;
@@ -30,11 +29,10 @@ use boundary::MantFresh;
 use boundary::MantHeader;
 use boundary::MantLimits;
 use boundary::MantListened;
+use boundary::MantNode;
 use boundary::MantStep;
 use counting::Heard;
-use decision::Settings;
 use exchange::Exchange;
-use listening::Listened;
 use pdu::Reading;
 use pdu::Written;
 use queue::Level;
@@ -106,23 +104,34 @@ pub extern "C" fn mant_originate(settings: MantFresh, payload: &[u8], output: &m
     origin::originate(boundary::fresh_from_c(settings), payload, output)
 }
 
-// The number of the first of the four lists that has a fault, 22, 21 or 20, and 0 where none has. An empty list has none.
-// Document 01, "One PDU at one node", 1.
+// The number of the first of the eight lists that has a fault, 22, 21 or 20, and 0 where none has: kind by kind, in each kind the first list before the
+// second, chosen or not. An empty list has none. Document 01, "One PDU at one node", 1; document 02, W-211.
 #[no_mangle]
-pub extern "C" fn mant_list_fault<'a>(
-    source_pass: &'a [u16],
-    source_reject: &'a [u16],
-    destination_pass: &'a [u16],
-    destination_reject: &'a [u16],
+pub extern "C" fn mant_list_fault_eight<'a>(
+    source_pass_first: &'a [u16],
+    source_pass_second: &'a [u16],
+    source_reject_first: &'a [u16],
+    source_reject_second: &'a [u16],
+    destination_pass_first: &'a [u16],
+    destination_pass_second: &'a [u16],
+    destination_reject_first: &'a [u16],
+    destination_reject_second: &'a [u16],
 ) -> u8
-    ensures { λ r. ⌜ r ≡ listFault (listsOf (now («source_pass» .entry)) (now («source_reject» .entry))
-        (now («destination_pass» .entry)) (now («destination_reject» .entry))) ⌝ }
+    ensures { λ r. ⌜ r ≡ eightFault (eightOf
+        (two (now («source_pass_first» .entry)) (now («source_pass_second» .entry)))
+        (two (now («source_reject_first» .entry)) (now («source_reject_second» .entry)))
+        (two (now («destination_pass_first» .entry)) (now («destination_pass_second» .entry)))
+        (two (now («destination_reject_first» .entry)) (now («destination_reject_second» .entry)))) ⌝ }
 {
-    lists::fault(
-        source_pass,
-        source_reject,
-        destination_pass,
-        destination_reject,
+    seasons::fault(
+        source_pass_first,
+        source_pass_second,
+        source_reject_first,
+        source_reject_second,
+        destination_pass_first,
+        destination_pass_second,
+        destination_reject_first,
+        destination_reject_second,
     )
 }
 
@@ -135,32 +144,44 @@ pub extern "C" fn mant_list_holds(list: &[u16], address: u16) -> bool
     lists::holds(list, address)
 }
 
-// What a node answers for the PDU at the start of the received bytes. An edition other than 11 and 12 (17), faults of the lists (20 to 22) and of reading
-// (1 to 6), 30 to 34, 40 and 42 are answered as both numbers, and nothing is delivered then. The repeated PDU is written at the start of the output where
-// the repeat number is 0, and the output keeps its bytes past it; with any other repeat number the output is left as it was. The last sender is told with
-// every number but 17 and those of the lists and of reading. Document 01, "One PDU at one node"; document 02, W-205 and W-209.
+// What a node answers for the PDU at the start of the received bytes. An edition other than 11 and 12 (17), the first fault of the eight lists, chosen or
+// not (20 to 22), then of reading (1 to 6), 30 to 34, 40 and 42 are answered as both numbers, and nothing is delivered then. 31 to 34 go by the lists that
+// the settings choose. The repeated PDU is written at the start of the output where the repeat number is 0, and the output keeps its bytes past it; with
+// any other repeat number the output is left as it was. The last sender is told with every number but 17 and those of the lists and of reading.
+// Document 01, "One PDU at one node"; document 02, W-205, W-209 and W-211.
 #[no_mangle]
-pub extern "C" fn mant_hear<'a>(
+pub extern "C" fn mant_hear_eight<'a>(
     edition: u64,
-    settings: Settings,
-    source_pass: &'a [u16],
-    source_reject: &'a [u16],
-    destination_pass: &'a [u16],
-    destination_reject: &'a [u16],
+    settings: MantNode,
+    source_pass_first: &'a [u16],
+    source_pass_second: &'a [u16],
+    source_reject_first: &'a [u16],
+    source_reject_second: &'a [u16],
+    destination_pass_first: &'a [u16],
+    destination_pass_second: &'a [u16],
+    destination_reject_first: &'a [u16],
+    destination_reject_second: &'a [u16],
     received: &[u8],
     output: &mut [u8],
 ) -> MantAnswer
-    ensures { λ r. ⌜ HearsInC edition (nodeOf settings (listsOf (now («source_pass» .entry)) (now («source_reject» .entry))
-        (now («destination_pass» .entry)) (now («destination_reject» .entry))))
+    ensures { λ r. ⌜ HearsInC edition (seasonNodeOf (nodeFromC settings) (eightOf
+        (two (now («source_pass_first» .entry)) (now («source_pass_second» .entry)))
+        (two (now («source_reject_first» .entry)) (now («source_reject_second» .entry)))
+        (two (now («destination_pass_first» .entry)) (now («destination_pass_second» .entry)))
+        (two (now («destination_reject_first» .entry)) (now («destination_reject_second» .entry)))))
         (now (received .entry)) (now (output .entry)) r (now (output .exit)) ⌝ }
 {
-    let answer = hearing::hear(
+    let answer = seasons::hear(
         edition,
-        settings,
-        source_pass,
-        source_reject,
-        destination_pass,
-        destination_reject,
+        boundary::node_from_c(settings),
+        source_pass_first,
+        source_pass_second,
+        source_reject_first,
+        source_reject_second,
+        destination_pass_first,
+        destination_pass_second,
+        destination_reject_first,
+        destination_reject_second,
         received,
         output,
     );
@@ -169,31 +190,42 @@ pub extern "C" fn mant_hear<'a>(
 
 // One step of the walk over a batch: the node's answer for the PDU at the cursor, and the cursor of the next. With 17, a number 1 to 6 or a fault of the
 // lists that cursor has ended, at the same place. Any cursor gets an answer; one past the batch's end, or of a walk that ended, gets kind 1. A batch that
-// is too long gets kind 2 at every cursor, if the edition is 11 or 12; 17 comes before that. The output is changed as by `mant_hear`, and not at all with
-// kinds 1 and 2. Document 01, "A batch"; document 02, W-209.
+// is too long gets kind 2 at every cursor, if the edition is 11 or 12; 17 comes before that. The output is changed as by `mant_hear_eight`, and not
+// at all with kinds 1 and 2. Document 01, "A batch"; document 02, W-209 and W-211.
 #[no_mangle]
-pub extern "C" fn mant_step<'a>(
+pub extern "C" fn mant_step_eight<'a>(
     edition: u64,
-    settings: Settings,
-    source_pass: &'a [u16],
-    source_reject: &'a [u16],
-    destination_pass: &'a [u16],
-    destination_reject: &'a [u16],
+    settings: MantNode,
+    source_pass_first: &'a [u16],
+    source_pass_second: &'a [u16],
+    source_reject_first: &'a [u16],
+    source_reject_second: &'a [u16],
+    destination_pass_first: &'a [u16],
+    destination_pass_second: &'a [u16],
+    destination_reject_first: &'a [u16],
+    destination_reject_second: &'a [u16],
     batch: &[u8],
     cursor: Cursor,
     output: &mut [u8],
 ) -> MantStep
-    ensures { λ r. ⌜ StepsInC edition (nodeOf settings (listsOf (now («source_pass» .entry)) (now («source_reject» .entry))
-        (now («destination_pass» .entry)) (now («destination_reject» .entry))))
+    ensures { λ r. ⌜ StepsInC edition (seasonNodeOf (nodeFromC settings) (eightOf
+        (two (now («source_pass_first» .entry)) (now («source_pass_second» .entry)))
+        (two (now («source_reject_first» .entry)) (now («source_reject_second» .entry)))
+        (two (now («destination_pass_first» .entry)) (now («destination_pass_second» .entry)))
+        (two (now («destination_reject_first» .entry)) (now («destination_reject_second» .entry)))))
         (now (batch .entry)) cursor (now (output .entry)) r (now (output .exit)) ⌝ }
 {
-    let stepped = hearing::step(
+    let stepped = seasons::step(
         edition,
-        settings,
-        source_pass,
-        source_reject,
-        destination_pass,
-        destination_reject,
+        boundary::node_from_c(settings),
+        source_pass_first,
+        source_pass_second,
+        source_reject_first,
+        source_reject_second,
+        destination_pass_first,
+        destination_pass_second,
+        destination_reject_first,
+        destination_reject_second,
         batch,
         cursor,
         output,
@@ -289,39 +321,49 @@ pub extern "C" fn mant_count_answer(table: &mut [u16], received: &[u8], answer: 
     listening::count_answer(table, received, boundary::answer_from_c(answer))
 }
 
-// What `mant_hear` answers and leaves, whatever the table holds; and the PDU counted in the table, if it was read, so nothing with 17. The table's number
-// stands beside the answer. Document 02, W-201 and W-209.
+// What `mant_hear_eight` answers and leaves, whatever the table holds; and the PDU counted in the table as by `mant_count_answer`, if it was read, so nothing
+// with 17 or a fault of the lists. The table's number stands beside the answer. Document 02, W-201, W-209 and W-211.
 #[no_mangle]
-pub extern "C" fn mant_hear_and_count<'a>(
+pub extern "C" fn mant_hear_and_count_eight<'a>(
     edition: u64,
-    settings: Settings,
-    source_pass: &'a [u16],
-    source_reject: &'a [u16],
-    destination_pass: &'a [u16],
-    destination_reject: &'a [u16],
+    settings: MantNode,
+    source_pass_first: &'a [u16],
+    source_pass_second: &'a [u16],
+    source_reject_first: &'a [u16],
+    source_reject_second: &'a [u16],
+    destination_pass_first: &'a [u16],
+    destination_pass_second: &'a [u16],
+    destination_reject_first: &'a [u16],
+    destination_reject_second: &'a [u16],
     received: &[u8],
     output: &mut [u8],
     table: &mut [u16],
 ) -> MantListened
-    ensures { λ r. ⌜ ListensInC edition (nodeOf settings (listsOf (now («source_pass» .entry)) (now («source_reject» .entry))
-        (now («destination_pass» .entry)) (now («destination_reject» .entry))))
+    ensures { λ r. ⌜ ListensInC edition (seasonNodeOf (nodeFromC settings) (eightOf
+        (two (now («source_pass_first» .entry)) (now («source_pass_second» .entry)))
+        (two (now («source_reject_first» .entry)) (now («source_reject_second» .entry)))
+        (two (now («destination_pass_first» .entry)) (now («destination_pass_second» .entry)))
+        (two (now («destination_reject_first» .entry)) (now («destination_reject_second» .entry)))))
         (now (received .entry)) (now (output .entry)) (now (table .entry)) r (now (output .exit)) (now (table .exit)) ⌝ }
 {
-    let heard = hearing::hear(
+    let told = mant_hear_eight(
         edition,
         settings,
-        source_pass,
-        source_reject,
-        destination_pass,
-        destination_reject,
+        source_pass_first,
+        source_pass_second,
+        source_reject_first,
+        source_reject_second,
+        destination_pass_first,
+        destination_pass_second,
+        destination_reject_first,
+        destination_reject_second,
         received,
         output,
     );
-    let table_number = listening::count_answer(table, received, heard);
-    boundary::listened_in_c(Listened {
-        answer: heard,
-        table_number,
-    })
+    MantListened {
+        answer: told,
+        table_number: mant_count_answer(table, received, told),
+    }
 }
 
 // Reads a serial exchange: 0 with place and length of header and payload in `bytes`; or 57 or 58, 59, 1 to 6, 63, with zeros. Document 02, W-202.

@@ -4,7 +4,7 @@
 use crate::same::{node, Input};
 use crate::table::{answer_for, in_library, in_reference, is_read, Table, NOT_HELD};
 use crate::Compared;
-use generator::{any_table, good_four_lists, settings, source_near, Deed, Hearing, Random};
+use generator::{any_table, good_eight_lists, settings, source_near, Deed, Hearing, Random};
 use mant::raw::{self, Found, Station};
 use reference::{counts_as_echo, Stations};
 
@@ -12,7 +12,7 @@ use reference::{counts_as_echo, Stations};
 pub fn compare(random: &mut Random) -> Compared {
     let words = any_table(random);
     let mut table = Table::of(random, &words);
-    let at = (settings(random), good_four_lists(random));
+    let at = (settings(random), good_eight_lists(random));
     for _ in 0..random.between(1, 8) {
         let source = source_near(random, table.words());
         let deed = generator::deed(random, &at, source);
@@ -22,7 +22,7 @@ pub fn compare(random: &mut Random) -> Compared {
             rest: &(&deed, before.words()),
         };
         compare_shown(&input, &before, source)?;
-        compare_deed(&input, &mut table, &before, &deed)?;
+        compare_deed(random, &input, (&mut table, &before), &deed)?;
     }
     Ok(())
 }
@@ -51,7 +51,12 @@ fn compare_shown(input: &Input, table: &Table, address: u16) -> Compared {
 }
 
 /// A deed, by whether its station is found.
-fn compare_deed(input: &Input, table: &mut Table, before: &Table, deed: &Deed) -> Compared {
+fn compare_deed(
+    random: &mut Random,
+    input: &Input,
+    (table, before): (&mut Table, &Table),
+    deed: &Deed,
+) -> Compared {
     match deed {
         Deed::Remove(address) => {
             let found = raw::station_of(before.words(), *address);
@@ -78,7 +83,8 @@ fn compare_deed(input: &Input, table: &mut Table, before: &Table, deed: &Deed) -
             compare_answer(input, (table, before), bytes, (*delivery, number))
         }
         Deed::Hear(hearing) => {
-            let listened = heard(input, table, hearing)?;
+            let at = node(random, &hearing.settings);
+            let listened = heard(input, table, (at, hearing))?;
             let numbers = (listened.answer.delivery, listened.table_number);
             compare_answer(input, (table, before), &hearing.received, numbers)
         }
@@ -86,12 +92,16 @@ fn compare_deed(input: &Input, table: &mut Table, before: &Table, deed: &Deed) -
 }
 
 /// A node hears bytes; its answer and output are those without a table.
-fn heard(input: &Input, table: &mut Table, hearing: &Hearing) -> Result<raw::Listened, String> {
+fn heard(
+    input: &Input,
+    table: &mut Table,
+    (at, hearing): (raw::Node, &Hearing),
+) -> Result<raw::Listened, String> {
     let (mut output, mut plain) = (vec![0; hearing.room], vec![0; hearing.room]);
-    let (edition, at, bytes) = (hearing.edition, node(&hearing.settings), &hearing.received);
-    let four = hearing.lists.lists().in_order();
-    let listened = raw::hear_and_count(edition, at, four, bytes, &mut output, table.change());
-    let answer = raw::hear(edition, at, four, bytes, &mut plain);
+    let (edition, bytes) = (hearing.edition, &hearing.received);
+    let eight = hearing.lists.lists().in_order();
+    let listened = raw::hear_and_count(edition, at, eight, bytes, &mut output, table.change());
+    let answer = raw::hear(edition, at, eight, bytes, &mut plain);
     input.same("answer with a table", listened.answer, answer)?;
     input.same_bytes("output with a table", &output, &plain)?;
     Ok(listened)

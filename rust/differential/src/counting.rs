@@ -2,7 +2,7 @@
 //! that the table shows after each.
 
 use crate::output::Output;
-use crate::same::{answer, lists, node, wrapped, Input};
+use crate::same::{answer, lists, node, wrapped, wrapped_node, Input};
 use crate::table::{answer_for, in_library, in_reference, is_read, Table, NOT_HELD};
 use crate::Compared;
 use generator::{address, history, source_near, Deed, Hearing, Random};
@@ -69,7 +69,8 @@ impl Tables {
         match deed {
             Deed::Hear(hearing) => {
                 let output = Output::of(random, hearing.room);
-                self.heard(input, hearing, &output)
+                let at = node(random, &hearing.settings);
+                self.heard(input, (at, hearing), &output)
             }
             Deed::Count(source, echo, path_count) => {
                 let unused = random.byte();
@@ -82,13 +83,18 @@ impl Tables {
 
     /// A node hears bytes: what it answers and writes is what it does without
     /// a table, and counting by that answer comes to the same.
-    fn heard(&mut self, input: &Input, hearing: &Hearing, output: &Output) -> Result<bool, String> {
+    fn heard(
+        &mut self,
+        input: &Input,
+        (at, hearing): (raw::Node, &Hearing),
+        output: &Output,
+    ) -> Result<bool, String> {
         let (mut library, mut plain) = (output.clone(), output.clone());
         let mut reference = output.clone();
         let mut apart = self.library.clone();
-        let (edition, at, bytes) = (hearing.edition, node(&hearing.settings), &hearing.received);
-        let four = hearing.lists.lists();
-        let in_order = four.in_order();
+        let (edition, bytes) = (hearing.edition, &hearing.received);
+        let eight = hearing.lists.lists();
+        let in_order = eight.in_order();
         let table = self.library.change();
         let listened = raw::hear_and_count(edition, at, in_order, bytes, library.room(), table);
         let answered = raw::hear(edition, at, in_order, bytes, plain.room());
@@ -96,7 +102,7 @@ impl Tables {
         input.same_bytes("output with a table", library.all(), plain.all())?;
         let (settings, stations) = (&hearing.settings, &mut self.reference);
         let (wanted, number) =
-            hear_and_count(edition, settings, &four, bytes, reference.room(), stations);
+            hear_and_count(edition, settings, &eight, bytes, reference.room(), stations);
         input.same("answer", answered, answer(&wanted))?;
         input.same_bytes("output", library.all(), reference.all())?;
         input.same("table's number", listened.table_number, number)?;
@@ -119,11 +125,11 @@ impl Tables {
         };
         let (mut output, mut other) = (output.clone(), output.clone());
         let mut apart = stations.clone();
-        let (edition, at, bytes) = (hearing.edition, node(&hearing.settings), &hearing.received);
-        let four = hearing.lists.lists();
-        let heard = stations.hear(edition, &at, &lists(&four), bytes, output.room());
+        let (edition, bytes) = (hearing.edition, &hearing.received);
+        let (at, eight) = (wrapped_node(&hearing.settings), hearing.lists.lists());
+        let heard = stations.hear(edition, &at, &lists(&eight), bytes, output.room());
         let wanted = wrapped(&listened.answer);
-        hear(edition, &hearing.settings, &four, bytes, other.room());
+        hear(edition, &hearing.settings, &eight, bytes, other.room());
         input.same("wrapped answer", &heard.answer, &wanted)?;
         input.same("wrapped number", number(heard.table), listened.table_number)?;
         input.same_bytes("wrapped output", output.all(), other.all())?;

@@ -4,9 +4,11 @@
 //! count (02, W-203), and has edition 1.1 or 1.2 (W-209). Each answer is
 //! compared with the reference's.
 
-use crate::same::{answer, fresh, hex, lists, node as library_node, wrapped};
+use crate::same::{answer, fresh, hex, lists, wrapped, wrapped_node};
 use crate::Compared;
-use generator::{address, good_edition, good_four_lists, origination, settings, FourLists, Random};
+use generator::{
+    address, good_edition, good_eight_lists, origination, settings, EightLists, Random,
+};
 use mant::{most_bytes, most_transmissions};
 use reference::{hear, Origination, Settings, EDITION_1_2, MOST_PDU};
 use std::collections::{HashSet, VecDeque};
@@ -15,7 +17,7 @@ use std::collections::{HashSet, VecDeque};
 struct Node {
     edition: u64,
     settings: Settings,
-    lists: FourLists,
+    lists: EightLists,
 }
 
 /// How the next reception is chosen from those that wait.
@@ -147,7 +149,7 @@ fn node(random: &mut Random, own_address: u16, open: bool) -> Node {
             echo: true,
             ..chosen
         },
-        lists: good_four_lists(random),
+        lists: good_eight_lists(random),
     }
 }
 
@@ -224,16 +226,16 @@ impl Flood {
         let Node {
             edition,
             settings,
-            lists: four,
+            lists: eight,
         } = &self.nodes[node];
-        let (four, received) = (four.lists(), &self.sent[transmission]);
+        let (eight, received) = (eight.lists(), &self.sent[transmission]);
         let (mut out, mut other) = ([0; 64], [0; 64]);
-        let at = library_node(settings);
-        let heard = mant::hear(*edition, &at, &lists(&four), received, &mut out);
-        let wanted = answer(&hear(*edition, settings, &four, received, &mut other));
+        let at = wrapped_node(settings);
+        let heard = mant::hear(*edition, &at, &lists(&eight), received, &mut out);
+        let wanted = answer(&hear(*edition, settings, &eight, received, &mut other));
         if heard != wrapped(&wanted) || out != other {
             return Err(format!(
-                "library {heard:?} {}, reference {wanted:?} {}; input {}, {settings:?}, {four:?}",
+                "library {heard:?} {}, reference {wanted:?} {}; input {}, {settings:?}, {eight:?}",
                 hex(&out),
                 hex(&other),
                 hex(received)

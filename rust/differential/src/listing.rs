@@ -2,29 +2,29 @@
 
 use crate::same::{lists, Input};
 use crate::Compared;
-use generator::{address, bad_list, four_lists, good_list, FourLists, Random};
+use generator::{address, bad_list, eight_lists, good_list, EightLists, Random};
 use reference::{holds, list_fault};
 
-/// Compares the fault of four lists, and what each of them holds.
+/// Compares the fault of eight lists, and what each of them holds.
 pub fn compare(random: &mut Random) -> Compared {
-    let four = match random.flag() {
-        true => four_lists(random),
-        false => FourLists(std::array::from_fn(|_| match random.flag() {
+    let eight = match random.flag() {
+        true => eight_lists(random),
+        false => EightLists(std::array::from_fn(|_| match random.flag() {
             true => good_list(random),
             false => bad_list(random),
         })),
     };
     let input = Input {
         bytes: &[],
-        rest: &four,
+        rest: &eight,
     };
-    let wanted = list_fault(&four.lists());
-    let library = mant::raw::list_fault(four.lists().in_order());
+    let wanted = list_fault(&eight.lists());
+    let library = mant::raw::list_fault(eight.lists().in_order());
     input.same("list fault", library, wanted)?;
-    let wrapped = mant::list_fault(&lists(&four.lists()));
+    let wrapped = mant::list_fault(&lists(&eight.lists()));
     let number = wrapped.map_or_else(mant::Refusal::number, |()| 0);
     input.same("wrapped list fault", number, wanted)?;
-    for list in &four.0 {
+    for list in &eight.0 {
         let near = list.get(random.below(list.len().max(1))).copied();
         let near = near.unwrap_or(0);
         for address in [

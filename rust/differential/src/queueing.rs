@@ -6,7 +6,7 @@ use crate::output::Output;
 use crate::same::{node, Input};
 use crate::Compared;
 use generator::{
-    any_queue, empty_queue, good_edition, good_four_lists, pace, queue_deed, settings_for, Pace,
+    any_queue, empty_queue, good_edition, good_eight_lists, pace, queue_deed, settings_for, Pace,
     QueueDeed, Random,
 };
 use mant::raw::{self, Level, QUEUE_LENGTH};
@@ -212,8 +212,8 @@ fn in_wrapper(taken: Taken) -> Result<mant::Taken, u8> {
 /// fault, comes in a batch to each PDU that was taken and to its end, and
 /// answers none of 1 to 6.
 fn compare_walk(random: &mut Random, input: &Input, batch: &[u8], pdus: &[Vec<u8>]) -> Compared {
-    let (settings, four) = (settings_for(random, batch), good_four_lists(random));
-    let (at, lists) = (node(&settings), four.lists().in_order());
+    let (settings, eight) = (settings_for(random, batch), good_eight_lists(random));
+    let (at, lists) = (node(random, &settings), eight.lists().in_order());
     let edition = good_edition(random);
     let mut output = [0; MOST_PDU];
     let mut cursor = Cursor::default();

@@ -2,8 +2,9 @@
 //! they differ.
 
 use crate::Compared;
+use generator::Random;
 use mant::raw;
-use reference::{Answer, Bits, Origination, Settings, Shown};
+use reference::{Answer, Bits, Choice, Origination, Settings, Shown, TwoLists};
 use std::fmt::Debug;
 
 /// An input, shown in hex only where something differs.
@@ -92,16 +93,42 @@ pub fn header(read: &Result<Shown, u8>) -> raw::Header {
     }
 }
 
-/// A node's settings for the library.
-pub fn node(settings: &Settings) -> raw::Node {
+/// A node's settings for the library. Every number but 1 and 2 chooses no list,
+/// so any of them stands for none.
+pub fn node(random: &mut Random, settings: &Settings) -> raw::Node {
+    let any = random.byte().max(3);
+    let none = random.pick(&[0, 0, 0, 3, 4, 255, any]);
+    let number = |choice| match choice {
+        Choice::None => none,
+        Choice::First => raw::FIRST_LIST,
+        Choice::Second => raw::SECOND_LIST,
+    };
     raw::Node {
         own: settings.own_address,
         echo: settings.echo,
         repeating: settings.repeating,
-        source_pass: settings.source_pass_on,
-        source_reject: settings.source_reject_on,
-        destination_pass: settings.destination_pass_on,
-        destination_reject: settings.destination_reject_on,
+        source_pass: number(settings.source_pass),
+        source_reject: number(settings.source_reject),
+        destination_pass: number(settings.destination_pass),
+        destination_reject: number(settings.destination_reject),
+    }
+}
+
+/// The same for the wrapper.
+pub fn wrapped_node(settings: &Settings) -> mant::Node {
+    let wrapped = |choice| match choice {
+        Choice::None => mant::Choice::None,
+        Choice::First => mant::Choice::First,
+        Choice::Second => mant::Choice::Second,
+    };
+    mant::Node {
+        own: settings.own_address,
+        echo: settings.echo,
+        repeating: settings.repeating,
+        source_pass: wrapped(settings.source_pass),
+        source_reject: wrapped(settings.source_reject),
+        destination_pass: wrapped(settings.destination_pass),
+        destination_reject: wrapped(settings.destination_reject),
     }
 }
 
@@ -157,12 +184,13 @@ pub fn wrapped(answer: &raw::Answer) -> mant::Answer {
     }
 }
 
-/// The four lists for the wrapper.
+/// The eight lists for the wrapper.
 pub fn lists<'a>(lists: &reference::Lists<'a>) -> mant::Lists<'a> {
+    let two = |TwoLists { first, second }| mant::TwoLists { first, second };
     mant::Lists {
-        source_pass: lists.source_pass,
-        source_reject: lists.source_reject,
-        destination_pass: lists.destination_pass,
-        destination_reject: lists.destination_reject,
+        source_pass: two(lists.source_pass),
+        source_reject: two(lists.source_reject),
+        destination_pass: two(lists.destination_pass),
+        destination_reject: two(lists.destination_reject),
     }
 }

@@ -1,9 +1,9 @@
 //! Batches, stepped by the library against the reference's walk.
 
 use crate::output::Output;
-use crate::same::{answer, lists, node, wrapped, Input};
+use crate::same::{answer, lists, node, wrapped, wrapped_node, Input};
 use crate::Compared;
-use generator::{batch, edition, four_lists, good_four_lists, settings_for, FourLists, Random};
+use generator::{batch, edition, eight_lists, good_eight_lists, settings_for, EightLists, Random};
 use mant::{raw, Cursor};
 use reference::numbers::BATCH_SIZE;
 use reference::{hear, walk, Edition, Settings, Step, MOST_BATCH, MOST_PDU};
@@ -13,18 +13,19 @@ use reference::{hear, walk, Edition, Settings, Step, MOST_BATCH, MOST_PDU};
 struct Case<'a> {
     edition: u64,
     settings: Settings,
-    four: &'a FourLists,
+    /// The settings for the library.
+    node: raw::Node,
+    eight: &'a EightLists,
     batch: &'a [u8],
 }
 
 impl Case<'_> {
     /// The library's step.
     fn step(&self, cursor: Cursor, output: &mut Output) -> raw::Step {
-        let four = self.four.lists().in_order();
         raw::step(
             self.edition,
-            node(&self.settings),
-            four,
+            self.node,
+            self.eight.lists().in_order(),
             self.batch,
             cursor,
             output.room(),
@@ -34,22 +35,24 @@ impl Case<'_> {
 
 /// Compares a whole walk, and steps from any cursor.
 pub fn compare(random: &mut Random) -> Compared {
-    let four = match random.one_in(4) {
-        true => four_lists(random),
-        false => good_four_lists(random),
+    let eight = match random.one_in(4) {
+        true => eight_lists(random),
+        false => good_eight_lists(random),
     };
     let batch = batch(random);
+    let settings = settings_for(random, &batch);
     let case = Case {
         edition: edition(random),
-        settings: settings_for(random, &batch),
-        four: &four,
+        settings,
+        node: node(random, &settings),
+        eight: &eight,
         batch: &batch,
     };
     let small = random.between(0, 60);
     let room = random.pick(&[0, 6, 20, small, 200, 1_000, MOST_PDU, MOST_PDU, 5_000]);
     let input = Input {
         bytes: &batch,
-        rest: &(case.edition, case.settings, &four, room),
+        rest: &(case.edition, case.node, &eight, room),
     };
     let output = Output::of(random, room);
     compare_walk(&case, &input, &output)?;
@@ -63,9 +66,9 @@ pub fn compare(random: &mut Random) -> Compared {
 fn compare_walk(case: &Case, input: &Input, output: &Output) -> Compared {
     let (mut library, mut reference) = (output.clone(), output.clone());
     let mut replayed = output.clone();
-    let four = case.four.lists();
+    let eight = case.eight.lists();
     let (edition, settings, room) = (case.edition, &case.settings, reference.room());
-    let walked = match walk(edition, settings, &four, case.batch, room) {
+    let walked = match walk(edition, settings, &eight, case.batch, room) {
         Ok(walked) => walked,
         Err(number) => return compare_refused(case, input, output, number),
     };
@@ -110,8 +113,8 @@ fn compare_wrapped(
     let mut output = output.clone();
     let step = mant::step(
         case.edition,
-        &node(&case.settings),
-        &lists(&case.four.lists()),
+        &wrapped_node(&case.settings),
+        &lists(&case.eight.lists()),
         case.batch,
         cursor,
         output.room(),
@@ -164,8 +167,8 @@ fn compare_any(random: &mut Random, case: &Case, input: &Input, output: &Output)
         ended(raw::ENDED, raw::NO_NUMBER, cursor)
     } else {
         let rest = &case.batch[cursor.place..];
-        let (settings, four) = (&case.settings, case.four.lists());
-        let heard = hear(case.edition, settings, &four, rest, reference.room());
+        let (settings, eight) = (&case.settings, case.eight.lists());
+        let heard = hear(case.edition, settings, &eight, rest, reference.room());
         raw::Step {
             kind: raw::ANSWERED,
             answer: answer(&heard),

@@ -1,6 +1,6 @@
 //! Histories of a table of stations (02, W-201): what a box does with it.
 
-use crate::lists::{four_lists, good_four_lists, FourLists};
+use crate::lists::{eight_lists, good_eight_lists, EightLists};
 use crate::output::room;
 use crate::random::Random;
 use crate::received::received;
@@ -13,7 +13,7 @@ use reference::Settings;
 #[derive(Clone, Debug, PartialEq, Eq)]
 pub enum Deed {
     /// A node hears bytes.
-    Hear(Hearing),
+    Hear(Box<Hearing>),
     /// A PDU of this source was read, dropped by echo or not, with this path
     /// count.
     Count(u16, bool, Option<u8>),
@@ -31,7 +31,7 @@ pub struct Hearing {
     /// Its settings.
     pub settings: Settings,
     /// Its lists.
-    pub lists: FourLists,
+    pub lists: EightLists,
     /// The received bytes.
     pub received: Vec<u8>,
     /// So much room its output has.
@@ -55,7 +55,7 @@ pub fn history(random: &mut Random) -> History {
         true => (many_sources(random), random.between(200, 360)),
         false => (few_sources(random, &words), random.between(1, 30)),
     };
-    let node = (settings(random), good_four_lists(random));
+    let node = (settings(random), good_eight_lists(random));
     let deeds = (0..turns)
         .map(|turn| deed(random, &node, sources[turn % sources.len()]))
         .collect();
@@ -97,7 +97,7 @@ const DELIVERIES: [u8; 21] = [
 ];
 
 /// Something done about the source, mostly hearing it.
-pub fn deed(random: &mut Random, node: &(Settings, FourLists), source: u16) -> Deed {
+pub fn deed(random: &mut Random, node: &(Settings, EightLists), source: u16) -> Deed {
     match random.below(16) {
         0 => Deed::Remove(source),
         1..=3 => Deed::Count(source, random.flag(), path_count(random)),
@@ -117,14 +117,14 @@ fn path_count(random: &mut Random) -> Option<u8> {
 
 /// Hearing the source at the node, now and then set otherwise, with a list at
 /// fault or under no edition.
-fn hearing(random: &mut Random, node: &(Settings, FourLists), source: u16) -> Deed {
+fn hearing(random: &mut Random, node: &(Settings, EightLists), source: u16) -> Deed {
     let (own_address, lists) = (node.0.own_address, &node.1);
     let chosen = match random.one_in(6) {
         true => settings(random),
         false => node.0,
     };
     let lists = match random.one_in(6) {
-        true => four_lists(random),
+        true => eight_lists(random),
         false => lists.clone(),
     };
     let edition = match random.one_in(6) {
@@ -132,7 +132,7 @@ fn hearing(random: &mut Random, node: &(Settings, FourLists), source: u16) -> De
         false => good_edition(random),
     };
     let received = report(random, own_address, source);
-    Deed::Hear(Hearing {
+    Deed::Hear(Box::new(Hearing {
         edition,
         settings: Settings {
             own_address,
@@ -141,7 +141,7 @@ fn hearing(random: &mut Random, node: &(Settings, FourLists), source: u16) -> De
         lists,
         room: room(random, received.len() + 2),
         received,
-    })
+    }))
 }
 
 /// Bytes from the source: mostly a valid PDU, else a damaged or a cut one, or

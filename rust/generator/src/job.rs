@@ -1,21 +1,21 @@
 //! Jobs of `relay`, good and bad (01, "The program `relay`").
 
 use crate::batch::batch;
-use crate::lists::{good_four_lists, FourLists};
+use crate::lists::good_lists;
 use crate::random::Random;
 use crate::settings::settings_for;
 use reference::numbers::{
     BATCH_SIZE, JOB_FLAGS, JOB_LEFT_OVER, JOB_LIST_COUNT, JOB_SHORT, LOW_ABOVE_HIGH,
 };
-use reference::{Settings, MOST_BATCH};
+use reference::{Choice, Settings, MOST_BATCH};
 
 /// A good job before it is laid out in bytes.
 #[derive(Clone, Debug, PartialEq, Eq)]
 pub struct JobParts {
-    /// Own address and what is on.
+    /// Own address and what is on; of the lists, the first of a kind or none.
     pub settings: Settings,
-    /// Four good lists.
-    pub lists: FourLists,
+    /// Four good lists, one of each kind.
+    pub lists: [Vec<u16>; 4],
     /// A batch of up to 16,384 bytes.
     pub batch: Vec<u8>,
 }
@@ -25,7 +25,7 @@ impl JobParts {
     pub fn bytes(&self) -> Vec<u8> {
         let mut bytes = self.settings.own_address.to_be_bytes().to_vec();
         bytes.push(self.flags());
-        for list in &self.lists.0 {
+        for list in &self.lists {
             bytes.push((list.len() / 2) as u8);
             bytes.extend(list.iter().flat_map(|value| value.to_be_bytes()));
         }
@@ -39,10 +39,10 @@ impl JobParts {
         let on = [
             self.settings.echo,
             self.settings.repeating,
-            self.settings.source_pass_on,
-            self.settings.source_reject_on,
-            self.settings.destination_pass_on,
-            self.settings.destination_reject_on,
+            self.settings.source_pass != Choice::None,
+            self.settings.source_reject != Choice::None,
+            self.settings.destination_pass != Choice::None,
+            self.settings.destination_reject != Choice::None,
         ];
         on.iter()
             .rev()
@@ -52,7 +52,7 @@ impl JobParts {
     /// Where the count byte of a list stands, the first list being 0; for 4
     /// it is where the batch length stands.
     fn place_of_list(&self, list: usize) -> usize {
-        let before = self.lists.0[..list].iter();
+        let before = self.lists[..list].iter();
         3 + before.map(|list| 1 + 2 * list.len()).sum::<usize>()
     }
 }
@@ -71,9 +71,25 @@ pub fn job(random: &mut Random) -> JobParts {
     let mut batch = batch(random);
     batch.truncate(MOST_BATCH);
     JobParts {
-        settings: settings_for(random, &batch),
-        lists: good_four_lists(random),
+        settings: with_firsts(settings_for(random, &batch)),
+        lists: good_lists(random),
         batch,
+    }
+}
+
+/// The settings with the first list of each kind of which one is chosen (02,
+/// W-211: a job's sections are first lists).
+fn with_firsts(settings: Settings) -> Settings {
+    let first = |choice| match choice {
+        Choice::None => Choice::None,
+        Choice::First | Choice::Second => Choice::First,
+    };
+    Settings {
+        source_pass: first(settings.source_pass),
+        source_reject: first(settings.source_reject),
+        destination_pass: first(settings.destination_pass),
+        destination_reject: first(settings.destination_reject),
+        ..settings
     }
 }
 
@@ -185,7 +201,7 @@ mod tests {
             let parts = job(&mut random);
             let read = read_job(&parts.bytes()).unwrap();
             assert_eq!(read.settings, parts.settings);
-            assert_eq!(read.lists, parts.lists.0);
+            assert_eq!(read.lists, parts.lists);
             assert_eq!(read.batch, parts.batch);
         }
     }

@@ -26,7 +26,7 @@ pub use batch::batch;
 pub use exchange::{exchange, exchanged_pdu, levels_down, short_exchange};
 pub use history::{deed, history, source_near, Deed, Hearing, History};
 pub use job::{damaged_job, job, random_job, DamagedJob, JobParts};
-pub use lists::{bad_list, four_lists, good_four_lists, good_list, FourLists};
+pub use lists::{bad_list, eight_lists, good_eight_lists, good_list, EightLists};
 pub use network::network;
 pub use output::{output, room};
 pub use queue::{any_queue, empty_queue, pace, queue_deed, Pace, QueueDeed};

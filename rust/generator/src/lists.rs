@@ -1,35 +1,39 @@
-//! Address lists, good and bad (01, "One PDU at one node", 1).
+//! Address lists, good and bad (01, "One PDU at one node", 1; 02, W-211).
 
 use crate::random::Random;
 use crate::shape::address;
 use reference::{Lists, MOST_RANGES};
 
-/// Four lists that own their values.
+/// The lists of a node, two of each kind, that own their values.
 #[derive(Clone, Debug, Default, PartialEq, Eq)]
-pub struct FourLists(pub [Vec<u16>; 4]);
+pub struct EightLists(pub [Vec<u16>; 8]);
 
-impl FourLists {
-    /// The four lists as a node takes them.
+impl EightLists {
+    /// The lists as a node takes them.
     pub fn lists(&self) -> Lists<'_> {
-        let [first, second, third, fourth] = &self.0;
-        Lists::of([first, second, third, fourth])
+        Lists::of(self.0.each_ref().map(Vec::as_slice))
     }
 }
 
-/// Four lists, mostly good; once in six times one or more are bad.
-pub fn four_lists(random: &mut Random) -> FourLists {
-    let mut lists = good_four_lists(random);
+/// Eight lists, mostly good; once in six times one or more are bad.
+pub fn eight_lists(random: &mut Random) -> EightLists {
+    let mut lists = good_eight_lists(random);
     if random.one_in(6) {
         for _ in 0..random.between(1, 3) {
-            lists.0[random.below(4)] = bad_list(random);
+            lists.0[random.below(8)] = bad_list(random);
         }
     }
     lists
 }
 
-/// Four good lists.
-pub fn good_four_lists(random: &mut Random) -> FourLists {
-    FourLists(std::array::from_fn(|_| good_list(random)))
+/// Eight good lists.
+pub fn good_eight_lists(random: &mut Random) -> EightLists {
+    EightLists(good_lists(random))
+}
+
+/// So many good lists.
+pub fn good_lists<const N: usize>(random: &mut Random) -> [Vec<u16>; N] {
+    std::array::from_fn(|_| good_list(random))
 }
 
 /// A good list: empty, of a few ranges in any order, of overlapping ones, of
@@ -130,14 +134,42 @@ fn any_values(random: &mut Random) -> Vec<u16> {
 #[cfg(test)]
 mod tests {
     use super::*;
-    use reference::list_fault;
+    use crate::settings::settings;
+    use reference::{list_fault, Choice};
 
     #[test]
     fn good_lists_are_good() {
         let mut random = Random::from_seed(1);
         for _ in 0..2000 {
-            assert_eq!(list_fault(&good_four_lists(&mut random).lists()), 0);
+            assert_eq!(list_fault(&good_eight_lists(&mut random).lists()), 0);
         }
+    }
+
+    #[test]
+    fn faults_arise_in_every_list_whatever_is_chosen() {
+        let mut random = Random::from_seed(1);
+        let mut counts = [[0; 3]; 8];
+        for _ in 0..60_000 {
+            let (settings, eight) = (settings(&mut random), eight_lists(&mut random));
+            let at_fault = |list: &Vec<u16>| list_fault(&Lists::firsts([list, &[], &[], &[]])) != 0;
+            let faults: Vec<usize> = (0..8).filter(|place| at_fault(&eight.0[*place])).collect();
+            let choices = [
+                settings.source_pass,
+                settings.source_reject,
+                settings.destination_pass,
+                settings.destination_reject,
+            ];
+            if let [place] = faults[..] {
+                let choice = match choices[place / 2] {
+                    Choice::None => 0,
+                    Choice::First => 1,
+                    Choice::Second => 2,
+                };
+                counts[place][choice] += 1;
+            }
+        }
+        let least = counts.iter().flatten().min();
+        assert!(least.is_some_and(|least| *least > 30), "{counts:?}");
     }
 
     #[test]
@@ -146,7 +178,7 @@ mod tests {
         let mut faults = [0; 23];
         for _ in 0..2000 {
             let list = bad_list(&mut random);
-            let lists = Lists::of([&[], &[], &list, &[]]);
+            let lists = Lists::firsts([&[], &[], &list, &[]]);
             faults[usize::from(list_fault(&lists))] += 1;
         }
         assert!(faults[20..].iter().all(|count| *count > 200), "{faults:?}");

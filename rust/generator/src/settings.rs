@@ -2,7 +2,7 @@
 
 use crate::random::Random;
 use crate::shape::address;
-use reference::{read, Header, Origination, Settings, EDITION_1_1, EDITION_1_2};
+use reference::{read, Choice, Header, Origination, Settings, EDITION_1_1, EDITION_1_2};
 
 /// Numbers that are no edition: beside the two, and those that would be one of
 /// them in fewer bits.
@@ -32,17 +32,26 @@ pub fn edition(random: &mut Random) -> u64 {
     }
 }
 
-/// Settings of a node; repeating is mostly on and each list mostly off, so
-/// that many PDUs come through.
+/// Settings of a node; repeating is mostly on and each kind of list mostly off,
+/// so that many PDUs come through.
 pub fn settings(random: &mut Random) -> Settings {
     Settings {
         own_address: address(random),
         echo: random.flag(),
         repeating: !random.one_in(5),
-        source_pass_on: random.one_in(4),
-        source_reject_on: random.one_in(4),
-        destination_pass_on: random.one_in(4),
-        destination_reject_on: random.one_in(4),
+        source_pass: choice(random),
+        source_reject: choice(random),
+        destination_pass: choice(random),
+        destination_reject: choice(random),
+    }
+}
+
+/// A list of a kind, mostly none.
+fn choice(random: &mut Random) -> Choice {
+    match random.below(8) {
+        0 => Choice::First,
+        1 => Choice::Second,
+        _ => Choice::None,
     }
 }
 
@@ -122,7 +131,7 @@ pub fn payload_to_send(random: &mut Random) -> Vec<u8> {
 #[cfg(test)]
 mod tests {
     use super::*;
-    use crate::lists::good_four_lists;
+    use crate::lists::good_eight_lists;
     use crate::received::received;
     use reference::{hear, originate};
 
@@ -186,7 +195,7 @@ mod tests {
         let mut random = Random::from_seed(1);
         let mut counts = [0; 256];
         for (settings, _, bytes) in own_reports(&mut random) {
-            let lists = good_four_lists(&mut random);
+            let lists = good_eight_lists(&mut random);
             let [off, on] = [false, true].map(|echo| {
                 let settings = Settings { echo, ..settings };
                 hear(EDITION_1_2, &settings, &lists.lists(), &bytes, &mut []).delivery

@@ -8,6 +8,7 @@
 
 mod edition;
 mod exchange;
+mod node;
 mod queue;
 pub mod raw;
 mod refusal;
@@ -16,8 +17,9 @@ mod stations;
 
 pub use edition::Bits;
 pub use exchange::{read_exchange, write_exchange, Exchange};
+pub use node::{list_fault, list_holds, Choice, Lists, Node, TwoLists};
 pub use queue::{Queue, Taken};
-pub use raw::{Cursor, Level, Limits, Names, Node, Sending};
+pub use raw::{Cursor, Level, Limits, EDITION_1_1, EDITION_1_2};
 pub use refusal::Refusal;
 pub use reliable::{Deed, Reliable};
 pub use stations::{Heard, Listened, Station, Stations};
@@ -97,32 +99,6 @@ impl Default for Fresh {
             pdu_id: 0,
             encrypted: false,
         }
-    }
-}
-
-/// The four lists of a node, each low, high, low, high and so on, both ends
-/// included.
-#[derive(Clone, Copy, Debug, Default, PartialEq, Eq)]
-pub struct Lists<'a> {
-    /// Sources that pass.
-    pub source_pass: &'a [u16],
-    /// Sources that are rejected.
-    pub source_reject: &'a [u16],
-    /// Destinations that pass.
-    pub destination_pass: &'a [u16],
-    /// Destinations that are rejected.
-    pub destination_reject: &'a [u16],
-}
-
-impl<'a> Lists<'a> {
-    /// In the order of the library.
-    fn in_order(&self) -> raw::Lists<'a> {
-        [
-            self.source_pass,
-            self.source_reject,
-            self.destination_pass,
-            self.destination_reject,
-        ]
     }
 }
 
@@ -212,16 +188,6 @@ pub fn originate(fresh: &Fresh, payload: &[u8], output: &mut [u8]) -> Result<usi
     length(raw::originate(settings, payload, output))
 }
 
-/// The first fault of the lists, in their order: in each 22, 21, then 20.
-pub fn list_fault(lists: &Lists) -> Result<(), Refusal> {
-    Refusal::check(raw::list_fault(lists.in_order()))
-}
-
-/// Whether an address is in some range of a list.
-pub fn list_holds(list: &[u16], address: u16) -> bool {
-    raw::list_holds(list, address)
-}
-
 /// What a node answers for the PDU at the start of the received bytes.
 pub fn hear(
     edition: u64,
@@ -230,8 +196,8 @@ pub fn hear(
     received: &[u8],
     output: &mut [u8],
 ) -> Answer {
-    let lists = lists.in_order();
-    Answer::of(raw::hear(edition, *node, lists, received, output))
+    let (node, lists) = (node.raw(), lists.in_order());
+    Answer::of(raw::hear(edition, node, lists, received, output))
 }
 
 /// One step of the walk over PDUs that lie back to back. A walk begins with
@@ -244,7 +210,8 @@ pub fn step(
     cursor: Cursor,
     output: &mut [u8],
 ) -> Step {
-    let step = raw::step(edition, *node, lists.in_order(), batch, cursor, output);
+    let (node, lists) = (node.raw(), lists.in_order());
+    let step = raw::step(edition, node, lists, batch, cursor, output);
     match step.kind {
         raw::ANSWERED => Step::Answered(Answer::of(step.answer), step.next),
         raw::ENDED => Step::Ended,

@@ -74,10 +74,10 @@ pub struct Node {
     pub own: u16,
     pub echo: bool,
     pub repeating: bool,
-    pub source_pass: bool,
-    pub source_reject: bool,
-    pub destination_pass: bool,
-    pub destination_reject: bool,
+    pub source_pass: u8,
+    pub source_reject: u8,
+    pub destination_pass: u8,
+    pub destination_reject: u8,
 }
 
 /// `MantAnswer`.
@@ -233,6 +233,13 @@ pub const EDITION_1_1: u64 = 11;
 /// `MANT_EDITION_1_2`.
 pub const EDITION_1_2: u64 = 12;
 
+/// `MANT_NO_LIST`.
+pub const NO_LIST: u8 = 0;
+/// `MANT_FIRST_LIST`.
+pub const FIRST_LIST: u8 = 1;
+/// `MANT_SECOND_LIST`.
+pub const SECOND_LIST: u8 = 2;
+
 /// `MANT_ANSWERED`.
 pub const ANSWERED: u8 = 0;
 /// `MANT_ENDED`.
@@ -307,24 +314,34 @@ extern "C" {
     fn mant_read_exchange(bytes: *const u8, bytes_length: usize) -> Exchange;
     fn mant_write_exchange(bytes: *const u8, bytes_length: usize, output: *mut u8, output_length: usize) -> Written;
     fn mant_originate(settings: Fresh, payload: *const u8, payload_length: usize, output: *mut u8, output_length: usize) -> Written;
-    fn mant_list_fault(
-        source_pass: *const u16, source_pass_length: usize, source_reject: *const u16, source_reject_length: usize,
-        destination_pass: *const u16, destination_pass_length: usize, destination_reject: *const u16, destination_reject_length: usize,
+    fn mant_list_fault_eight(
+        source_pass_first: *const u16, source_pass_first_length: usize, source_pass_second: *const u16, source_pass_second_length: usize,
+        source_reject_first: *const u16, source_reject_first_length: usize, source_reject_second: *const u16, source_reject_second_length: usize,
+        destination_pass_first: *const u16, destination_pass_first_length: usize,
+        destination_pass_second: *const u16, destination_pass_second_length: usize,
+        destination_reject_first: *const u16, destination_reject_first_length: usize,
+        destination_reject_second: *const u16, destination_reject_second_length: usize,
     ) -> u8;
     fn mant_list_holds(list: *const u16, list_length: usize, address: u16) -> bool;
-    fn mant_hear(
+    fn mant_hear_eight(
         edition: u64, settings: Node,
-        source_pass: *const u16, source_pass_length: usize, source_reject: *const u16, source_reject_length: usize,
-        destination_pass: *const u16, destination_pass_length: usize, destination_reject: *const u16, destination_reject_length: usize,
+        source_pass_first: *const u16, source_pass_first_length: usize, source_pass_second: *const u16, source_pass_second_length: usize,
+        source_reject_first: *const u16, source_reject_first_length: usize, source_reject_second: *const u16, source_reject_second_length: usize,
+        destination_pass_first: *const u16, destination_pass_first_length: usize,
+        destination_pass_second: *const u16, destination_pass_second_length: usize,
+        destination_reject_first: *const u16, destination_reject_first_length: usize,
+        destination_reject_second: *const u16, destination_reject_second_length: usize,
         received: *const u8, received_length: usize, output: *mut u8, output_length: usize,
     ) -> Answer;
-    // The cursor goes as its two fields. By then the registers are taken on both processors, so either way it lies on the stack, 8 bytes for each; as a
-    // struct it would be copied there whole right after its fields were written one by one, which is slow.
-    fn mant_step(
+    fn mant_step_eight(
         edition: u64, settings: Node,
-        source_pass: *const u16, source_pass_length: usize, source_reject: *const u16, source_reject_length: usize,
-        destination_pass: *const u16, destination_pass_length: usize, destination_reject: *const u16, destination_reject_length: usize,
-        batch: *const u8, batch_length: usize, cursor_place: usize, cursor_ended: bool, output: *mut u8, output_length: usize,
+        source_pass_first: *const u16, source_pass_first_length: usize, source_pass_second: *const u16, source_pass_second_length: usize,
+        source_reject_first: *const u16, source_reject_first_length: usize, source_reject_second: *const u16, source_reject_second_length: usize,
+        destination_pass_first: *const u16, destination_pass_first_length: usize,
+        destination_pass_second: *const u16, destination_pass_second_length: usize,
+        destination_reject_first: *const u16, destination_reject_first_length: usize,
+        destination_reject_second: *const u16, destination_reject_second_length: usize,
+        batch: *const u8, batch_length: usize, cursor: Cursor, output: *mut u8, output_length: usize,
     ) -> Step;
     fn mant_stations_capacity(table: *const u16, table_words: usize) -> usize;
     fn mant_stations_held(table: *const u16, table_words: usize) -> usize;
@@ -333,10 +350,14 @@ extern "C" {
     fn mant_remove_station(table: *mut u16, table_words: usize, address: u16) -> u8;
     fn mant_count_heard(table: *mut u16, table_words: usize, heard: Heard) -> u8;
     fn mant_count_answer(table: *mut u16, table_words: usize, received: *const u8, received_length: usize, answer: Answer) -> u8;
-    fn mant_hear_and_count(
+    fn mant_hear_and_count_eight(
         edition: u64, settings: Node,
-        source_pass: *const u16, source_pass_length: usize, source_reject: *const u16, source_reject_length: usize,
-        destination_pass: *const u16, destination_pass_length: usize, destination_reject: *const u16, destination_reject_length: usize,
+        source_pass_first: *const u16, source_pass_first_length: usize, source_pass_second: *const u16, source_pass_second_length: usize,
+        source_reject_first: *const u16, source_reject_first_length: usize, source_reject_second: *const u16, source_reject_second_length: usize,
+        destination_pass_first: *const u16, destination_pass_first_length: usize,
+        destination_pass_second: *const u16, destination_pass_second_length: usize,
+        destination_reject_first: *const u16, destination_reject_first_length: usize,
+        destination_reject_second: *const u16, destination_reject_second_length: usize,
         received: *const u8, received_length: usize, output: *mut u8, output_length: usize, table: *mut u16, table_words: usize,
     ) -> Listened;
     fn mant_retain(table: *mut Retained, records: usize, last: u64, time: u64, pdu: *const u8, pdu_length: usize) -> Outcome;
@@ -356,16 +377,33 @@ extern "C" {
     fn mant_limits() -> Limits;
 }
 
-/// The four lists, in the order of the header: source pass, source reject,
-/// destination pass, destination reject.
-pub type Lists<'a> = [&'a [u16]; 4];
+/// The eight lists, in the order of the header: kind by kind, source pass,
+/// source reject, destination pass, destination reject, first before second.
+pub type Lists<'a> = [&'a [u16]; 8];
+
+/// Calls a function of the library with eight lists, each a pointer and a
+/// length, between what goes before and after them.
+macro_rules! with_lists {
+    ($function:ident: $($before:expr),*; $lists:expr; $($after:expr),*) => {{
+        let [a, b, c, d, e, f, g, h] = $lists;
+        // SAFETY: as in every call here, pointers and lengths are those of live
+        // slices, and an output, a table or a queue that is changed is borrowed
+        // alone.
+        unsafe {
+            $function(
+                $($before,)*
+                a.as_ptr(), a.len(), b.as_ptr(), b.len(), c.as_ptr(), c.len(), d.as_ptr(), d.len(),
+                e.as_ptr(), e.len(), f.as_ptr(), f.len(), g.as_ptr(), g.len(), h.as_ptr(), h.len(),
+                $($after,)*
+            )
+        }
+    }};
+}
 
 /// `mant_read`.
 #[inline]
 pub fn read(edition: u64, bytes: &[u8]) -> Header {
-    // SAFETY: as in every call here, pointers and lengths are those of live
-    // slices, and an output, a table or a queue that is changed is borrowed
-    // alone.
+    // SAFETY: as above.
     unsafe { mant_read(edition, bytes.as_ptr(), bytes.len()) }
 }
 
@@ -431,22 +469,9 @@ pub fn originate(settings: Fresh, payload: &[u8], output: &mut [u8]) -> Written 
     }
 }
 
-/// `mant_list_fault`.
+/// `mant_list_fault_eight`.
 pub fn list_fault(lists: Lists) -> u8 {
-    let [a, b, c, d] = lists;
-    // SAFETY: as above.
-    unsafe {
-        mant_list_fault(
-            a.as_ptr(),
-            a.len(),
-            b.as_ptr(),
-            b.len(),
-            c.as_ptr(),
-            c.len(),
-            d.as_ptr(),
-            d.len(),
-        )
-    }
+    with_lists!(mant_list_fault_eight: ; lists; )
 }
 
 /// `mant_list_holds`.
@@ -455,7 +480,7 @@ pub fn list_holds(list: &[u16], address: u16) -> bool {
     unsafe { mant_list_holds(list.as_ptr(), list.len(), address) }
 }
 
-/// `mant_hear`.
+/// `mant_hear_eight`.
 #[inline]
 pub fn hear(
     edition: u64,
@@ -464,29 +489,12 @@ pub fn hear(
     received: &[u8],
     output: &mut [u8],
 ) -> Answer {
-    let [a, b, c, d] = lists;
-    // SAFETY: as above.
-    unsafe {
-        mant_hear(
-            edition,
-            settings,
-            a.as_ptr(),
-            a.len(),
-            b.as_ptr(),
-            b.len(),
-            c.as_ptr(),
-            c.len(),
-            d.as_ptr(),
-            d.len(),
-            received.as_ptr(),
-            received.len(),
-            output.as_mut_ptr(),
-            output.len(),
-        )
-    }
+    let (room, length) = (output.as_mut_ptr(), output.len());
+    let (from, given) = (received.as_ptr(), received.len());
+    with_lists!(mant_hear_eight: edition, settings; lists; from, given, room, length)
 }
 
-/// `mant_step`.
+/// `mant_step_eight`.
 #[inline]
 pub fn step(
     edition: u64,
@@ -496,28 +504,9 @@ pub fn step(
     cursor: Cursor,
     output: &mut [u8],
 ) -> Step {
-    let [a, b, c, d] = lists;
-    // SAFETY: as above.
-    unsafe {
-        mant_step(
-            edition,
-            settings,
-            a.as_ptr(),
-            a.len(),
-            b.as_ptr(),
-            b.len(),
-            c.as_ptr(),
-            c.len(),
-            d.as_ptr(),
-            d.len(),
-            batch.as_ptr(),
-            batch.len(),
-            cursor.place,
-            cursor.ended,
-            output.as_mut_ptr(),
-            output.len(),
-        )
-    }
+    let (room, length) = (output.as_mut_ptr(), output.len());
+    let (from, given) = (batch.as_ptr(), batch.len());
+    with_lists!(mant_step_eight: edition, settings; lists; from, given, cursor, room, length)
 }
 
 /// `mant_stations_capacity`.
@@ -571,7 +560,7 @@ pub fn count_answer(table: &mut [u16], received: &[u8], answer: Answer) -> u8 {
     }
 }
 
-/// `mant_hear_and_count`.
+/// `mant_hear_and_count_eight`.
 #[inline]
 pub fn hear_and_count(
     edition: u64,
@@ -581,28 +570,12 @@ pub fn hear_and_count(
     output: &mut [u8],
     table: &mut [u16],
 ) -> Listened {
-    let [a, b, c, d] = lists;
-    // SAFETY: as above.
-    unsafe {
-        mant_hear_and_count(
-            edition,
-            settings,
-            a.as_ptr(),
-            a.len(),
-            b.as_ptr(),
-            b.len(),
-            c.as_ptr(),
-            c.len(),
-            d.as_ptr(),
-            d.len(),
-            received.as_ptr(),
-            received.len(),
-            output.as_mut_ptr(),
-            output.len(),
-            table.as_mut_ptr(),
-            table.len(),
-        )
-    }
+    let (room, length) = (output.as_mut_ptr(), output.len());
+    let (words, count) = (table.as_mut_ptr(), table.len());
+    let (from, given) = (received.as_ptr(), received.len());
+    with_lists!(
+        mant_hear_and_count_eight: edition, settings; lists; from, given, room, length, words, count
+    )
 }
 
 /// `mant_retain`.

@@ -125,9 +125,9 @@ impl Stations {
         received: &[u8],
         output: &mut [u8],
     ) -> Listened {
-        let lists = lists.in_order();
+        let (node, lists) = (node.raw(), lists.in_order());
         let table = &mut self.words;
-        let listened = raw::hear_and_count(edition, *node, lists, received, output, table);
+        let listened = raw::hear_and_count(edition, node, lists, received, output, table);
         Listened {
             answer: Answer::of(listened.answer),
             table: Refusal::check(listened.table_number),

@@ -30,6 +30,13 @@ fn fresh() -> Fresh {
     }
 }
 
+fn source_pass<'a>(first: &'a [u16], second: &'a [u16]) -> Lists<'a> {
+    Lists {
+        source_pass: TwoLists { first, second },
+        ..Lists::default()
+    }
+}
+
 fn node(own: u16) -> Node {
     Node {
         own,
@@ -183,10 +190,7 @@ fn editions_show_three_bits() {
 #[test]
 fn other_editions_are_refused() {
     let (unknown, pdu) = (Refusal::UnknownEdition, example());
-    let lists = Lists {
-        source_pass: &[1],
-        ..Lists::default()
-    };
+    let lists = source_pass(&[], &[1]);
     for edition in [0, 1, 10, 13, (1 << 32) + 11, (1 << 32) + 12, u64::MAX] {
         let mut output = [0xAA; 30];
         assert_eq!(read(edition, &pdu), Err(unknown));
@@ -244,16 +248,63 @@ fn paths() {
 
 #[test]
 fn lists() {
-    let of = |source_pass| Lists {
-        source_pass,
-        ..Lists::default()
-    };
+    let of = |second| source_pass(&[], second);
     assert_eq!(list_fault(&of(&[1, 2, 2, 2])), Ok(()));
     assert_eq!(list_fault(&of(&[2, 1])), Err(Refusal::LowAboveHigh));
     assert_eq!(list_fault(&of(&[1])), Err(Refusal::ListOdd));
     assert_eq!(list_fault(&of(&[1; 129])), Err(Refusal::ListTooLong));
     assert!(list_holds(&[1, 3], 3));
     assert!(!list_holds(&[1, 3], 4));
+}
+
+#[test]
+fn the_first_fault_of_eight_lists() {
+    let (bad, odd): (&[u16], &[u16]) = (&[2, 1], &[1]);
+    let of = |place: usize, list| {
+        let mut eight: raw::Lists = [&[]; 8];
+        eight[place] = list;
+        eight[place + 1..].fill(odd);
+        eight
+    };
+    for place in 0..8 {
+        let [a, b, c, d, e, f, g, h] = of(place, bad);
+        let two = |first, second| TwoLists { first, second };
+        let lists = Lists {
+            source_pass: two(a, b),
+            source_reject: two(c, d),
+            destination_pass: two(e, f),
+            destination_reject: two(g, h),
+        };
+        assert_eq!(list_fault(&lists), Err(Refusal::LowAboveHigh));
+        let answer = hear(EDITION, &node(2000), &lists, &example(), &mut [0; 30]);
+        assert_eq!(answer.repeat, Err(Refusal::LowAboveHigh));
+        let later = if place == 7 { 0 } else { 21 };
+        assert_eq!(raw::list_fault(of(place, &[])), later);
+    }
+}
+
+#[test]
+fn the_list_chosen_is_read() {
+    let lists = source_pass(&[1000, 1000], &[1001, 1001]);
+    let heard = |source_pass| {
+        let node = Node {
+            source_pass,
+            ..node(2000)
+        };
+        hear(EDITION, &node, &lists, &example(), &mut [0; 30]).repeat
+    };
+    assert_eq!(heard(Choice::None), Ok(22));
+    assert_eq!(heard(Choice::First), Ok(22));
+    assert_eq!(heard(Choice::Second), Err(Refusal::SourceNotPassed));
+    for number in [0, 1, 3, 255] {
+        let node = raw::Node {
+            source_reject: number,
+            ..node(2000).raw()
+        };
+        let eight: raw::Lists = [&[], &[], &[], &[1000, 1000], &[], &[], &[], &[]];
+        let answer = raw::hear(EDITION, node, eight, &example(), &mut [0; 30]);
+        assert_eq!(answer.repeat, 0);
+    }
 }
 
 /// The MANT PDU of document 003, appendix D.

@@ -1,9 +1,9 @@
-//! 01, "The program `relay`"; numbers 50 to 54, and 20.
+//! 01, "The program `relay`"; numbers 50 to 54, and 20. 02, W-211: its lists.
 
 use crate::batch::{walk, Step, MOST_BATCH};
 use crate::edition::EDITION_1_2;
 use crate::header::MOST_PDU;
-use crate::lists::{Lists, MOST_RANGES};
+use crate::lists::{Choice, Lists, MOST_RANGES};
 use crate::node::Settings;
 use crate::numbers::{
     BATCH_SIZE, JOB_FLAGS, JOB_LEFT_OVER, JOB_LIST_COUNT, JOB_SHORT, LOW_ABOVE_HIGH,
@@ -15,7 +15,7 @@ use crate::octets::{bit, Cursor};
 pub struct Job {
     /// Own address and the flags.
     pub settings: Settings,
-    /// The four lists, in the order of 01.
+    /// The four sections, in the order of 01, each its kind's first list.
     pub lists: [Vec<u16>; 4],
     /// The batch.
     pub batch: Vec<u8>,
@@ -54,11 +54,19 @@ fn read_settings(rest: &mut Cursor) -> Result<Settings, u8> {
         own_address,
         echo: bit(flags, 0),
         repeating: bit(flags, 1),
-        source_pass_on: bit(flags, 2),
-        source_reject_on: bit(flags, 3),
-        destination_pass_on: bit(flags, 4),
-        destination_reject_on: bit(flags, 5),
+        source_pass: first_or_none(bit(flags, 2)),
+        source_reject: first_or_none(bit(flags, 3)),
+        destination_pass: first_or_none(bit(flags, 4)),
+        destination_reject: first_or_none(bit(flags, 5)),
     })
+}
+
+/// 02, W-211: a section is "its kind's first list".
+fn first_or_none(on: bool) -> Choice {
+    match on {
+        true => Choice::First,
+        false => Choice::None,
+    }
 }
 
 /// "A count byte and that many ranges of 4 bytes", with 20 "when a range has
@@ -100,13 +108,8 @@ pub fn relay(bytes: &[u8]) -> String {
 /// The text of a job that could be read. A job has no edition; its text is the
 /// same under both.
 fn job_text(job: &Job) -> Result<String, u8> {
-    let [source_pass, source_reject, destination_pass, destination_reject] = &job.lists;
-    let lists = Lists {
-        source_pass,
-        source_reject,
-        destination_pass,
-        destination_reject,
-    };
+    let [a, b, c, d] = &job.lists;
+    let lists = Lists::firsts([a, b, c, d]);
     let out = &mut [0; MOST_PDU];
     let walked = walk(EDITION_1_2, &job.settings, &lists, &job.batch, out)?;
     let mut text = format!("relay {}\n", job.settings.own_address);

@@ -1,9 +1,9 @@
 //! 01, "One PDU at one node"; numbers 30 to 41. 02, W-203; number 42. 02,
-//! W-209: the node's edition.
+//! W-209: the node's edition. 02, W-211: the lists chosen.
 
 use crate::edition::{read_under, Edition, Shown};
 use crate::header::{Header, MOST_PATH};
-use crate::lists::{holds, list_fault, Lists};
+use crate::lists::{holds, list_fault, Choice, Lists};
 use crate::numbers::{
     ADDED_HEADER, DESTINATION_PASS, DESTINATION_REJECT, DONE, ECHO, FOR_ANOTHER, HOP_LIMIT_0,
     IS_DESTINATION, OWN_SOURCE, PATH_FULL, REPEATING_OFF, REPEAT_SHORT, SOURCE_PASS, SOURCE_REJECT,
@@ -19,14 +19,14 @@ pub struct Settings {
     pub echo: bool,
     /// Repeating on.
     pub repeating: bool,
-    /// Source pass list on.
-    pub source_pass_on: bool,
-    /// Source reject list on.
-    pub source_reject_on: bool,
-    /// Destination pass list on.
-    pub destination_pass_on: bool,
-    /// Destination reject list on.
-    pub destination_reject_on: bool,
+    /// Which source pass list is on.
+    pub source_pass: Choice,
+    /// Which source reject list is on.
+    pub source_reject: Choice,
+    /// Which destination pass list is on.
+    pub destination_pass: Choice,
+    /// Which destination reject list is on.
+    pub destination_reject: Choice,
 }
 
 /// What a node answers to one PDU.
@@ -114,21 +114,26 @@ fn is_own(settings: &Settings, header: &Header) -> bool {
 }
 
 /// Step 4: the PDU's source, never the node's own address, in the source
-/// lists; then its destination, if it has one, in the destination lists.
+/// lists that are chosen; then its destination, if it has one, in the
+/// destination lists.
 fn refused_by_lists(settings: &Settings, lists: &Lists, header: &Header) -> u8 {
-    if settings.source_pass_on && !holds(lists.source_pass, header.source) {
+    let pass = lists.source_pass.chosen(settings.source_pass);
+    if pass.is_some_and(|list| !holds(list, header.source)) {
         return SOURCE_PASS;
     }
-    if settings.source_reject_on && holds(lists.source_reject, header.source) {
+    let reject = lists.source_reject.chosen(settings.source_reject);
+    if reject.is_some_and(|list| holds(list, header.source)) {
         return SOURCE_REJECT;
     }
     let Some(destination) = header.destination else {
         return DONE;
     };
-    if settings.destination_pass_on && !holds(lists.destination_pass, destination) {
+    let pass = lists.destination_pass.chosen(settings.destination_pass);
+    if pass.is_some_and(|list| !holds(list, destination)) {
         return DESTINATION_PASS;
     }
-    if settings.destination_reject_on && holds(lists.destination_reject, destination) {
+    let reject = lists.destination_reject.chosen(settings.destination_reject);
+    if reject.is_some_and(|list| holds(list, destination)) {
         return DESTINATION_REJECT;
     }
     DONE

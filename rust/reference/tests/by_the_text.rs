@@ -131,7 +131,7 @@ fn list_faults_in_order() {
     let odd_and_low_above_high = [2, 1, 5];
     let low_above_high = [1, 1, 2, 1];
     let good = [9; 128];
-    let fault = |lists: [&[u16]; 4]| list_fault(&Lists::of(lists));
+    let fault = |lists: [&[u16]; 4]| list_fault(&Lists::firsts(lists));
     assert_eq!(fault([&good, &good, &good, &long_and_odd]), 22);
     assert_eq!(
         fault([&[], &odd_and_low_above_high, &long_and_odd, &[]]),
@@ -144,7 +144,7 @@ fn list_faults_in_order() {
 /// Lists come before reading, and are checked though they are off.
 #[test]
 fn list_fault_before_reading() {
-    let lists = Lists::of([&[], &[], &[], &[1]]);
+    let lists = Lists::firsts([&[], &[], &[], &[1]]);
     assert_eq!(numbers(&node(1), &lists, &[]), (21, 21));
     assert_eq!(numbers(&node(1), &Lists::EMPTY, &[]), (1, 1));
 }
@@ -153,9 +153,9 @@ fn list_fault_before_reading() {
 #[test]
 fn lists_look_at_the_pdu() {
     let mut settings = node(7);
-    settings.source_pass_on = true;
-    let own = Lists::of([&[7, 7], &[], &[], &[]]);
-    let source = Lists::of([&[0x1234, 0x1234], &[], &[], &[]]);
+    settings.source_pass = Choice::First;
+    let own = Lists::firsts([&[7, 7], &[], &[], &[]]);
+    let source = Lists::firsts([&[0x1234, 0x1234], &[], &[], &[]]);
     assert_eq!(numbers(&settings, &own, &FULL), (31, 31));
     assert_eq!(numbers(&settings, &source, &FULL), (39, 0));
 }
@@ -164,15 +164,15 @@ fn lists_look_at_the_pdu() {
 #[test]
 fn all_four_lists() {
     let all_on = Settings {
-        source_pass_on: true,
-        source_reject_on: true,
-        destination_pass_on: true,
-        destination_reject_on: true,
+        source_pass: Choice::First,
+        source_reject: Choice::First,
+        destination_pass: Choice::First,
+        destination_reject: Choice::First,
         ..node(7)
     };
     let source = [0x1234, 0x1240];
     let destination = [0x5600, 0x5678];
-    let hear_with = |lists| numbers(&all_on, &Lists::of(lists), &FULL);
+    let hear_with = |lists| numbers(&all_on, &Lists::firsts(lists), &FULL);
     assert_eq!(hear_with([&[], &source, &[], &destination]), (31, 31));
     assert_eq!(hear_with([&source, &source, &[], &destination]), (32, 32));
     assert_eq!(hear_with([&source, &[], &[], &destination]), (33, 33));
@@ -185,9 +185,9 @@ fn all_four_lists() {
 #[test]
 fn no_destination_passes_destination_lists() {
     let mut settings = node(7);
-    settings.destination_pass_on = true;
-    settings.destination_reject_on = true;
-    let lists = Lists::of([&[], &[], &[], &[0, 65535]]);
+    settings.destination_pass = Choice::First;
+    settings.destination_reject = Choice::First;
+    let lists = Lists::firsts([&[], &[], &[], &[0, 65535]]);
     assert_eq!(numbers(&settings, &lists, &[0, 0, 16, 0, 0, 1]), (0, 0));
 }
 
@@ -279,7 +279,7 @@ fn walk_goes_on_after_40() {
 /// 01, "A batch": the size limit, and no answer where no bytes are left.
 #[test]
 fn walk_limits() {
-    let bad = Lists::of([&[1], &[], &[], &[]]);
+    let bad = Lists::firsts([&[1], &[], &[], &[]]);
     let walk_of = |length| walk(EDITION_1_2, &node(9), &bad, &vec![0; length], &mut []);
     assert_eq!(walk_of(16_385), Err(54));
     let full = walk_of(16_384).unwrap();
@@ -341,10 +341,10 @@ fn the_last_sender_is_carried_on() {
         (answer.delivery, answer.last_sender)
     };
     let passing_none = Settings {
-        source_pass_on: true,
+        source_pass: Choice::First,
         ..node(9)
     };
-    let faulty = Lists::of([&[2, 1], &[], &[], &[]]);
+    let faulty = Lists::firsts([&[2, 1], &[], &[], &[]]);
     assert_eq!(at(&node(9), &Lists::EMPTY, &FULL, 30), (39, Some(2)));
     assert_eq!(at(&node(1), &Lists::EMPTY, &FULL, 30), (30, Some(2)));
     assert_eq!(at(&passing_none, &Lists::EMPTY, &FULL, 30), (31, Some(2)));

@@ -94,7 +94,7 @@ fn repeating_is_the_same_under_both() {
 #[test]
 fn another_number_is_17_before_all() {
     let (odd, bad) = ([1_u16], [2, 1]);
-    let faults = Lists::of([&odd, &[], &[], &bad]);
+    let faults = Lists::firsts([&odd, &[], &[], &bad]);
     for edition in OTHERS {
         assert_eq!(Edition::of(edition), Err(17));
         for bytes in [&pdu(0)[..], &pdu(0)[..5], &[0x40; 6], &[]] {
@@ -122,7 +122,7 @@ fn another_number_is_17_before_all() {
 #[test]
 fn it_ends_a_walk() {
     let bad = [2, 1];
-    let faults = Lists::of([&[], &[], &bad, &[]]);
+    let faults = Lists::firsts([&[], &[], &bad, &[]]);
     for edition in OTHERS {
         for length in [1, 12, MOST_BATCH, MOST_BATCH + 1] {
             let batch = vec![0; length];

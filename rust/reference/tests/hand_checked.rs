@@ -164,7 +164,7 @@ fn p13_hop_setting() {
 #[test]
 fn p14_empty_source_pass_list() {
     let settings = Settings {
-        source_pass_on: true,
+        source_pass: Choice::First,
         ..node(2000, true)
     };
     assert_eq!(heard(&settings, &hex(EXAMPLE)), (31, 31, vec![]));

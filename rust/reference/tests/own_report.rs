@@ -76,20 +76,20 @@ fn directly_after_30() {
 fn before_the_lists_and_after_their_faults_and_reading() {
     let every = [0, 65_535];
     let mut settings = node(9);
-    settings.source_pass_on = true;
+    settings.source_pass = Choice::First;
     let passes_none = heard(&settings, &Lists::EMPTY, &report(7, None));
     assert_eq!(passes_none, (42, 42, vec![]));
     settings = node(9);
-    settings.source_reject_on = true;
-    let rejects_all = Lists::of([&[], &every, &[], &[]]);
+    settings.source_reject = Choice::First;
+    let rejects_all = Lists::firsts([&[], &every, &[], &[]]);
     let rejected = heard(&settings, &rejects_all, &report(7, None));
     assert_eq!(rejected, (42, 42, vec![]));
     settings = node(9);
-    settings.destination_pass_on = true;
-    settings.destination_reject_on = true;
+    settings.destination_pass = Choice::First;
+    settings.destination_reject = Choice::First;
     let with_destination = [1, 0, 0x70, 0, 0, 9, 0, 8];
     assert_eq!(numbers(&settings, &with_destination), (42, 42));
-    let fault = Lists::of([&[1], &[], &[], &[]]);
+    let fault = Lists::firsts([&[1], &[], &[], &[]]);
     assert_eq!(heard(&settings, &fault, &report(7, None)).0, 21);
     assert_eq!(numbers(&settings, &with_destination[..7]), (5, 5));
 }

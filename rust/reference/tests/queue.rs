@@ -187,7 +187,7 @@ fn a_batch_taken_is_walked_to_its_end() {
         own_address: 3,
         echo: true,
         repeating: true,
-        source_pass_on: true,
+        source_pass: Choice::First,
         ..Settings::default()
     };
     let walked = walk(EDITION_1_2, &every_setting, &Lists::EMPTY, &batch, &mut []).unwrap();

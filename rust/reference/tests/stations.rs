@@ -7,10 +7,10 @@ const NODE: Settings = Settings {
     own_address: 2000,
     echo: true,
     repeating: true,
-    source_pass_on: false,
-    source_reject_on: false,
-    destination_pass_on: false,
-    destination_reject_on: false,
+    source_pass: Choice::None,
+    source_reject: Choice::None,
+    destination_pass: Choice::None,
+    destination_reject: Choice::None,
 };
 
 /// A PDU for everyone from this source, with hop limit 7 and this path.
@@ -82,7 +82,7 @@ fn an_absent_path_count_is_not_0() {
 fn what_is_read_counts_whatever_the_lists_say() {
     let mut stations = Stations::empty();
     let settings = Settings {
-        source_pass_on: true,
+        source_pass: Choice::First,
         ..NODE
     };
     let received = pdu(9, None);
@@ -114,7 +114,7 @@ fn what_is_not_read_does_not_count() {
         let (delivery, number) = heard(&mut stations, received);
         assert!((1..=6).contains(&delivery) && number == 0);
     }
-    let fault = Lists::of([&[], &[], &[], &[2, 1]]);
+    let fault = Lists::firsts([&[], &[], &[], &[2, 1]]);
     let (answer, number) = hear_and_count(
         EDITION_1_2,
         &NODE,

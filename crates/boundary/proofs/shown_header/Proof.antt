@@ -22,50 +22,17 @@ reserved-of-requires c κs = search needs
 destination-address-requires : tie.Need-destination-address-requires
 destination-address-requires c κs = search needs
 
-byte-requires-3 : tie.Need-byte-requires-3
-byte-requires-3 c κs = search needs
+has-sender-requires : tie.Need-has-sender-requires
+has-sender-requires c κs = search needs
 
-byte-requires-4 : tie.Need-byte-requires-4
-byte-requires-4 c κs = search needs
-
-payload-length-requires : tie.Need-payload-length-requires
-payload-length-requires c κs = search needs
-
-word-requires : tie.Need-word-requires
-word-requires c κs = search needs
-
-path-count-place-requires : tie.Need-path-count-place-requires
-path-count-place-requires c κs = search needs
-
-byte-if-requires : tie.Need-byte-if-requires
-byte-if-requires c κs = search needs
+sender-address-requires : tie.Need-sender-address-requires
+sender-address-requires c κs = search needs
 
 header-length-requires : tie.Need-header-length-requires
 header-length-requires c κs = search needs
 
-word-if-requires : tie.Need-word-if-requires
-word-if-requires c κs = search needs
-
-byte-value-requires : tie.Need-byte-value-requires
-byte-value-requires c κs = search needs
-
-mul-byte-if : tie.Need-mul-byte-if
-mul-byte-if c = search needs
-
-add-byte-if : tie.Need-add-byte-if
-add-byte-if c = search needs
-
-byte-if-requires-2 : tie.Need-byte-if-requires-2
-byte-if-requires-2 c κs = search needs
-
-last-address-requires : tie.Need-last-address-requires
-last-address-requires c κs = search needs
-
-word-value-requires : tie.Need-word-value-requires
-word-value-requires c κs = search needs
-
-add-t47 : tie.Need-add-t47
-add-t47 c = search needs
+pdu-length-requires : tie.Need-pdu-length-requires
+pdu-length-requires c κs = search needs
 
 returns : tie.Need-returns
 returns c =
@@ -99,12 +66,5 @@ shown-header-spec =
     has-sender-requires
     sender-address-requires
     header-length-requires
-    word-if-requires
-    byte-value-requires
-    mul-byte-if
-    add-byte-if
-    byte-if-requires-2
-    last-address-requires
-    word-value-requires
-    add-t47
+    pdu-length-requires
     returns)

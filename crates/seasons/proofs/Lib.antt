@@ -1,0 +1,5 @@
+pub mod Faults
+pub mod Answering
+pub mod Standing
+pub mod Alike
+pub mod Carried
