@@ -576,7 +576,7 @@ Outcome plain_retain(Retained *table, size_t records, uint64_t last, uint64_t ti
     if (time < last) {
         return refused(73, last);
     }
-    header = plain_read(pdu, length);
+    header = plain_read(12, pdu, length);
     if (header.number != 0 || header.pdu_length != length || header.protocol != 1 || header.ack || header.path_count != 0) {
         return refused(75, last);
     }
@@ -655,7 +655,7 @@ static Outcome acknowledged(Names names, uint64_t last, Sending sending, uint8_t
 Outcome plain_acknowledge(Retained *table, size_t records, uint64_t last, const uint8_t *received, size_t length, Answer answer, Sending sending,
                           uint8_t *output, size_t output_length)
 {
-    Header header = plain_read(received, length);
+    Header header = plain_read(12, received, length);
     bool counts = answer.delivery == 0 && answer.taken != 0 && header.number == 0 && header.protocol == 1;
     Names names;
     size_t place;
@@ -849,4 +849,311 @@ Written plain_write_exchange(const uint8_t *bytes, size_t length, uint8_t *outpu
     output = put_element(output, 1024, bytes, header.header_length);
     put_element(output, 1025, bytes + header.header_length, header.payload_length);
     return (Written){0, whole};
+}
+
+typedef struct {
+    uint8_t bytes[16];
+} Key;
+
+/* The round keys of AES-128. */
+typedef struct {
+    uint8_t bytes[176];
+} Expanded;
+
+static const uint8_t s_box[256] = {
+    0x63, 0x7C, 0x77, 0x7B, 0xF2, 0x6B, 0x6F, 0xC5, 0x30, 0x01, 0x67, 0x2B, 0xFE, 0xD7, 0xAB, 0x76, 0xCA, 0x82, 0xC9, 0x7D, 0xFA, 0x59, 0x47, 0xF0,
+    0xAD, 0xD4, 0xA2, 0xAF, 0x9C, 0xA4, 0x72, 0xC0, 0xB7, 0xFD, 0x93, 0x26, 0x36, 0x3F, 0xF7, 0xCC, 0x34, 0xA5, 0xE5, 0xF1, 0x71, 0xD8, 0x31, 0x15,
+    0x04, 0xC7, 0x23, 0xC3, 0x18, 0x96, 0x05, 0x9A, 0x07, 0x12, 0x80, 0xE2, 0xEB, 0x27, 0xB2, 0x75, 0x09, 0x83, 0x2C, 0x1A, 0x1B, 0x6E, 0x5A, 0xA0,
+    0x52, 0x3B, 0xD6, 0xB3, 0x29, 0xE3, 0x2F, 0x84, 0x53, 0xD1, 0x00, 0xED, 0x20, 0xFC, 0xB1, 0x5B, 0x6A, 0xCB, 0xBE, 0x39, 0x4A, 0x4C, 0x58, 0xCF,
+    0xD0, 0xEF, 0xAA, 0xFB, 0x43, 0x4D, 0x33, 0x85, 0x45, 0xF9, 0x02, 0x7F, 0x50, 0x3C, 0x9F, 0xA8, 0x51, 0xA3, 0x40, 0x8F, 0x92, 0x9D, 0x38, 0xF5,
+    0xBC, 0xB6, 0xDA, 0x21, 0x10, 0xFF, 0xF3, 0xD2, 0xCD, 0x0C, 0x13, 0xEC, 0x5F, 0x97, 0x44, 0x17, 0xC4, 0xA7, 0x7E, 0x3D, 0x64, 0x5D, 0x19, 0x73,
+    0x60, 0x81, 0x4F, 0xDC, 0x22, 0x2A, 0x90, 0x88, 0x46, 0xEE, 0xB8, 0x14, 0xDE, 0x5E, 0x0B, 0xDB, 0xE0, 0x32, 0x3A, 0x0A, 0x49, 0x06, 0x24, 0x5C,
+    0xC2, 0xD3, 0xAC, 0x62, 0x91, 0x95, 0xE4, 0x79, 0xE7, 0xC8, 0x37, 0x6D, 0x8D, 0xD5, 0x4E, 0xA9, 0x6C, 0x56, 0xF4, 0xEA, 0x65, 0x7A, 0xAE, 0x08,
+    0xBA, 0x78, 0x25, 0x2E, 0x1C, 0xA6, 0xB4, 0xC6, 0xE8, 0xDD, 0x74, 0x1F, 0x4B, 0xBD, 0x8B, 0x8A, 0x70, 0x3E, 0xB5, 0x66, 0x48, 0x03, 0xF6, 0x0E,
+    0x61, 0x35, 0x57, 0xB9, 0x86, 0xC1, 0x1D, 0x9E, 0xE1, 0xF8, 0x98, 0x11, 0x69, 0xD9, 0x8E, 0x94, 0x9B, 0x1E, 0x87, 0xE9, 0xCE, 0x55, 0x28, 0xDF,
+    0x8C, 0xA1, 0x89, 0x0D, 0xBF, 0xE6, 0x42, 0x68, 0x41, 0x99, 0x2D, 0x0F, 0xB0, 0x54, 0xBB, 0x16
+};
+
+static Expanded expand(const Key *key)
+{
+    Expanded keys;
+    uint8_t constant = 1;
+
+    memcpy(keys.bytes, key->bytes, 16);
+    for (size_t at = 16; at < 176; at += 4) {
+        uint8_t word[4];
+        memcpy(word, keys.bytes + at - 4, 4);
+        if (at % 16 == 0) {
+            uint8_t first = word[0];
+            word[0] = s_box[word[1]] ^ constant;
+            word[1] = s_box[word[2]];
+            word[2] = s_box[word[3]];
+            word[3] = s_box[first];
+            constant = (uint8_t)(constant << 1 ^ (constant >> 7) * 0x1B);
+        }
+        for (size_t i = 0; i < 4; i++) {
+            keys.bytes[at + i] = keys.bytes[at - 16 + i] ^ word[i];
+        }
+    }
+    return keys;
+}
+
+static void add_key(uint8_t state[16], const uint8_t *key)
+{
+    for (size_t i = 0; i < 16; i++) {
+        state[i] ^= key[i];
+    }
+}
+
+/* SubBytes and ShiftRows. */
+static void substitute_and_shift(uint8_t state[16])
+{
+    uint8_t from[16];
+
+    memcpy(from, state, 16);
+    for (size_t i = 0; i < 16; i++) {
+        state[i] = s_box[from[(i + 4 * (i % 4)) % 16]];
+    }
+}
+
+static uint8_t doubled(uint8_t byte)
+{
+    return (uint8_t)(byte << 1 ^ (byte >> 7) * 0x1B);
+}
+
+static void mix_columns(uint8_t state[16])
+{
+    for (size_t at = 0; at < 16; at += 4) {
+        uint8_t a = state[at], b = state[at + 1], c = state[at + 2], d = state[at + 3];
+        state[at] = doubled(a) ^ doubled(b) ^ b ^ c ^ d;
+        state[at + 1] = a ^ doubled(b) ^ doubled(c) ^ c ^ d;
+        state[at + 2] = a ^ b ^ doubled(c) ^ doubled(d) ^ d;
+        state[at + 3] = doubled(a) ^ a ^ b ^ c ^ doubled(d);
+    }
+}
+
+static void encipher(const Expanded *keys, uint8_t state[16])
+{
+    add_key(state, keys->bytes);
+    for (size_t round = 1; round < 10; round++) {
+        substitute_and_shift(state);
+        mix_columns(state);
+        add_key(state, keys->bytes + 16 * round);
+    }
+    substitute_and_shift(state);
+    add_key(state, keys->bytes + 160);
+}
+
+/* Counter mode over the bytes, from byte `place` of the key stream on; the nonce is the source's two bytes and the number's three. */
+static void add_stream(const Expanded *keys, const uint8_t nonce[5], size_t place, const uint8_t *from, uint8_t *to, size_t length)
+{
+    uint8_t stream[16];
+
+    for (size_t i = 0; i < length; i++) {
+        size_t at = place + i;
+        if (i == 0 || at % 16 == 0) {
+            memset(stream, 0, 16);
+            memcpy(stream, nonce, 5);
+            stream[14] = (uint8_t)(at / 16 >> 8);
+            stream[15] = (uint8_t)(at / 16);
+            encipher(keys, stream);
+        }
+        to[i] = from[i] ^ stream[at % 16];
+    }
+}
+
+/* SHA-1 of bytes that come part by part. */
+typedef struct {
+    uint32_t hash[5];
+    uint8_t block[64];
+    uint64_t total;
+} Hashing;
+
+static uint32_t rotated(uint32_t word, int by)
+{
+    return word << by | word >> (32 - by);
+}
+
+static void hash_block(Hashing *hashing)
+{
+    uint32_t words[80], a = hashing->hash[0], b = hashing->hash[1], c = hashing->hash[2], d = hashing->hash[3], e = hashing->hash[4];
+
+    for (size_t i = 0; i < 16; i++) {
+        const uint8_t *at = hashing->block + 4 * i;
+        words[i] = (uint32_t)at[0] << 24 | (uint32_t)at[1] << 16 | (uint32_t)at[2] << 8 | at[3];
+    }
+    for (size_t i = 16; i < 80; i++) {
+        words[i] = rotated(words[i - 3] ^ words[i - 8] ^ words[i - 14] ^ words[i - 16], 1);
+    }
+    for (size_t i = 0; i < 80; i++) {
+        uint32_t mixed, constant;
+        if (i < 20) {
+            mixed = (b & c) | (~b & d), constant = 0x5A827999;
+        } else if (i < 40) {
+            mixed = b ^ c ^ d, constant = 0x6ED9EBA1;
+        } else if (i < 60) {
+            mixed = (b & c) | (b & d) | (c & d), constant = 0x8F1BBCDC;
+        } else {
+            mixed = b ^ c ^ d, constant = 0xCA62C1D6;
+        }
+        mixed += rotated(a, 5) + e + constant + words[i];
+        e = d, d = c, c = rotated(b, 30), b = a, a = mixed;
+    }
+    hashing->hash[0] += a;
+    hashing->hash[1] += b;
+    hashing->hash[2] += c;
+    hashing->hash[3] += d;
+    hashing->hash[4] += e;
+}
+
+static void feed(Hashing *hashing, const uint8_t *bytes, size_t length)
+{
+    for (size_t i = 0; i < length; i++) {
+        hashing->block[hashing->total++ % 64] = bytes[i];
+        if (hashing->total % 64 == 0) {
+            hash_block(hashing);
+        }
+    }
+}
+
+/* The first four bytes of the hash. */
+static void finish(Hashing *hashing, uint8_t four[4])
+{
+    const uint8_t one = 0x80, none = 0;
+    uint64_t bits = 8 * hashing->total;
+    uint8_t length[8];
+
+    for (size_t i = 0; i < 8; i++) {
+        length[i] = (uint8_t)(bits >> (56 - 8 * i));
+    }
+    feed(hashing, &one, 1);
+    while (hashing->total % 64 != 56) {
+        feed(hashing, &none, 1);
+    }
+    feed(hashing, length, 8);
+    for (size_t i = 0; i < 4; i++) {
+        four[i] = (uint8_t)(hashing->hash[0] >> (24 - 8 * i));
+    }
+}
+
+/* A hash that has taken the header, hop limit 0 and no path, as it stands in these bytes. */
+static Hashing hash_header(Header header, const uint8_t *bytes)
+{
+    Hashing hashing = {{0x67452301, 0xEFCDAB89, 0x98BADCFE, 0x10325476, 0xC3D2E1F0}, {0}, 0};
+    uint8_t start[9];
+    size_t length = 6 + (header.has_destination ? 2 : 0) + (header.protocol == 1 ? 1 : 0);
+
+    memcpy(start, bytes, length);
+    start[2] &= 0x8F;
+    feed(&hashing, start, length);
+    return hashing;
+}
+
+Written plain_seal(Key key, uint64_t number, const uint8_t *pdu, size_t length, uint8_t *output, size_t output_length)
+{
+    Header header = plain_read(12, pdu, length);
+    size_t payload = header.payload_length;
+    uint8_t nonce[5], *at;
+    Expanded keys;
+    Hashing hashing;
+
+    if (header.number != 0) {
+        return (Written){header.number, 0};
+    }
+    if (header.encrypted) {
+        return (Written){88, 0};
+    }
+    if (payload + 7 > 4095) {
+        return (Written){85, 0};
+    }
+    if (number > 16777215) {
+        return (Written){86, 0};
+    }
+    if (output_length < header.pdu_length + 7) {
+        return (Written){87, 0};
+    }
+    memcpy(output, pdu, header.header_length);
+    output[0] &= 0xFB;
+    output[1] |= 8;
+    output[2] = (uint8_t)((output[2] & 0xF0) | (payload + 7) >> 8);
+    output[3] = (uint8_t)(payload + 7);
+    at = output + header.header_length;
+    memcpy(nonce, pdu + 4, 2);
+    at[0] = nonce[2] = (uint8_t)(number >> 16);
+    at[1] = nonce[3] = (uint8_t)(number >> 8);
+    at[2] = nonce[4] = (uint8_t)number;
+    hashing = hash_header(header, output);
+    feed(&hashing, at, 3);
+    feed(&hashing, pdu + header.header_length, payload);
+    memcpy(at + 3, pdu + header.header_length, payload);
+    finish(&hashing, at + 3 + payload);
+    keys = expand(&key);
+    add_stream(&keys, nonce, 0, at + 3, at + 3, payload + 4);
+    return (Written){0, header.pdu_length + 7};
+}
+
+/* Is the hash of a sealed PDU the one that came with it? */
+static bool is_genuine(const Expanded *keys, const uint8_t nonce[5], Header header, const uint8_t *pdu)
+{
+    const uint8_t *at = pdu + header.header_length, *sealed = at + 3;
+    size_t plain = header.payload_length - 7u;
+    Hashing hashing = hash_header(header, pdu);
+    uint8_t block[64], four[4], wanted[4];
+
+    feed(&hashing, at, 3);
+    for (size_t i = 0; i < plain; i += 64) {
+        size_t part = plain - i < 64 ? plain - i : 64;
+        add_stream(keys, nonce, i, sealed + i, block, part);
+        feed(&hashing, block, part);
+    }
+    finish(&hashing, wanted);
+    add_stream(keys, nonce, plain, sealed + plain, four, 4);
+    return ((four[0] ^ wanted[0]) | (four[1] ^ wanted[1]) | (four[2] ^ wanted[2]) | (four[3] ^ wanted[3])) == 0;
+}
+
+/* The record: how many sources are held, then source and number of each. */
+Written plain_open(Key key, uint32_t *record, size_t words, const uint8_t *pdu, size_t length, uint8_t *output, size_t output_length)
+{
+    Header header = plain_read(12, pdu, length);
+    const uint8_t *at = pdu + header.header_length;
+    size_t room = words == 0 ? 0 : (words - 1) / 2, held, place = 0;
+    uint32_t number;
+    uint8_t nonce[5];
+    Expanded keys;
+
+    if (header.number != 0) {
+        return (Written){header.number, 0};
+    }
+    if (!header.encrypted) {
+        return (Written){80, 0};
+    }
+    if (header.payload_length < 7) {
+        return (Written){81, 0};
+    }
+    number = (uint32_t)at[0] << 16 | (uint32_t)at[1] << 8 | at[2];
+    room = room < 64 ? room : 64;
+    held = room != 0 && record[0] < room ? record[0] : room;
+    while (place < held && record[1 + 2 * place] != header.source) {
+        place++;
+    }
+    if (place < held && number <= record[2 + 2 * place]) {
+        return (Written){82, 0};
+    }
+    memcpy(nonce, pdu + 4, 2);
+    memcpy(nonce + 2, at, 3);
+    keys = expand(&key);
+    if (!is_genuine(&keys, nonce, header, pdu)) {
+        return (Written){83, 0};
+    }
+    if (place == room) {
+        return (Written){84, 0};
+    }
+    if (output_length < header.payload_length - 7u) {
+        return (Written){87, 0};
+    }
+    add_stream(&keys, nonce, 0, at + 3, output, header.payload_length - 7u);
+    record[0] = (uint32_t)(place < held ? held : held + 1);
+    record[1 + 2 * place] = header.source;
+    record[2 + 2 * place] = number;
+    return (Written){0, header.payload_length - 7u};
 }

@@ -8,7 +8,6 @@
 
 #include "mant.h"
 
-#define NO_LISTS NULL, 0, NULL, 0, NULL, 0, NULL, 0
 #define DELAY 30 /* seconds until a command is sent again */
 #define TRIES 2  /* times that it is sent again */
 
@@ -35,7 +34,8 @@ static void print_outcome(const char *name, MantOutcome outcome)
 /* Originates a command and retains it; it is then to be sent. */
 static size_t give(uint8_t pdu_id, uint64_t time, uint8_t *output)
 {
-    const MantFresh settings = {.source = 1000, .has_destination = true, .destination = 1600, .hop_limit = 1, .reliable = true, .pdu_id = pdu_id};
+    const MantFresh settings = {
+        .edition = MANT_EDITION_1_2, .source = 1000, .has_destination = true, .destination = 1600, .hop_limit = 1, .reliable = true, .pdu_id = pdu_id};
     const uint8_t open_gate[] = {0x01};
     MantWritten written = mant_originate(settings, open_gate, sizeof open_gate, output, MANT_RETAINED_LIMIT);
     MantOutcome outcome = mant_retain(base.table, MANT_RECORDS, base.last, time, output, written.length);
@@ -59,7 +59,7 @@ static size_t step(uint64_t time, uint8_t *output)
 /* A site hears a PDU; gives the bytes of the acknowledgement to be sent, if any. A gate would act on what is delivered to it. */
 static size_t hear(const char *name, Site *site, const uint8_t *pdu, size_t length, uint8_t *output)
 {
-    MantAnswer answer = mant_hear(site->node, NO_LISTS, pdu, length, NULL, 0);
+    MantAnswer answer = mant_hear(MANT_EDITION_1_2, site->node, NULL, pdu, length, NULL, 0);
     MantOutcome outcome = mant_acknowledge(site->table, MANT_RECORDS, site->last, pdu, length, answer, sending, output, MANT_RETAINED_LIMIT);
 
     printf("%s, payload bytes delivered: %zu\n", name, answer.delivered_length);

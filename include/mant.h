@@ -4,7 +4,8 @@
  * Every call answers for every input: nothing has to be checked before it. What each answers is proved of the code in the library, against the
  * definitions in the crates' specs/ folders; this header declares it, and for a node hands its lists on from a struct. No call keeps anything between
  * calls, allocates, or does input or output.
- * The library needs no function of the C library. A call takes less than 640 bytes of stack, one that takes a node's lists less than 1,280.
+ * The library needs memcpy, memmove and memset, and no other function of the C library. A call takes less than 640 bytes of stack, one that takes a node's
+ * lists less than 1,280, sealing and opening less than 1,536, and the three with retained PDUs less than 3,584.
  *
  * Slices. A slice is passed as a pointer and then a length, which counts elements: bytes, or uint16_t values of a list or words of a table. Only so
  * many elements are ever read or written.
@@ -15,17 +16,17 @@
  * aligned by the compiler, MantLists by its address; a bool in them holds 0 or 1, as C's does unless it was written by other means, such as memcpy.
  *
  * Edition. In edition 1.1 of the protocol the three bits after the port are one reserved number; in 1.2 the first of them is the encrypted flag
- * (document 02, W-209). What shows or sets these bits takes the edition as a number, MANT_EDITION_1_1 or MANT_EDITION_1_2, and so does a node. Any
+ * (document 02, W-209). What shows a header, writes one or hears as a node takes the edition as a number, MANT_EDITION_1_1 or MANT_EDITION_1_2. Any
  * other number, also one that would be 11 or 12 if it were cut to fewer bits, is answered 17 before all else is looked at. A node answers and repeats
- * the same, byte for byte, under both. What tells of paths, exchanges and queues shows none of these bits, and so takes no edition.
+ * the same, byte for byte, under both. Paths, exchanges and queues show none of these bits, and sealing is of 1.2 alone, so these take no edition.
  *
  * Lists. A node has eight address lists, two of each kind, such as one for the dry season and one for floods (document 02, W-211). They stand together in
  * a struct MantLists that is passed by its address, NULL for eight empty lists. Which of them a node reads is chosen in its settings, for each kind by
- * itself; to change over is to change that choice and nothing else. All eight are checked at every call, whatever is chosen.
+ * itself; to change over is to change those choices and nothing else. All eight are checked at every call, whatever is chosen.
  *
- * Output. It changes only where a PDU, an exchange or what was taken from a queue is written (number 0), or, at a node, where the repeat number is 0.
- * It then begins with that, and keeps its bytes past the end of it. With every other number the output is left as it was. MANT_PDU_LIMIT bytes are room
- * for every PDU, MANT_EXCHANGE_LIMIT for every exchange, MANT_QUEUE_BYTES for all that a queue holds.
+ * Output. It changes only where a PDU, its plain payload, an exchange or what was taken from a queue is written (number 0), or, at a node, where the repeat
+ * number is 0. It then begins with that, and keeps its bytes past the end of it. With every other number the output is left as it was. MANT_PDU_LIMIT
+ * bytes are room for every PDU, MANT_EXCHANGE_LIMIT for every exchange, MANT_QUEUE_BYTES for all that a queue holds.
  *
  * Table. The stations heard (document 02, W-201) are held in uint16_t words that the caller lends, and keeps from call to call: how many are held, then
  * four words for each station, by rising address: its address, the PDUs read from it, those of them that echo dropped, and one more than its shortest
@@ -46,16 +47,25 @@
  *
  * Retained PDUs. Reliable PDUs that wait for their acknowledgement (document 02, W-210; document 000, section 3.3) are held in MANT_RECORDS records that the
  * caller lends, and keeps from call to call, beside the last accepted time, which each call answers and the next is given. A record is in use where its
- * PDU is exactly one of protocol 1 with ACK clear and no path address; every other is free, one of all zeros too, so that the records may hold anything
- * before the first call. The first is always the one at the lowest place. Times are whole seconds of a clock that does not go back; 0 stands for no time
- * accepted yet. Where a call changes the table it changes one record; with a refusal none, nor the last time. Records are aligned as C aligns them, and
- * share no memory with another slice of the call.
+ * length is MANT_RETAINED_LIMIT at most and its PDU exactly one of protocol 1 with ACK clear and no path address; every other is free, one of all zeros
+ * too, so that the records may hold anything before the first call. The first is always the one at the lowest place. Times are whole seconds of a clock
+ * that does not go back; 0 stands for no time accepted yet. Where a call changes the table it changes one record; with a refusal none, nor the last time.
+ * Records are aligned as C aligns them, and share no memory with another slice of the call.
  *
  * Exchange. What a decoder and an encoder that are two devices send each other (document 02, W-202; document 003, section 3, for the elements): one
  * element of type 20 that is all of the bytes, and in it an element of type 1024, the PDU's header, and one of type 1025, its payload, one of each, in
  * either order; elements of other types may stand there too. A type or a length below 128 is one byte, or two that say the same; from 128 on it is two,
  * with 128 added to the first of them. Elements of types 10, 11 and 20 hold elements, four levels down at most, of which the exchange is the first. What
  * frames it on the line is the driver's.
+ *
+ * Record. The last message number that was accepted from each source of encrypted PDUs (document 02, W-212; document 000, section 3.5) is held in
+ * uint32_t words that the caller lends, and keeps from call to call, over a restart too: how many sources are held, then two words for each, its address
+ * and that number. Words of which the first is 0 are an empty record. MANT_SOURCE_WORDS words have room for MANT_SOURCE_LIMIT sources, and more words for
+ * no more; fewer have room for (words - 1) / 2. A first word above the room is a full record's. A record is changed only where a PDU is opened (number 0):
+ * then the number of its source's entry is written, or a new source is put behind the others and counted; every other word is kept, but that a first word
+ * above the room becomes the room. A caller who changes the key empties the record. Of words put together by hand the first entry of a source counts, and an
+ * address above 65,535 is no source's. Like a table, a record is aligned for its words and shares no
+ * memory with another slice of the call.
  *
  * Numbers. Every refusal has one: enum MantNumber below, and mant_meaning gives its words.
  */
@@ -127,7 +137,16 @@ enum MantNumber {
     MANT_EARLIER_TIME = 73,                 /* the time is earlier than the last accepted one */
     MANT_NOT_16_RECORDS = 74,               /* the lent memory is not 16 records */
     MANT_NOT_RETAINABLE = 75,               /* not exactly one PDU of protocol 1 with ACK clear and no path address */
-    MANT_SENDING_TOO_LONG = 77              /* the output has no room for what is to be sent */
+    MANT_SENDING_TOO_LONG = 77,             /* the output has no room for what is to be sent */
+    MANT_NOT_ENCRYPTED = 80,                /* its encrypted bit is clear */
+    MANT_TOO_SHORT_TO_OPEN = 81,            /* its payload is too short for a message number and a hash */
+    MANT_NUMBER_NOT_GREATER = 82,           /* its message number is not greater than the last accepted from its source */
+    MANT_HASH_DIFFERS = 83,                 /* its hash differs: another key, or it was changed on its way */
+    MANT_RECORD_FULL = 84,                  /* a new source, and the record holds as many as it has room for */
+    MANT_SEALED_TOO_LONG = 85,              /* the sealed payload would have more than 4,095 bytes */
+    MANT_NUMBER_TOO_LARGE = 86,             /* the message number is above 16,777,215 */
+    MANT_NO_ROOM_FOR_PAYLOAD = 87,          /* the output has no room for the sealed PDU, or for the plain payload */
+    MANT_ALREADY_ENCRYPTED = 88             /* its encrypted bit is already set */
 };
 
 /* No number: what delivery and repeat hold in a step that has no answer, MANT_ENDED. */
@@ -189,6 +208,15 @@ static inline const char *mant_meaning(uint8_t number)
     case MANT_NOT_16_RECORDS: return "the lent memory is not 16 records";
     case MANT_NOT_RETAINABLE: return "not exactly one PDU of protocol 1 with ACK clear and no path address";
     case MANT_SENDING_TOO_LONG: return "the output has no room for what is to be sent";
+    case MANT_NOT_ENCRYPTED: return "its encrypted bit is clear";
+    case MANT_TOO_SHORT_TO_OPEN: return "its payload is too short for a message number and a hash";
+    case MANT_NUMBER_NOT_GREATER: return "its message number is not greater than the last accepted from its source";
+    case MANT_HASH_DIFFERS: return "its hash differs: another key, or it was changed on its way";
+    case MANT_RECORD_FULL: return "a new source, and the record holds as many as it has room for";
+    case MANT_SEALED_TOO_LONG: return "the sealed payload would have more than 4,095 bytes";
+    case MANT_NUMBER_TOO_LARGE: return "the message number is above 16,777,215";
+    case MANT_NO_ROOM_FOR_PAYLOAD: return "the output has no room for the sealed PDU, or for the plain payload";
+    case MANT_ALREADY_ENCRYPTED: return "its encrypted bit is already set";
     default: return "no such number";
     }
 }
@@ -221,6 +249,14 @@ static inline const char *mant_meaning(uint8_t number)
 /* The editions as numbers; no other number is one. */
 #define MANT_EDITION_1_1 11
 #define MANT_EDITION_1_2 12
+
+/* How many sources a record holds at most, and how many words are room for so many. */
+#define MANT_SOURCE_LIMIT 64
+#define MANT_SOURCE_WORDS 129
+
+/* How many bytes longer a sealed PDU is: its message number and its hash. The greatest message number. */
+#define MANT_SEAL_LENGTH 7
+#define MANT_NUMBER_LIMIT 16777215
 
 /* The header of a PDU, in the order of its bits. A destination, PDU ID or path count that the PDU does not have is 0. With a number other than 0
    every field after it is 0 or false. */
@@ -263,6 +299,11 @@ typedef struct MantExchange {
     size_t payload_length;
 } MantExchange;
 
+/* A key of AES-128. */
+typedef struct MantKey {
+    uint8_t bytes[16];
+} MantKey;
+
 /* What is asked of a fresh PDU. Edition, hop limit and port are wider than they need be, so that 263 arrives as 263 and is refused. An edition that
    is not set is 0, and refused with 17. */
 typedef struct MantFresh {
@@ -276,7 +317,7 @@ typedef struct MantFresh {
     bool with_path;           /* every node that repeats the PDU adds its address */
     bool reliable;            /* needs a destination */
     uint8_t pdu_id;           /* written for reliable service only */
-    bool encrypted;           /* the payload is encrypted already: sets the flag, which edition 1.1 does not have */
+    bool encrypted;           /* the payload is encrypted already: sets the flag, which edition 1.1 lacks; ask for no time stamp then */
 } MantFresh;
 
 /* Which of a kind's two lists a node reads. Any other number chooses none, as 0 does. */
@@ -457,6 +498,7 @@ typedef struct MantLimits {
 MANT_SIZE(MantHeader, 40);
 MANT_SIZE(MantWritten, 16);
 MANT_SIZE(MantExchange, 40);
+MANT_SIZE(MantKey, 16);
 MANT_SIZE(MantFresh, 40);
 MANT_SIZE(MantNode, 8);
 MANT_SIZE(MantList, 16);
@@ -567,8 +609,8 @@ static inline MantAnswer mant_hear(uint64_t edition, MantNode settings, const Ma
 /* One step of the walk over PDUs that lie back to back: what mant_hear answers for the PDU at the cursor, whose first byte is
    batch[cursor.place], and the cursor of the next. After 17, a list fault or a PDU that can't be read the next cursor has ended, at the same
    place. Any cursor may be given; one past the end, or one that has ended, gets MANT_ENDED. A batch over the size limit gets MANT_REFUSED at every
-   cursor, so go on only while the kind is MANT_ANSWERED. 17 comes before that: under an edition that is none, a batch of any length is answered 17 where
-   it begins, and MANT_ENDED after it. The output is changed as by mant_hear, and left alone with kinds 1 and 2.
+   cursor, so go on only while the kind is MANT_ANSWERED. 17 comes before that: under another number than 11 and 12 a cursor
+   with a byte left is answered 17, and MANT_ENDED after it. The output is changed as by mant_hear, and left alone with kinds 1 and 2.
 
    In the loop below, the PDU that was answered began at s.next.place - s.answer.taken, also where taken is 0. The places in the answer count from
    there: a delivered payload begins at batch + (s.next.place - s.answer.taken) + s.answer.delivered_place.
@@ -630,8 +672,8 @@ MantOutcome mant_retain(MantRetained *table, size_t records, uint64_t last, uint
 /* One step: takes the first record in use whose time lies the delay or more before this time; one that lies after it is not taken. Where its PDU was
    sent again as often as `tries` says, or more often, it is dropped and reported failed, and no room is asked for. Else its PDU is written to the output,
    its time is set and its count one higher. Answers 74, 73, and then 77 where the PDU to be sent has no room in the output, also where a later one would
-   fit. Where none is due the time is accepted all the same. Go on at each moment while the deed is not 0; with delay 0 and tries left, that does not
-   end. */
+   fit. Where none is due the time is accepted all the same. Go on at each moment while the deed is not 0: with room for MANT_RETAINED_LIMIT bytes
+   that ends after at most MANT_RECORDS steps, with delay 0 after at most MANT_RECORDS * (tries + 1). */
 MantOutcome mant_retry(MantRetained *table, size_t records, uint64_t last, uint64_t time, uint64_t delay, uint64_t tries, uint8_t *output,
                        size_t output_length);
 
@@ -661,6 +703,21 @@ MantBatch mant_queue_take(uint8_t *queue, size_t queue_length, uint8_t *output, 
 /* Drops all PDUs that a queue holds: both numbers are 0 then, and every byte behind them is kept. Fewer than four bytes, which hold none, are left alone.
    Document 02, W-207. */
 void mant_queue_clear(uint8_t *queue, size_t queue_length);
+
+/* Seals the PDU at the start of the bytes: writes it with its payload enciphered under the key, its encrypted bit set, its time stamp request clear and
+   its payload MANT_SEAL_LENGTH bytes longer; hop limit, path and all else are as they were. Answers 1 to 6 where there is no PDU, 88 where its encrypted
+   bit is set already, 85 where the payload would have more than MANT_PAYLOAD_LIMIT bytes, 86 where the number is above MANT_NUMBER_LIMIT, 87 where the
+   output is shorter than the sealed PDU, the first that applies, and leaves the output alone then. Bytes after the PDU are not looked at. Under one key
+   no source may use a number twice: the caller counts them up, and keeps the count over a restart. Document 02, W-212. */
+MantWritten mant_seal(MantKey key, uint64_t number, const uint8_t *pdu, size_t pdu_length, uint8_t *output, size_t output_length);
+
+/* Opens the sealed PDU at the start of the bytes: writes its plain payload, and notes its number in the record. Answers 1 to 6 where there is no PDU, 80
+   where its encrypted bit is clear, 81 where its payload is shorter than MANT_SEAL_LENGTH, 82 where the record holds its source with this number or a
+   greater one, 83 where its hash is another, 84 where its source is new and the record full, 87 where the output is shorter than the plain payload, the
+   first that applies, and leaves output and record alone then. Against the same record it opens the same after any repeats as before them; once opened, a
+   repeat of it is 82. Of a source that the record does not hold any number is taken, so an empty record takes what it has taken before. Document 02, W-212. */
+MantWritten mant_open(MantKey key, uint32_t *record, size_t record_words, const uint8_t *pdu, size_t pdu_length, uint8_t *output,
+                      size_t output_length);
 
 /* The most transmissions that one fresh PDU with a path and this hop limit can cause among so many repeating nodes, its first sending counted. Echo is
    on at each node, and no two have the same address. The node at the PDU's source address hears too, with echo on, and does not count among these nodes,

@@ -4,16 +4,14 @@
 
        gcc -std=c11 -O2 -Wall -Wextra -pedantic tests/stack.c -Iinclude target/staticlib/libmant.a -o /tmp/stack && /tmp/stack
 
-   prints the bytes of each function, the most of the calls tried, and fails where they are more than 1,280 for one that takes a node's lists, 640 for
-   another. Those that take lists are called through the functions of mant.h, and what these take is counted too. */
+   prints the bytes of each function, the most of the calls tried, and fails where they are more than its limit. Those that take lists are called through
+   the functions of mant.h, and what these take is counted too. */
 #include <stdio.h>
 #include <string.h>
 
 #include "mant.h"
 
-#define LISTED_LIMIT 1280
 #define LIMIT 640
-#define RETAINED_LIMIT 3584
 #define PAINTED 16384
 #define STACK_POINTER "mov %%rsp, %0"
 #define EDITION MANT_EDITION_1_2
@@ -22,6 +20,7 @@
 #define LISTS &lists
 #define LENT pdu, sizeof pdu, output, sizeof output
 #define PDU_LENGTH 4613
+#define PLAIN_LENGTH (MANT_PAYLOAD_LIMIT - MANT_SEAL_LENGTH)
 #define QUEUE queue, sizeof queue
 #define TABLE records, MANT_RECORDS, 160
 
@@ -43,6 +42,9 @@ static uint8_t pdu[MANT_PDU_LIMIT], output[MANT_PDU_LIMIT + 2], exchange[MANT_EX
 static uint8_t command[MANT_RETAINED_LIMIT] = {0x09, 0, 0x30, 0xF7, 0x03, 0xE8, 0x06, 0x40, 7};
 static MantRetained records[MANT_RECORDS];
 static MantAnswer answer;
+static const MantKey key = {"keep me secret!"};
+static uint8_t plain[6 + PLAIN_LENGTH] = {0, 0, 0x0F, 0xF8, 0x03, 0xE8}, sealed[6 + MANT_PAYLOAD_LIMIT];
+static uint32_t record[MANT_SOURCE_WORDS];
 static volatile uintptr_t top;
 static bool meant = true;
 
@@ -94,6 +96,11 @@ CALL(queue_level_call, mant_queue_level(QUEUE).pdus == 2)
 CALL(queue_too_long_call, mant_queue_take(QUEUE, output, 5).number == MANT_OLDEST_TOO_LONG)
 CALL(queue_take_call, mant_queue_take(QUEUE, output, 6).pdus == 1)
 CALL(queue_clear_call, (mant_queue_clear(QUEUE), queue[1] == 0))
+CALL(seal_call, mant_seal(key, 850, plain, sizeof plain, sealed, sizeof sealed).length == sizeof sealed)
+CALL(seal_short_call, mant_seal(key, 850, plain, sizeof plain, sealed, 99).number == MANT_NO_ROOM_FOR_PAYLOAD)
+CALL(open_short_call, mant_open(key, record, MANT_SOURCE_WORDS, sealed, sizeof sealed, output, 99).number == MANT_NO_ROOM_FOR_PAYLOAD)
+CALL(open_call, mant_open(key, record, MANT_SOURCE_WORDS, sealed, sizeof sealed, output, sizeof output).length == PLAIN_LENGTH)
+CALL(open_again_call, mant_open(key, record, MANT_SOURCE_WORDS, sealed, sizeof sealed, output, sizeof output).number == MANT_NUMBER_NOT_GREATER)
 
 /* Each function, and calls of it: the longest way, and others that may be deeper. */
 static const struct {
@@ -126,20 +133,29 @@ static const struct {
     {"mant_queue_level", {queue_level_call}},
     {"mant_queue_take", {queue_too_long_call, queue_take_call}},
     {"mant_queue_clear", {queue_clear_call}},
+    {"mant_seal", {seal_short_call, seal_call}},
+    {"mant_open", {open_short_call, open_call, open_again_call}},
     {"mant_most_transmissions", {most_transmissions_call}},
     {"mant_most_bytes", {most_bytes_call}},
     {"mant_limits", {limits_call}},
 };
 
+/* The limit of the functions whose names have a part; those that retain copy records, those that seal and open have the round keys on the stack. */
+static const struct {
+    const char *part;
+    size_t bytes;
+} limits[] = {
+    {"_eight", 1280}, {"mant_retain", 3584}, {"mant_retry", 3584}, {"mant_acknowledge", 3584}, {"mant_seal", 1536}, {"mant_open", 1536},
+};
+
 static size_t limit_of(const char *name)
 {
-    static const char *const retaining[] = {"mant_retain", "mant_retry", "mant_acknowledge"};
-    for (size_t i = 0; i < sizeof retaining / sizeof retaining[0]; i++) {
-        if (strcmp(name, retaining[i]) == 0) {
-            return RETAINED_LIMIT;
+    for (size_t i = 0; i < sizeof limits / sizeof limits[0]; i++) {
+        if (strstr(name, limits[i].part) != NULL) {
+            return limits[i].bytes;
         }
     }
-    return strcmp(name, "mant_hear") == 0 ? HEAR_LIMIT : LIMIT;
+    return LIMIT;
 }
 
 /* The bytes that a call takes below the stack pointer from which it is made, in whole words. */
@@ -191,7 +207,7 @@ int main(void)
             size_t depth = depth_of(functions[i].calls[k]);
             most = depth > most ? depth : most;
         }
-        bool too_many = most > (strstr(functions[i].name, "_eight") != NULL ? LISTED_LIMIT : LIMIT);
+        bool too_many = most > limit_of(functions[i].name);
         status = too_many ? 1 : status;
         printf("%s %zu%s\n", functions[i].name, most, too_many ? ", too many" : "");
     }

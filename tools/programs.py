@@ -130,16 +130,20 @@ class Crate:
 
 def places(crate, change):
     """What a change alters, as (function, whether no other function's needs rest on it): a body; what is added after a promise; the promise of a
-    function that none of its crate calls; a constant, which stands in the body of each function of its file that names it."""
+    function that none of its crate calls; a constant, over as many lines as end in `\\`, which stands in the body of each function of
+    its file that names it."""
     if not change.file.startswith('src/'):
         return {(change.file, False)}
     at, end = change.text.index(change.old), 0
     lines = list(functions_by_line(change.file, change.text))
+    first, continued = '', False
     for line, function, body in lines:
+        first = first if continued else line
+        continued = line.endswith('\\')
         end += len(line) + 1
         if at < end:
             break
-    if constant := CONSTANT.match(line):
+    if constant := CONSTANT.match(first):
         return {(user, True) for other, user, inside in lines if inside and re.search(rf'\b{constant.group(1)}\b', other)}
     if function is None:
         return {(change.file, False)}

@@ -7,6 +7,7 @@ mod inputs;
 mod plain;
 mod queueing;
 mod retaining;
+mod sealing;
 #[cfg(test)]
 mod tests;
 mod timing;
@@ -29,6 +30,7 @@ fn main() {
     exchanging::check_plain();
     queueing::check_plain();
     retaining::check_plain();
+    sealing::check_plain();
     println!(
         "ns for one run, best / median of {ROUNDS} rounds at {} pairs of offsets within a page\n",
         OFFSETS.len()
@@ -94,13 +96,29 @@ fn main() {
         "queue, add and take one of 2,048 bytes",
         queueing::adding_and_taking(0, 1, 2_048),
     );
+    for payload in [64, 4_088] {
+        row(
+            &format!("seal, payload of {payload}"),
+            sealing::sealing(payload),
+        );
+        row(
+            &format!("open, payload of {payload}"),
+            sealing::opening(payload),
+        );
+    }
+    for payload in [64, 4_088] {
+        if let Some(measured) = sealing::openssl(payload) {
+            let Measured { best, median } = measured;
+            println!("\nOpenSSL, counter mode and SHA-1 over {payload} bytes and 4: {best:.1} / {median:.1}");
+        }
+    }
     println!("\nHow the node's cost grows:\n");
     growth(&example);
     println!(
         "\nThe Rust reading is rust/reference. memcpy copies the PDU that is read, written or repeated, or \
          every PDU of the batch, one by one, or a station's words, or the exchange that is read, or a level, or \
-         each PDU that is added and then the batch that is taken, or a PDU that is retained or sent again. Ratios \
-         are of the best rounds."
+         each PDU that is added and then the batch that is taken, or a PDU that is retained or sent again, or one that is \
+         sealed or opened. Ratios are of the best rounds."
     );
 }
 

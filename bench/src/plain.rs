@@ -1,8 +1,8 @@
 //! plain.c, called as the library is.
 
 use mant::raw::{
-    Answer, Batch, Exchange, Fresh, Header, Heard, Level, Listened, Lists, Node, Outcome, Retained,
-    Sending, Station, Written, QUEUE_BYTES, QUEUE_PDUS, STATION_LIMIT,
+    Answer, Batch, Exchange, Fresh, Header, Heard, Key, Level, Listened, Lists, Node, Outcome,
+    Retained, Sending, Station, Written, QUEUE_BYTES, QUEUE_PDUS, STATION_LIMIT,
 };
 
 #[repr(C)]
@@ -90,6 +90,19 @@ extern "C" {
     fn plain_queue_add(ring: *mut Ring, pdu: *const u8, length: usize) -> u8;
     fn plain_queue_take(ring: *mut Ring, output: *mut u8, output_length: usize) -> Batch;
     fn plain_queue_clear(ring: *mut Ring);
+    fn plain_seal(key: Key, number: u64, pdu: *const u8, length: usize, output: *mut u8, output_length: usize) -> Written;
+    fn plain_open(
+        key: Key, record: *mut u32, words: usize, pdu: *const u8, length: usize, output: *mut u8, output_length: usize,
+    ) -> Written;
+}
+
+#[cfg(openssl)]
+#[rustfmt::skip]
+extern "C" {
+    #[link_name = "openssl_counter_mode"]
+    fn counter_mode_by_openssl(key: *const u8, first: *const u8, from: *const u8, length: usize, to: *mut u8) -> bool;
+    #[link_name = "openssl_sha1"]
+    fn sha1_by_openssl(bytes: *const u8, length: usize, digest: *mut u8) -> bool;
 }
 
 /// `plain_read`.
@@ -296,6 +309,62 @@ pub fn queue_take(ring: &mut Ring, output: &mut [u8]) -> Batch {
 pub fn queue_clear(ring: &mut Ring) {
     // SAFETY: as above.
     unsafe { plain_queue_clear(ring) }
+}
+
+/// `plain_seal`.
+#[inline]
+pub fn seal(key: Key, number: u64, pdu: &[u8], output: &mut [u8]) -> Written {
+    // SAFETY: as above.
+    unsafe {
+        plain_seal(
+            key,
+            number,
+            pdu.as_ptr(),
+            pdu.len(),
+            output.as_mut_ptr(),
+            output.len(),
+        )
+    }
+}
+
+/// `plain_open`.
+#[inline]
+pub fn open(key: Key, record: &mut [u32], pdu: &[u8], output: &mut [u8]) -> Written {
+    // SAFETY: as above.
+    unsafe {
+        plain_open(
+            key,
+            record.as_mut_ptr(),
+            record.len(),
+            pdu.as_ptr(),
+            pdu.len(),
+            output.as_mut_ptr(),
+            output.len(),
+        )
+    }
+}
+
+/// `openssl_counter_mode`, which succeeds.
+#[cfg(openssl)]
+#[inline]
+pub fn openssl_counter_mode(key: &[u8; 16], first: &[u8; 16], from: &[u8], to: &mut [u8]) {
+    assert!(from.len() <= to.len());
+    let (key, first, length) = (key.as_ptr(), first.as_ptr(), from.len());
+    // SAFETY: the output has room for as many bytes.
+    let done =
+        unsafe { counter_mode_by_openssl(key, first, from.as_ptr(), length, to.as_mut_ptr()) };
+    assert!(done);
+}
+
+/// `openssl_sha1`, which succeeds.
+#[cfg(openssl)]
+#[inline]
+pub fn openssl_sha1(bytes: &[u8]) -> [u8; 20] {
+    let mut digest = [0; 20];
+    // SAFETY: a digest has 20 bytes.
+    let done = unsafe { sha1_by_openssl(bytes.as_ptr(), bytes.len(), digest.as_mut_ptr()) };
+    assert!(done);
+    digest
 }
 
 #[inline]

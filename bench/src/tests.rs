@@ -3,11 +3,12 @@
 
 use crate::plain;
 use generator::{
-    edition, eight_lists, exchange, exchanged_pdu, origination, output, pace, payload_to_send,
-    queue_deed, received, room, settings_for, QueueDeed, Random,
+    edition, eight_lists, empty_record, exchange, exchanged_pdu, habits, openings, origination,
+    output, pace, payload_to_send, queue_deed, received, reliable_deed, room, settings_for,
+    to_seal, QueueDeed, Random, ReliableDeed,
 };
 use mant::raw;
-use reference::{Choice, Queue, Stations};
+use reference::{Accepted, Choice, Done, Lists, Queue, Sending, Stations, Table};
 
 const INPUTS: usize = 20_000;
 
@@ -211,7 +212,7 @@ fn retained(
             (outcome, wanted)
         }
         ReliableDeed::Hear(settings, bytes, sending, room) => {
-            let answer = reference::hear(&settings, &Lists::EMPTY, &bytes, &mut [0; 5_000]);
+            let answer = reference::hear(12, &settings, &Lists::EMPTY, &bytes, &mut [0; 5_000]);
             heard((plain, table), (&bytes, answer.delivery), &sending, room)
         }
         ReliableDeed::Answer(bytes, delivery, sending, room) => {
@@ -275,6 +276,41 @@ fn plain_queues_as_the_reference_does() {
             let level = plain::queue_level(&ring);
             let wanted = (queue.held().len(), queue.bytes());
             assert_eq!((level.pdus, level.bytes), wanted);
+        }
+    }
+}
+
+#[test]
+fn plain_seals_as_the_reference_does() {
+    let mut random = Random::from_seed(8);
+    for _ in 0..INPUTS / 4 {
+        let asked = to_seal(&mut random);
+        let mut one = output(&mut random, asked.room);
+        let mut other = one.clone();
+        let key = raw::Key { bytes: asked.key };
+        let written = plain::seal(key, asked.number, &asked.bytes, &mut one);
+        let wanted = reference::seal(&asked.key, asked.number, &asked.bytes, &mut other);
+        assert_eq!((written.number, written.length), wanted);
+        assert_eq!(one, other);
+    }
+}
+
+#[test]
+fn plain_opens_as_the_reference_does() {
+    let mut random = Random::from_seed(9);
+    for _ in 0..INPUTS / 40 {
+        let (mut words, openings) = (empty_record(&mut random), openings(&mut random));
+        let most = (words.len().saturating_sub(1) / 2).min(64);
+        let mut accepted = Accepted::holding(most, &[]);
+        for turn in 0..openings.turns {
+            let asked = openings.next(&mut random, turn, |source| accepted.get(source));
+            let mut one = output(&mut random, asked.room);
+            let mut other = one.clone();
+            let key = raw::Key { bytes: asked.key };
+            let written = plain::open(key, &mut words, &asked.bytes, &mut one);
+            let wanted = reference::open(&asked.key, &mut accepted, &asked.bytes, &mut other);
+            assert_eq!((written.number, written.length), wanted);
+            assert_eq!(one, other);
         }
     }
 }

@@ -20,7 +20,7 @@ use Rattle.boundary.proofs.bound_in_c.Kinds as bound-in-c-kinds
 use Rattle.boundary.proofs.limits_in_c.Reads as limits-in-c-reads
 use Rattle.boundary.proofs.limits_in_c.Kinds as limits-in-c-kinds
 
-pub shown-header : Promised 1 shown-header-kinds.ps shown-header-kinds.r shown-header-reads.Asked shown-header-reads.Post (λ κs x. x)
+pub shown-header : Promised 0 shown-header-kinds.ps shown-header-kinds.r shown-header-reads.Asked shown-header-reads.Post (λ κs x. x)
 shown-header = (λ κs a. tt, λ κs a x y s t p q. p ∙ sym q)
 
 pub refused-header : Promised 0 refused-header-kinds.ps refused-header-kinds.r refused-header-reads.Asked refused-header-reads.Post (λ κs x. x)

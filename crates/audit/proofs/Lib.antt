@@ -1,4 +1,9 @@
 pub mod Octets
+pub mod Field
+pub mod Rounds
+pub mod Aes
+pub mod Sha1
+pub mod Counter
 pub mod Pdu
 pub mod View
 pub mod Writing
@@ -24,6 +29,9 @@ pub mod Queue
 pub mod Transmit
 pub mod Retained
 pub mod Answering
+pub mod Sources
+pub mod Sealing
+pub mod Opening
 pub mod Chains
 pub mod Bound
 pub mod Boundary
@@ -42,3 +50,4 @@ pub mod TwoEditions
 pub mod ReliableMessages
 pub mod SeasonAir
 pub mod TwoLists
+pub mod EncryptedPayloads

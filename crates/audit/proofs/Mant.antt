@@ -54,6 +54,10 @@ use Rattle.mant.proofs.mant_queue_add.Reads as mant-queue-add-reads
 use Rattle.mant.proofs.mant_queue_add.Kinds as mant-queue-add-kinds
 use Rattle.mant.proofs.mant_queue_take.Reads as mant-queue-take-reads
 use Rattle.mant.proofs.mant_queue_take.Kinds as mant-queue-take-kinds
+use Rattle.mant.proofs.mant_seal.Reads as mant-seal-reads
+use Rattle.mant.proofs.mant_seal.Kinds as mant-seal-kinds
+use Rattle.mant.proofs.mant_open.Reads as mant-open-reads
+use Rattle.mant.proofs.mant_open.Kinds as mant-open-kinds
 
 pub mant-read : Promised 1 mant-read-kinds.ps mant-read-kinds.r mant-read-reads.Asked mant-read-reads.Post (λ κs x. x)
 mant-read = (λ κs a. tt, λ κs a x y s t p q. p ∙ sym q)
@@ -166,3 +170,11 @@ mant-queue-add = (λ κs a. tt, λ κs a x y s t p q. (p .0 ∙ sym (q .0), p .1
 pub mant-queue-take : PromisedWithOutput 2 mant-queue-take-kinds.ps mant-queue-take-kinds.r mant-queue-take-reads.Asked
     mant-queue-take-reads.Post (λ κs s. both (now (s .0)) (now (s .1 .0)))
 mant-queue-take = (λ κs a. tt, λ κs a x y s t p q. (p .0 ∙ sym (q .0), λ i. ((p .1 ∙ sym (q .1)) i, (p .2 ∙ sym (q .2)) i)))
+
+pub mant-seal : PromisedWithOutput 2 mant-seal-kinds.ps mant-seal-kinds.r mant-seal-reads.Asked
+    mant-seal-reads.Post (λ κs s. now (s .1 .1 .1 .0))
+mant-seal = (λ κs a. tt, λ κs a x y s t p q. (p .0 ∙ sym (q .0), p .1 ∙ sym (q .1)))
+
+pub mant-open : PromisedWithOutput 3 mant-open-kinds.ps mant-open-kinds.r mant-open-reads.Asked
+    mant-open-reads.Post (λ κs s. both (now (s .1 .0)) (now (s .1 .1 .1 .0)))
+mant-open = (λ κs a. tt, λ κs a x y s t p q. (p .0 ∙ sym (q .0), λ i. ((p .2 ∙ sym (q .2)) i, (p .1 ∙ sym (q .1)) i)))

@@ -11,3 +11,4 @@ pub mod LastSender
 pub mod TwoEditions
 pub mod ReliableMessages
 pub mod TwoLists
+pub mod EncryptedPayloads

@@ -4,7 +4,7 @@
 //! acknowledged that was not delivered.
 
 use crate::Compared;
-use generator::{address, Random};
+use generator::{address, good_edition, Random};
 use mant::{Deed, Lists, Names, Node, Refusal, Reliable, Sending};
 use std::collections::HashSet;
 
@@ -191,7 +191,13 @@ impl Run {
         };
         let mut output = [0; 10];
         let site = &mut self.sites[place];
-        let answer = mant::hear(&site.node, &Lists::default(), pdu, &mut []);
+        let answer = mant::hear(
+            good_edition(random),
+            &site.node,
+            &Lists::default(),
+            pdu,
+            &mut [],
+        );
         hold(answer.delivery.is_ok(), "not delivered")?;
         let acknowledged = site.table.acknowledge(pdu, &answer, &sending, &mut output);
         match acknowledged.map_err(said)? {

@@ -19,8 +19,10 @@ mod originating;
 mod output;
 mod queueing;
 mod reading;
+mod record;
 mod retaining;
 mod same;
+mod sealing;
 mod table;
 mod walking;
 
@@ -39,7 +41,7 @@ const MOST_DIFFERENCES: u64 = 10;
 type Kind = (&'static str, usize, fn(&mut Random) -> Compared);
 
 /// The kinds of input.
-const KINDS: [Kind; 15] = [
+const KINDS: [Kind; 18] = [
     ("reading and writing again", 28, reading::compare),
     ("origination", 13, originating::compare),
     ("lists", 6, listing::compare),
@@ -55,6 +57,9 @@ const KINDS: [Kind; 15] = [
     ("two nodes and a channel that loses", 1, lossy::compare),
     ("histories of a queue", 6, queueing::compare_history),
     ("queues put together by hand", 2, queueing::compare_by_hand),
+    ("PDUs sealed", 6, sealing::compare_sealing),
+    ("histories of openings", 3, sealing::compare_history),
+    ("records put together by hand", 1, sealing::compare_by_hand),
 ];
 
 /// What the arguments ask for.

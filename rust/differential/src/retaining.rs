@@ -5,7 +5,7 @@ use crate::output::Output;
 use crate::same::{answer, node, Input};
 use crate::table::answer_for;
 use crate::Compared;
-use generator::{habits, records, reliable_deed, Random, ReliableDeed};
+use generator::{edition, habits, records, reliable_deed, Random, ReliableDeed};
 use mant::raw::{self, Outcome, RECORDS};
 use reference::{hear, Done, Lists, Names, Sending, Table, MOST_PDU};
 
@@ -78,9 +78,11 @@ impl Tables {
             }
             ReliableDeed::Hear(settings, received, sending, room) => {
                 let mut repeated = [0; MOST_PDU];
-                let heard = hear(settings, &Lists::EMPTY, received, &mut repeated);
+                let edition = edition(random);
+                let heard = hear(edition, settings, &Lists::EMPTY, received, &mut repeated);
                 let lists = Lists::EMPTY.in_order();
-                let library = raw::hear(node(settings), lists, received, &mut repeated);
+                let at = node(random, settings);
+                let library = raw::hear(edition, at, lists, received, &mut repeated);
                 input.same("node's answer", library, answer(&heard))?;
                 let asked = Asked {
                     received,

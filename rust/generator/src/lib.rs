@@ -1,7 +1,7 @@
 //! Seeded inputs for everything that document 01 describes, and 02 as far as
-//! it is built: PDUs, damaged and cut ones, settings, lists, outputs, batches,
+//! it is built: PDUs, damaged and cut ones, editions, settings, lists, outputs, batches,
 //! jobs, histories of a table of stations, exchanges, transmit queues,
-//! tables of retained PDUs, and networks.
+//! tables of retained PDUs, encrypted payloads, and networks.
 //!
 //! Everything is drawn from one [`Random`], so the same seed gives the same
 //! inputs. PDUs are laid out here by arithmetic of their own, not by the
@@ -18,6 +18,7 @@ mod queue;
 mod random;
 mod received;
 mod reliable;
+mod sealed;
 mod settings;
 mod shape;
 mod table;
@@ -33,6 +34,9 @@ pub use queue::{any_queue, empty_queue, pace, queue_deed, Pace, QueueDeed};
 pub use random::{splitmix64, Random};
 pub use received::{cut, damaged, random_bytes, received};
 pub use reliable::{habits, records, reliable_deed, Habits, Record, ReliableDeed};
-pub use settings::{origination, payload_to_send, settings, settings_for};
+pub use sealed::{
+    any_key, any_record, empty_record, openings, repeated, to_seal, Openings, ToOpen, ToSeal,
+};
+pub use settings::{edition, good_edition, origination, payload_to_send, settings, settings_for};
 pub use shape::{address, shape, Shape};
 pub use table::{any_table, rising_table};

@@ -2,9 +2,12 @@
 //!
 //! Every function answers for every input and allocates nothing. An output is
 //! changed only where a PDU or an exchange is written to it, and keeps its
-//! bytes past the end of that. [`Stations`] holds the stations that a box has
+//! bytes past the end of that. An edition is [`EDITION_1_1`] or
+//! [`EDITION_1_2`], and any other number is refused before all else; the path,
+//! exchanges and queues need none. [`Stations`] holds the stations that a box has
 //! heard, [`Queue`] the PDUs that wait to be sent, [`Reliable`] those that wait
-//! for their acknowledgement. [`raw`] gives the library's structs as they are.
+//! for their acknowledgement, [`Record`] the last message numbers of encrypted
+//! PDUs. [`raw`] gives the library's structs as they are.
 
 mod edition;
 mod exchange;
@@ -13,15 +16,17 @@ mod queue;
 pub mod raw;
 mod refusal;
 mod reliable;
+mod sealed;
 mod stations;
 
 pub use edition::Bits;
 pub use exchange::{read_exchange, write_exchange, Exchange};
 pub use node::{list_fault, list_holds, Choice, Lists, Node, TwoLists};
 pub use queue::{Queue, Taken};
-pub use raw::{Cursor, Level, Limits, EDITION_1_1, EDITION_1_2};
+pub use raw::{Cursor, Key, Level, Limits, Names, Sending, EDITION_1_1, EDITION_1_2};
 pub use refusal::Refusal;
 pub use reliable::{Deed, Reliable};
+pub use sealed::{seal, Record};
 pub use stations::{Heard, Listened, Station, Stations};
 use std::ops::Range;
 

@@ -50,6 +50,19 @@ pub struct Exchange {
     pub payload_length: usize,
 }
 
+/// `MantKey`.
+#[repr(C)]
+#[derive(Clone, Copy, Default, PartialEq, Eq)]
+pub struct Key {
+    pub bytes: [u8; 16],
+}
+
+impl std::fmt::Debug for Key {
+    fn fmt(&self, f: &mut std::fmt::Formatter) -> std::fmt::Result {
+        f.write_str("Key(..)")
+    }
+}
+
 /// `MantFresh`.
 #[repr(C)]
 #[derive(Clone, Copy, Debug, Default, PartialEq, Eq)]
@@ -281,11 +294,21 @@ pub const DEED_ACKNOWLEDGED: u8 = 5;
 /// `MANT_EXCHANGE_LIMIT`.
 pub const EXCHANGE_LIMIT: usize = 4626;
 
+/// `MANT_SOURCE_LIMIT`.
+pub const SOURCE_LIMIT: usize = 64;
+/// `MANT_SOURCE_WORDS`.
+pub const SOURCE_WORDS: usize = 129;
+/// `MANT_SEAL_LENGTH`.
+pub const SEAL_LENGTH: usize = 7;
+/// `MANT_NUMBER_LIMIT`.
+pub const NUMBER_LIMIT: u64 = 16_777_215;
+
 // The sizes that the header asserts.
 const _: () = {
     assert!(size_of::<Header>() == 40);
     assert!(size_of::<Written>() == 16);
     assert!(size_of::<Exchange>() == 40);
+    assert!(size_of::<Key>() == 16);
     assert!(size_of::<Fresh>() == 40);
     assert!(size_of::<Node>() == 8);
     assert!(size_of::<Answer>() == 40);
@@ -333,6 +356,8 @@ extern "C" {
         destination_reject_second: *const u16, destination_reject_second_length: usize,
         received: *const u8, received_length: usize, output: *mut u8, output_length: usize,
     ) -> Answer;
+    // The cursor goes as its two fields. By then the registers are taken on both processors, so either way it lies on the stack, 8 bytes for each; as a
+    // struct it would be copied there whole right after its fields were written one by one, which is slow.
     fn mant_step_eight(
         edition: u64, settings: Node,
         source_pass_first: *const u16, source_pass_first_length: usize, source_pass_second: *const u16, source_pass_second_length: usize,
@@ -341,7 +366,7 @@ extern "C" {
         destination_pass_second: *const u16, destination_pass_second_length: usize,
         destination_reject_first: *const u16, destination_reject_first_length: usize,
         destination_reject_second: *const u16, destination_reject_second_length: usize,
-        batch: *const u8, batch_length: usize, cursor: Cursor, output: *mut u8, output_length: usize,
+        batch: *const u8, batch_length: usize, cursor_place: usize, cursor_ended: bool, output: *mut u8, output_length: usize,
     ) -> Step;
     fn mant_stations_capacity(table: *const u16, table_words: usize) -> usize;
     fn mant_stations_held(table: *const u16, table_words: usize) -> usize;
@@ -372,6 +397,10 @@ extern "C" {
     fn mant_queue_add(queue: *mut u8, queue_length: usize, pdu: *const u8, pdu_length: usize) -> u8;
     fn mant_queue_take(queue: *mut u8, queue_length: usize, output: *mut u8, output_length: usize) -> Batch;
     fn mant_queue_clear(queue: *mut u8, queue_length: usize);
+    fn mant_seal(key: Key, number: u64, pdu: *const u8, pdu_length: usize, output: *mut u8, output_length: usize) -> Written;
+    fn mant_open(
+        key: Key, record: *mut u32, record_words: usize, pdu: *const u8, pdu_length: usize, output: *mut u8, output_length: usize,
+    ) -> Written;
     fn mant_most_transmissions(nodes: u64, hop_limit: u64) -> Bound;
     fn mant_most_bytes(nodes: u64, hop_limit: u64, size: u64) -> Bound;
     fn mant_limits() -> Limits;
@@ -506,7 +535,7 @@ pub fn step(
 ) -> Step {
     let (room, length) = (output.as_mut_ptr(), output.len());
     let (from, given) = (batch.as_ptr(), batch.len());
-    with_lists!(mant_step_eight: edition, settings; lists; from, given, cursor, room, length)
+    with_lists!(mant_step_eight: edition, settings; lists; from, given, cursor.place, cursor.ended, room, length)
 }
 
 /// `mant_stations_capacity`.
@@ -676,6 +705,39 @@ pub fn queue_take(queue: &mut [u8], output: &mut [u8]) -> Batch {
 pub fn queue_clear(queue: &mut [u8]) {
     // SAFETY: as above.
     unsafe { mant_queue_clear(queue.as_mut_ptr(), queue.len()) }
+}
+
+/// `mant_seal`.
+#[inline]
+pub fn seal(key: Key, number: u64, pdu: &[u8], output: &mut [u8]) -> Written {
+    // SAFETY: as above.
+    unsafe {
+        mant_seal(
+            key,
+            number,
+            pdu.as_ptr(),
+            pdu.len(),
+            output.as_mut_ptr(),
+            output.len(),
+        )
+    }
+}
+
+/// `mant_open`.
+#[inline]
+pub fn open(key: Key, record: &mut [u32], pdu: &[u8], output: &mut [u8]) -> Written {
+    // SAFETY: as above; the record is borrowed alone too.
+    unsafe {
+        mant_open(
+            key,
+            record.as_mut_ptr(),
+            record.len(),
+            pdu.as_ptr(),
+            pdu.len(),
+            output.as_mut_ptr(),
+            output.len(),
+        )
+    }
 }
 
 /// `mant_most_transmissions`.

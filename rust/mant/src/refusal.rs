@@ -84,6 +84,15 @@ refusals! {
     Not16Records = 74, "the lent memory is not 16 records";
     NotRetainable = 75, "not exactly one PDU of protocol 1 with ACK clear and no path address";
     SendingTooLong = 77, "the output has no room for what is to be sent";
+    NotEncrypted = 80, "its encrypted bit is clear";
+    TooShortToOpen = 81, "its payload is too short for a message number and a hash";
+    NumberNotGreater = 82, "its message number is not greater than the last accepted from its source";
+    HashDiffers = 83, "its hash differs: another key, or it was changed on its way";
+    RecordFull = 84, "a new source, and the record holds as many as it has room for";
+    SealedTooLong = 85, "the sealed payload would have more than 4,095 bytes";
+    NumberTooLarge = 86, "the message number is above 16,777,215";
+    NoRoomForPayload = 87, "the output has no room for the sealed PDU, or for the plain payload";
+    AlreadyEncrypted = 88, "its encrypted bit is already set";
 }
 
 impl Refusal {

@@ -608,7 +608,7 @@ fn a_command_is_acknowledged() {
         hop_limit: 3,
         ..Sending::default()
     };
-    let answer = hear(&node(1600), &lists, &COMMAND, &mut []);
+    let answer = hear(EDITION_1_2, &node(1600), &lists, &COMMAND, &mut []);
     let wrong = Sending {
         hop_limit: 8,
         ..sending
@@ -619,7 +619,7 @@ fn a_command_is_acknowledged() {
     assert_eq!(acknowledged, Ok(Deed::Acknowledged(NAMES, 9)));
     let wanted = [0x09, 1, 0x30, 0, 0x06, 0x40, 0x03, 0xE8, 7, 0xAA];
     assert_eq!((gate, output), (Reliable::new(), wanted));
-    let answer = hear(&node(1000), &lists, &output[..9], &mut []);
+    let answer = hear(EDITION_1_2, &node(1000), &lists, &output[..9], &mut []);
     let freed = base.acknowledge(&output[..9], &answer, &sending, &mut []);
     assert_eq!(freed, Ok(Deed::Freed(0, NAMES)));
     let again = base.acknowledge(&output[..9], &answer, &sending, &mut []);
@@ -660,4 +660,51 @@ fn refusals_print_number_and_meaning() {
         assert_eq!(Refusal::from_number(refusal.number()), Some(*refusal));
     }
     assert_eq!(Refusal::from_number(0), None);
+}
+
+/// Document 002's key and its example, sealed under number 850.
+const KEY: Key = Key {
+    bytes: *b"keep me secret!!",
+};
+const SEALED: [u8; 27] = [
+    0x03, 0x08, 0x10, 0x12, 0x03, 0xE8, 0x06, 0x40, 0x00, 0x00, 0x03, 0x52, 0x11, 0x46, 0xDF, 0x21,
+    0xA1, 0xE0, 0xFB, 0x1E, 0x42, 0x5C, 0x93, 0x1A, 0x7C, 0x62, 0x50,
+];
+
+#[test]
+fn the_example_is_sealed() {
+    let mut output = [0xAA; 28];
+    assert_eq!(seal(&KEY, 850, &example(), &mut output), Ok(27));
+    assert_eq!((&output[..27], output[27]), (&SEALED[..], 0xAA));
+    let refused = [
+        seal(&KEY, 850, &SEALED, &mut output),
+        seal(&KEY, 1 << 24, &example(), &mut output),
+        seal(&KEY, 850, &example(), &mut output[..26]),
+    ];
+    assert_eq!(
+        refused.map(|answer| answer.map_err(Refusal::number)),
+        [Err(88), Err(86), Err(87)]
+    );
+}
+
+#[test]
+fn the_example_is_opened_once() {
+    let (mut record, mut output) = (Record::new(), [0xAA; 12]);
+    let short = record.open(&KEY, &SEALED, &mut output[..10]);
+    assert_eq!(short.map_err(Refusal::number), Err(87));
+    assert_eq!((record.get(1000), output), (None, [0xAA; 12]));
+    assert_eq!(record.open(&KEY, &SEALED, &mut output), Ok(11));
+    assert_eq!((&output[..11], output[11]), (&PAYLOAD[..], 0xAA));
+    let sources: Vec<_> = record.iter().collect();
+    assert_eq!((sources, record.get(1000)), (vec![(1000, 850)], Some(850)));
+    let again = record.open(&KEY, &SEALED, &mut output);
+    assert_eq!(again.map_err(Refusal::number), Err(82));
+    let kept = Record::from_words(*record.words());
+    assert_eq!(kept, record);
+    assert_ne!(kept, Record::default());
+}
+
+#[test]
+fn a_key_is_not_shown() {
+    assert_eq!(format!("{KEY:?}"), "Key(..)");
 }

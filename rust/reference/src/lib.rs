@@ -5,6 +5,7 @@
 //! and uses the names of 01. It shares nothing with the library it is compared
 //! with but the words of the numbers, in docs/NUMBERS.md.
 
+mod aes;
 mod batch;
 mod edition;
 mod exchange;
@@ -19,9 +20,12 @@ mod origin;
 mod queue;
 mod reach;
 mod retained;
+mod sealed;
+mod sha1;
 mod stations;
 mod writing;
 
+pub use aes::{counter_mode, encipher, Key};
 pub use batch::{walk, Step, Walk, MOST_BATCH};
 pub use edition::{read_under, Bits, Edition, Shown, EDITION_1_1, EDITION_1_2};
 pub use exchange::{read_exchange, write_exchange, Exchange, MOST_EXCHANGE};
@@ -35,5 +39,7 @@ pub use origin::{originate, Origination};
 pub use queue::{Queue, Taken, MOST_HELD, MOST_HELD_BYTES};
 pub use reach::{reach, shortest_chains, Network};
 pub use retained::{Done, Names, Retained, Sending, Table, MOST_RETAINED, RECORDS};
+pub use sealed::{open, seal, Accepted, MOST_NUMBER, MOST_SOURCES};
+pub use sha1::sha1;
 pub use stations::{counts_as_echo, hear_and_count, Station, Stations, MOST_STATIONS};
 pub use writing::{write, write_again};

@@ -64,6 +64,15 @@ numbers! {
     NOT_16_RECORDS = 74, "the lent memory is not 16 records";
     NOT_RETAINABLE = 75, "not exactly one PDU of protocol 1 with ACK clear and no path address";
     SENDING_TOO_LONG = 77, "the output has no room for what is to be sent";
+    NOT_ENCRYPTED = 80, "its encrypted bit is clear";
+    TOO_SHORT_TO_OPEN = 81, "its payload is too short for a message number and a hash";
+    NUMBER_NOT_GREATER = 82, "its message number is not greater than the last accepted from its source";
+    HASH_DIFFERS = 83, "its hash differs: another key, or it was changed on its way";
+    SOURCES_FULL = 84, "a new source, and the record holds as many as it has room for";
+    SEALED_PAYLOAD_SIZE = 85, "the sealed payload would have more than 4,095 bytes";
+    MESSAGE_NUMBER = 86, "the message number is above 16,777,215";
+    SEALED_OUTPUT_SHORT = 87, "the output has no room for the sealed PDU, or for the plain payload";
+    ALREADY_ENCRYPTED = 88, "its encrypted bit is already set";
 }
 
 /// What a number of the table means, in words.

@@ -32,7 +32,7 @@ pub fn write_again(edition: u64, bytes: &[u8], out: &mut [u8]) -> (u8, usize) {
 }
 
 /// The header's bytes, in the order of the byte table.
-fn header_bytes(header: &Header) -> Vec<u8> {
+pub fn header_bytes(header: &Header) -> Vec<u8> {
     let mut bytes = vec![byte_0(header), byte_1(header), byte_2(header)];
     bytes.push((header.payload_length % 256) as u8);
     bytes.extend(header.source.to_be_bytes());

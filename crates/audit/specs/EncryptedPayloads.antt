@@ -1,0 +1,222 @@
+-- Document 02, W-212, as one record; `proofs/EncryptedPayloads.antt` gives it from its parts. "Any memory" is any words, put together by hand or not.
+use Prim.Native.Nat.{ℕ, _+_, _≤_, _<_}
+use mathlib.Core.Bool.{true, false}
+use mathlib.Core.List.{List, [], _∷_, _++_}
+use mathlib.Core.Path.{_≡_}
+use lib.ListN.{length, drop, replicate}
+use Rattle.octets.specs.Octets.{at, AllBytes}
+use Rattle.field.specs.Field.{_•_, inverse, affine, subByte}
+use Rattle.pdu.specs.declared.Header.{Header}
+use Rattle.pdu.specs.Header.{headerOf}
+use Rattle.pdu.specs.Sizes.{pduLength}
+use Rattle.pdu.specs.Reading.{readOf, readingNumber}
+use Rattle.pdu.specs.Parts.{pathIn, payloadIn}
+use Rattle.writing.specs.Writing.{onlyIf, headerBytes}
+use Rattle.sources.specs.Sources.{Accepted, capacity, recordIn, isHeld, lastNumber, numberFault, sourceFault, accepted}
+use Rattle.sealing.specs.Protection.{numberBytes, hashedHeader, hashBytes, nonceOf}
+use Rattle.sealing.specs.Sealing.{sealedHeader, sealedPdu, sealNumber, sealWritten, sealOutput}
+use Rattle.opening.specs.Opening.{sourceOf, messageNumber, deciphered, plainLength, plainPayload, genuine}
+use Rattle.opening.specs.Opening.{keylessFault, openNumber, openWritten, openOutput, memoryAfterOpening}
+use Rattle.protection.specs.Histories.{Repeat, heard, AllRepeat, Opening, memoryAfter, memoryAfterAll}
+
+-- document 002, "Examples", "Encryption": key, PDU given, PDU sealed, and that with its last byte changed
+abbrev pub key002 : List ℕ
+key002 = 0x6B ∷ 0x65 ∷ 0x65 ∷ 0x70 ∷ 0x20 ∷ 0x6D ∷ 0x65 ∷ 0x20 ∷ 0x73 ∷ 0x65 ∷ 0x63 ∷ 0x72 ∷ 0x65 ∷ 0x74 ∷ 0x21 ∷ 0x21 ∷ []
+
+abbrev pub plain002 : List ℕ
+plain002 =
+    0x03 ∷ 0x00 ∷ 0x10 ∷ 0x0B ∷ 0x03 ∷ 0xE8 ∷ 0x06 ∷ 0x40 ∷ 0x00
+    ∷ 0x70 ∷ 0x01 ∷ 0x08 ∷ 0x12 ∷ 0x12 ∷ 0x03 ∷ 0x24 ∷ 0x13 ∷ 0x22 ∷ 0x02 ∷ 0x76 ∷ []
+
+abbrev pub endingIn : ℕ → List ℕ
+endingIn last =
+    0x03 ∷ 0x08 ∷ 0x10 ∷ 0x12 ∷ 0x03 ∷ 0xE8 ∷ 0x06 ∷ 0x40 ∷ 0x00 ∷ 0x00 ∷ 0x03 ∷ 0x52
+    ∷ 0x11 ∷ 0x46 ∷ 0xDF ∷ 0x21 ∷ 0xA1 ∷ 0xE0 ∷ 0xFB ∷ 0x1E ∷ 0x42 ∷ 0x5C ∷ 0x93 ∷ 0x1A ∷ 0x7C ∷ 0x62 ∷ last ∷ []
+
+-- its header as it is sent, with a path of two addresses besides; the bytes of it that enter the hash
+abbrev pub header002 : List ℕ
+header002 = 0x03 ∷ 0x08 ∷ 0x10 ∷ 0x12 ∷ 0x03 ∷ 0xE8 ∷ 0x06 ∷ 0x40 ∷ 0x02 ∷ 0x11 ∷ 0x12 ∷ 0x13 ∷ 0x14 ∷ []
+
+abbrev pub hashed002 : List ℕ
+hashed002 = 0x03 ∷ 0x08 ∷ 0x00 ∷ 0x12 ∷ 0x03 ∷ 0xE8 ∷ 0x06 ∷ 0x40 ∷ []
+
+-- a reliable PDU with added header, ACK and hop limit 7: byte 2 keeps its bit 7, and the PDU ID enters the hash
+abbrev pub reliable : List ℕ
+reliable = 0x0B ∷ 0x09 ∷ 0xF0 ∷ 0x07 ∷ 0x03 ∷ 0xE8 ∷ 0x06 ∷ 0x40 ∷ 0x55 ∷ 0x00 ∷ []
+
+-- PDUs with payloads of 4,088 and of 4,089 bytes
+abbrev pub of4088 : List ℕ
+of4088 = 0x00 ∷ 0x00 ∷ 0x0F ∷ 0xF8 ∷ 0x00 ∷ 0x05 ∷ replicate 4088 0
+
+abbrev pub of4089 : List ℕ
+of4089 = 0x00 ∷ 0x00 ∷ 0x0F ∷ 0xF9 ∷ 0x00 ∷ 0x05 ∷ replicate 4089 0
+
+-- and the longer one with the encrypted bit set
+abbrev pub encrypted4089 : List ℕ
+encrypted4089 = 0x00 ∷ 0x08 ∷ 0x0F ∷ 0xF9 ∷ 0x00 ∷ 0x05 ∷ replicate 4089 0
+
+-- a source and the number last accepted from it
+abbrev pub lastFrom : ℕ → ℕ → Accepted
+lastFrom source number = record { source = source; number = number }
+
+-- a header with its hop limit 0
+abbrev pub hopless : Header → Header
+hopless header =
+    record {
+      protocol = header .protocol;
+      «time_stamp_request» = header .«time_stamp_request»;
+      «path_bit» = header .«path_bit»;
+      port = header .port;
+      encrypted = header .encrypted;
+      reserved = header .reserved;
+      ack = header .ack;
+      «added_header» = header .«added_header»;
+      «hop_limit» = 0;
+      «payload_length» = header .«payload_length»;
+      source = header .source;
+      destination = header .destination;
+      «pdu_id» = header .«pdu_id»;
+      «path_count» = header .«path_count»;
+    }
+
+-- a memory for 64 sources that says so many are held: source 5, with number 5, in each entry
+abbrev pub fives : ℕ → List ℕ
+fives count = count ∷ replicate 128 5
+
+pub record EncryptedPayloads : Type 0 where
+  -- the record: a memory of 129 words or more has room for 64 sources, any memory holds at most 64, and none where its first word is 0
+  pub room-for-64 : (memory : List ℕ) → 129 ≤ length memory → capacity memory ≡ 64
+  pub at-most-64 : (memory : List ℕ) → length (recordIn memory) ≤ 64
+  pub empty : (memory : List ℕ) → at memory 0 ≡ 0 → recordIn memory ≡ []
+  -- 82 exactly where the source is held and the number is not greater than its last; of a new source any number is taken
+  pub not-greater : (source number : ℕ) (held : List Accepted) → isHeld source held ≡ true → number ≤ lastNumber source held
+      → numberFault source number held ≡ 82
+  pub greater : (source number : ℕ) (held : List Accepted) → isHeld source held ≡ true → lastNumber source held < number
+      → numberFault source number held ≡ 0
+  pub first-number : (source number : ℕ) (held : List Accepted) → isHeld source held ≡ false → numberFault source number held ≡ 0
+  -- 84 exactly where the source is new and there is no room for another
+  pub full : (source : ℕ) (memory : List ℕ) → isHeld source (recordIn memory) ≡ false → capacity memory ≤ length (recordIn memory)
+      → sourceFault source memory ≡ 84
+  pub not-full : (source : ℕ) (memory : List ℕ) → length (recordIn memory) < capacity memory → sourceFault source memory ≡ 0
+  pub held-already : (source : ℕ) (memory : List ℕ) → isHeld source (recordIn memory) ≡ true → sourceFault source memory ≡ 0
+  -- sealing: 1 to 6, 88, 85, 86, 87 in that order, and only there
+  pub unread : (number room : ℕ) (bytes : List ℕ) → (readingNumber (readOf bytes) ≡ 0 → ⊥) → sealNumber number bytes room ≡ readingNumber (readOf bytes)
+  pub encrypted-already : (number room : ℕ) (bytes : List ℕ) → readingNumber (readOf bytes) ≡ 0 → headerOf bytes .encrypted ≡ true
+      → sealNumber number bytes room ≡ 88
+  pub no-room-for-hash : (number room : ℕ) (bytes : List ℕ) → readingNumber (readOf bytes) ≡ 0 → headerOf bytes .encrypted ≡ false
+      → 4095 < headerOf bytes .«payload_length» + 7 → sealNumber number bytes room ≡ 85
+  pub number-too-great : (number room : ℕ) (bytes : List ℕ) → readingNumber (readOf bytes) ≡ 0 → headerOf bytes .encrypted ≡ false
+      → headerOf bytes .«payload_length» + 7 ≤ 4095 → 16777215 < number → sealNumber number bytes room ≡ 86
+  pub sealed-too-long : (number room : ℕ) (bytes : List ℕ) → readingNumber (readOf bytes) ≡ 0 → headerOf bytes .encrypted ≡ false
+      → headerOf bytes .«payload_length» + 7 ≤ 4095 → number ≤ 16777215 → room < pduLength (headerOf bytes) + 7 → sealNumber number bytes room ≡ 87
+  pub seals : (number room : ℕ) (bytes : List ℕ) → readingNumber (readOf bytes) ≡ 0 → headerOf bytes .encrypted ≡ false
+      → headerOf bytes .«payload_length» + 7 ≤ 4095 → number ≤ 16777215 → pduLength (headerOf bytes) + 7 ≤ room → sealNumber number bytes room ≡ 0
+  -- with a refusal nothing is written
+  pub seal-refused : (key : List ℕ) (number : ℕ) (bytes output : List ℕ) → (sealNumber number bytes (length output) ≡ 0 → ⊥)
+      → (sealWritten number bytes (length output) .length ≡ 0) × (sealOutput key number bytes output ≡ output)
+  -- with 0 the sealed PDU, 7 bytes longer than the one given, stands at the output's start, and the rest of the output stays
+  pub seal-done : (key : List ℕ) (number : ℕ) (bytes output : List ℕ) → sealNumber number bytes (length output) ≡ 0
+      → (sealWritten number bytes (length output) .length ≡ pduLength (headerOf bytes) + 7)
+      × (length (sealedPdu key number bytes) ≡ pduLength (headerOf bytes) + 7)
+      × (sealOutput key number bytes output ≡ sealedPdu key number bytes ++ drop (pduLength (headerOf bytes) + 7) output)
+  pub seal-answer : (number room : ℕ) (bytes : List ℕ) → sealWritten number bytes room .number ≡ sealNumber number bytes room
+  -- the header as it is sent: encrypted, no time stamp request, the payload 7 bytes longer, and every other field as given
+  pub header-sent : (header : Header)
+      → let sealed = sealedHeader header in
+      (sealed .encrypted ≡ true) × (sealed .«time_stamp_request» ≡ false) × (sealed .«payload_length» ≡ header .«payload_length» + 7)
+      × (sealed .protocol ≡ header .protocol) × (sealed .«path_bit» ≡ header .«path_bit») × (sealed .port ≡ header .port)
+      × (sealed .reserved ≡ header .reserved) × (sealed .ack ≡ header .ack) × (sealed .«added_header» ≡ header .«added_header»)
+      × (sealed .«hop_limit» ≡ header .«hop_limit») × (sealed .source ≡ header .source) × (sealed .destination ≡ header .destination)
+      × (sealed .«pdu_id» ≡ header .«pdu_id») × (sealed .«path_count» ≡ header .«path_count»)
+  -- the sealed PDU reads back, whatever bytes follow it: the header as it is sent, the same path, the number
+  pub sent : (key bytes behind : List ℕ) (number room : ℕ) → AllBytes bytes → sealNumber number bytes room ≡ 0
+      → let sealed = sealedPdu key number bytes ++ behind in
+      (headerOf sealed ≡ sealedHeader (headerOf bytes)) × (pathIn (headerOf sealed) sealed ≡ pathIn (headerOf bytes) bytes)
+      × (messageNumber sealed ≡ number)
+  -- opening: 1 to 6, 80, 81, 82 whatever the key, in that order
+  pub unopened : (key memory bytes : List ℕ) (room : ℕ) → (readingNumber (readOf bytes) ≡ 0 → ⊥)
+      → openNumber key memory bytes room ≡ readingNumber (readOf bytes)
+  pub not-encrypted : (key memory bytes : List ℕ) (room : ℕ) → readingNumber (readOf bytes) ≡ 0 → headerOf bytes .encrypted ≡ false
+      → openNumber key memory bytes room ≡ 80
+  pub too-short : (key memory bytes : List ℕ) (room : ℕ) → readingNumber (readOf bytes) ≡ 0 → headerOf bytes .encrypted ≡ true
+      → headerOf bytes .«payload_length» < 7 → openNumber key memory bytes room ≡ 81
+  pub replayed : (key memory bytes : List ℕ) (room : ℕ) → readingNumber (readOf bytes) ≡ 0 → headerOf bytes .encrypted ≡ true
+      → 7 ≤ headerOf bytes .«payload_length» → numberFault (sourceOf bytes) (messageNumber bytes) (recordIn memory) ≡ 82
+      → openNumber key memory bytes room ≡ 82
+  pub keyless : (memory bytes : List ℕ) → readingNumber (readOf bytes) ≡ 0 → headerOf bytes .encrypted ≡ true → 7 ≤ headerOf bytes .«payload_length»
+      → numberFault (sourceOf bytes) (messageNumber bytes) (recordIn memory) ≡ 0 → keylessFault memory bytes ≡ 0
+  -- genuine exactly where the 4 bytes behind the plain payload are the hash of the header, the number and the plain payload
+  pub genuine-only : (key bytes : List ℕ) → readingNumber (readOf bytes) ≡ 0 → 7 ≤ headerOf bytes .«payload_length» → genuine key bytes ≡ true
+      → drop (plainLength bytes) (deciphered key bytes) ≡ hashBytes bytes (messageNumber bytes) (plainPayload key bytes)
+  pub genuine-where : (key bytes : List ℕ)
+      → drop (plainLength bytes) (deciphered key bytes) ≡ hashBytes bytes (messageNumber bytes) (plainPayload key bytes) → genuine key bytes ≡ true
+  -- then 83, 84, 87, and only there
+  pub hash-differs : (key memory bytes : List ℕ) (room : ℕ) → keylessFault memory bytes ≡ 0 → genuine key bytes ≡ false
+      → openNumber key memory bytes room ≡ 83
+  pub no-room-for-source : (key memory bytes : List ℕ) (room : ℕ) → keylessFault memory bytes ≡ 0 → genuine key bytes ≡ true
+      → sourceFault (sourceOf bytes) memory ≡ 84 → openNumber key memory bytes room ≡ 84
+  pub no-room-for-payload : (key memory bytes : List ℕ) (room : ℕ) → keylessFault memory bytes ≡ 0 → genuine key bytes ≡ true
+      → sourceFault (sourceOf bytes) memory ≡ 0 → room < plainLength bytes → openNumber key memory bytes room ≡ 87
+  pub opens : (key memory bytes : List ℕ) (room : ℕ) → keylessFault memory bytes ≡ 0 → genuine key bytes ≡ true
+      → sourceFault (sourceOf bytes) memory ≡ 0 → plainLength bytes ≤ room → openNumber key memory bytes room ≡ 0
+  -- with a refusal nothing is written, and the record stays
+  pub open-refused : (key memory bytes output : List ℕ) → (openNumber key memory bytes (length output) ≡ 0 → ⊥)
+      → (openWritten key memory bytes (length output) .length ≡ 0) × (openOutput key memory bytes output ≡ output)
+      × (memoryAfterOpening key memory bytes (length output) ≡ memory)
+  -- with 0 the plain payload, 7 bytes shorter than the one sent, stands at the output's start, and the rest of the output stays
+  pub open-done : (key memory bytes output : List ℕ) → openNumber key memory bytes (length output) ≡ 0
+      → (openWritten key memory bytes (length output) .length ≡ plainLength bytes) × (length (plainPayload key bytes) ≡ plainLength bytes)
+      × (openOutput key memory bytes output ≡ plainPayload key bytes ++ drop (plainLength bytes) output)
+  pub open-answer : (key memory bytes : List ℕ) (room : ℕ) → openWritten key memory bytes room .number ≡ openNumber key memory bytes room
+  -- with 0 the number is noted in the record
+  pub noted : (key memory bytes : List ℕ) (room : ℕ) → openNumber key memory bytes room ≡ 0
+      → recordIn (memoryAfterOpening key memory bytes room) ≡ accepted (sourceOf bytes) (messageNumber bytes) (recordIn memory)
+  -- in a record so made the source is held with that number, and every other source as before
+  pub last-noted : (source number : ℕ) (held : List Accepted)
+      → (isHeld source (accepted source number held) ≡ true) × (lastNumber source (accepted source number held) ≡ number)
+  pub others-stay : (other source number : ℕ) (held : List Accepted) → (source ≡ other → ⊥)
+      → (isHeld other (accepted source number held) ≡ isHeld other held)
+      × (isHeld other held ≡ true → lastNumber other (accepted source number held) ≡ lastNumber other held)
+  -- sealing then opening under one key gives the payload back, with room enough and a record that takes the number
+  pub round-trip : (key bytes behind memory : List ℕ) (number room space : ℕ) → AllBytes bytes → sealNumber number bytes room ≡ 0
+      → numberFault (headerOf bytes .source) number (recordIn memory) ≡ 0 → sourceFault (headerOf bytes .source) memory ≡ 0
+      → headerOf bytes .«payload_length» ≤ space
+      → let sealed = sealedPdu key number bytes ++ behind in
+      (openNumber key memory sealed space ≡ 0) × (plainPayload key sealed ≡ payloadIn (headerOf bytes) bytes)
+  -- against the same record a PDU opens alike before repeats and after them: any number of repeats, by any nodes
+  pub after-repeats : (key memory bytes : List ℕ) (room : ℕ) (repeats : List Repeat) → AllBytes bytes → AllRepeat repeats bytes
+      → (openNumber key memory (heard repeats bytes) room ≡ openNumber key memory bytes room)
+      × (plainPayload key (heard repeats bytes) ≡ plainPayload key bytes)
+      × (memoryAfterOpening key memory (heard repeats bytes) room ≡ memoryAfterOpening key memory bytes room)
+  -- no replay: over any openings from any memory, what is accepted from a source later has a greater number
+  pub no-replay : (memory : List ℕ) (first : Opening) (between : List Opening) (second : Opening)
+      → openNumber (first .key) memory (first .bytes) (first .room) ≡ 0 → sourceOf (first .bytes) ≡ sourceOf (second .bytes)
+      → openNumber (second .key) (memoryAfterAll (memoryAfter memory first) between) (second .bytes) (second .room) ≡ 0
+      → messageNumber (first .bytes) < messageNumber (second .bytes)
+  -- what enters the hash: of any PDU that reads, its header up to the path count, with the hop limit 0
+  pub hashed-all : (bytes : List ℕ) → AllBytes bytes → readingNumber (readOf bytes) ≡ 0
+      → headerBytes (hopless (headerOf bytes)) ≡ hashedHeader bytes ++ onlyIf (headerOf bytes .«path_bit») (headerOf bytes .«path_count» ∷ [])
+  -- of document 002's header, and of one with PDU ID, ACK and added header; the nonce and the number's bytes
+  pub hashed : (hashedHeader header002 ≡ hashed002)
+      × (hashedHeader reliable ≡ 0x0B ∷ 0x09 ∷ 0x80 ∷ 0x07 ∷ 0x03 ∷ 0xE8 ∷ 0x06 ∷ 0x40 ∷ 0x55 ∷ [])
+  pub nonce : nonceOf 1000 850 ≡ 0x03 ∷ 0xE8 ∷ 0x00 ∷ 0x03 ∷ 0x52 ∷ []
+  pub number-bytes : (numberBytes 850 ≡ 0x00 ∷ 0x03 ∷ 0x52 ∷ []) × (numberBytes 16777215 ≡ 0xFF ∷ 0xFF ∷ 0xFF ∷ [])
+  -- document 002's example, whole: sealed, and 83 for its last byte changed (computed in `crates/worked/proofs/Sealed.antt`)
+  pub example : sealedPdu key002 850 plain002 ≡ endingIn 0x50
+  pub example-changed : openNumber key002 (0 ∷ 0 ∷ 0 ∷ []) (endingIn 0x51) 11 ≡ 83
+  -- the substitution of a byte: the affine map of its inverse, {00} for {00} (FIPS 197, 5.1.1; computed in `crates/worked/proofs/Inverse.antt`)
+  pub inverse-is : (b : ℕ) → 0 < b → b < 256 → b • inverse b ≡ 1
+  pub inverse-of-0 : inverse 0 ≡ 0
+  pub substituted : (b : ℕ) → subByte b ≡ affine (inverse b)
+  -- 85 at a payload of 4,089 bytes and not at 4,088; 86 at 16,777,216 and not at 16,777,215; 87 with one byte too few; 85 before 86, 86 before 87, and
+  -- 88 before them all
+  pub at-4088 : (sealNumber 16777215 of4088 4101 ≡ 0) × (sealNumber 16777215 of4088 4100 ≡ 87)
+  pub at-4089 : sealNumber 16777216 of4089 0 ≡ 85
+  pub at-16777216 : sealNumber 16777216 of4088 0 ≡ 86
+  pub at-encrypted : sealNumber 16777216 encrypted4089 0 ≡ 88
+  -- the words of a memory: how many sources, then each with its number
+  pub two-held : recordIn (2 ∷ 1000 ∷ 850 ∷ 1600 ∷ 3 ∷ []) ≡ lastFrom 1000 850 ∷ lastFrom 1600 3 ∷ []
+  -- 84 for a new source with 64 held, not with 63 held, and not for a source that is held
+  pub at-64 : (sourceFault 7 (fives 64) ≡ 84) × (sourceFault 7 (fives 63) ≡ 0) × (sourceFault 5 (fives 64) ≡ 0)
+  -- 82 at the same number and not at the next; a first number may be 0
+  pub at-same : (numberFault 5 5 (recordIn (fives 64)) ≡ 82) × (numberFault 5 6 (recordIn (fives 64)) ≡ 0) × (numberFault 7 0 (recordIn (fives 64)) ≡ 0)

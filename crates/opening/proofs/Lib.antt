@@ -1,0 +1,3 @@
+pub mod Deciphering
+pub mod Deciding
+pub mod Opened

@@ -1,0 +1,5 @@
+pub mod Hashed
+pub mod Repeats
+pub mod RoundTrip
+pub mod Replay
+pub mod Answers

@@ -1,0 +1,3 @@
+pub mod Hashing
+pub mod Deciding
+pub mod Laying

@@ -1,0 +1,3 @@
+pub mod Equal
+pub mod Words
+pub mod Feeding

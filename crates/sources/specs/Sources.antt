@@ -1,0 +1,65 @@
+-- Document 02, W-212: the record of the numbers last accepted, a list of sources, and the memory that holds it.
+use Prim.Native.Nat.{ℕ, zero, suc, _+_, _-_, _*_, _/_, min}
+use mathlib.Core.Bool.{Bool, not, cond, _&&_}
+use mathlib.Core.List.{List, [], _∷_, _++_}
+use lib.Dec.{eqb, ltb, leb}
+use lib.ListN.{length, getD, take, drop, set}
+use Rattle.octets.specs.Numbers.{_gives_}
+use Rattle.octets.specs.Octets.{at}
+
+-- a source, and the number last accepted from it
+pub record Accepted : Type 0 where
+  pub source : ℕ
+  pub number : ℕ
+
+-- so many sources are held at most, and fewer in a memory that is too short for them
+abbrev pub sourceLimit : ℕ
+sourceLimit = 64
+
+abbrev pub capacity : List ℕ → ℕ
+capacity memory = min ((length memory - 1) / 2) sourceLimit
+
+-- the memory's words: how many sources are held, then two for each: the source and its number
+abbrev pub entryFrom : List ℕ → Accepted
+entryFrom words = record { source = at words 0; number = at words 1 }
+
+unfoldable pub entriesFrom : ℕ → List ℕ → List Accepted
+entriesFrom zero words = []
+entriesFrom (suc count) words = entryFrom words ∷ entriesFrom count (drop 2 words)
+
+-- the record in a memory: any memory holds one, a full one where it says that there are more sources
+unfoldable pub recordIn : List ℕ → List Accepted
+recordIn memory = entriesFrom (min (at memory 0) (capacity memory)) (drop 1 memory)
+
+-- where a source stands: at its first entry, or behind the last where it is new
+unfoldable pub placeOf : ℕ → List Accepted → ℕ
+placeOf source [] = 0
+placeOf source (entry ∷ later) = cond (eqb (entry .source) source) 0 (suc (placeOf source later))
+
+abbrev pub isHeld : ℕ → List Accepted → Bool
+isHeld source held = ltb (placeOf source held) (length held)
+
+-- the number last accepted from a source that is held
+abbrev pub lastNumber : ℕ → List Accepted → ℕ
+lastNumber source held = getD held (placeOf source held) (record { source = 0; number = 0 }) .number
+
+-- 82: the number is not greater than the last from its source; any number may be a source's first
+unfoldable pub numberFault : ℕ → ℕ → List Accepted → ℕ
+numberFault source number held = (isHeld source held && leb number (lastNumber source held)) gives 82
+
+-- 84: the source is new, and as many are held as there is room for
+unfoldable pub sourceFault : ℕ → List ℕ → ℕ
+sourceFault source memory = (not (isHeld source (recordIn memory)) && leb (capacity memory) (length (recordIn memory))) gives 84
+
+-- the record once a number was accepted: the source's entry has it, a new source's stands behind the others
+unfoldable pub accepted : ℕ → ℕ → List Accepted → List Accepted
+accepted source number held =
+    take (placeOf source held) held ++ (record { source = source; number = number } ∷ drop (placeOf source held + 1) held)
+
+-- its memory: how many sources are held, and the source's two words; every other word stays. With 84 all stay
+unfoldable pub memoryAccepted : ℕ → ℕ → List ℕ → List ℕ
+memoryAccepted source number memory =
+    cond (eqb (sourceFault source memory) 0)
+    (set (set (set memory 0 (length (accepted source number (recordIn memory)))) (2 * placeOf source (recordIn memory) + 1) source)
+    (2 * placeOf source (recordIn memory) + 2) number)
+    memory

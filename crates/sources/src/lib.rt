@@ -1,0 +1,114 @@
+// The numbers last accepted from each source: a record in memory that the caller lends.
+ghost use mathlib.Core.Path.{_≡_};
+ghost use Prim.Native.Nat.{_+_, _-_, _*_, _≤_, _<_};
+ghost use lib.ListN.{length, set};
+ghost use Rattle.sources.specs.Sources.{capacity, recordIn, placeOf, lastNumber, numberFault, sourceFault, memoryAccepted};
+
+// The most sources that a record holds. Document 02, W-212.
+const LIMIT: usize = 64;
+
+fn value(word: u32) -> usize
+    ensures { λ r. ⌜ r ≡ word ⌝ }
+{
+    word as usize
+}
+
+fn wide(address: u16) -> u32
+    ensures { λ r. ⌜ r ≡ address ⌝ }
+{
+    address as u32
+}
+
+// How many sources the memory has room for: 64 in 129 words or more, fewer in less. Document 02, W-212.
+pub fn capacity(memory: &[u32]) -> usize
+    ensures { λ r. ⌜ (r ≡ capacity (now (memory .entry))) × (r ≤ 64) × (2 * r ≤ length (now (memory .entry)) - 1) ⌝ }
+{
+    let words = memory.len();
+    if words == 0 {
+        return 0;
+    }
+    let room = (words - 1) / 2;
+    if room < LIMIT { room } else { LIMIT }
+}
+
+// How many sources are held. A memory that says more than it has room for is a full record. Document 02, W-212.
+pub fn held(memory: &[u32]) -> usize
+    ensures { λ r. ⌜ (r ≡ length (recordIn (now (memory .entry)))) × (r ≤ 64) × (2 * r ≤ length (now (memory .entry)) - 1) ⌝ }
+{
+    let most = capacity(memory);
+    if most == 0 {
+        return 0;
+    }
+    let first = value(memory[0]);
+    if first < most { first } else { most }
+}
+
+// The place of a source: its first entry, or behind the last where it is new.
+fn place_of(memory: &[u32], source: u16) -> usize
+    ensures { λ r. ⌜ (r ≡ placeOf source (recordIn (now (memory .entry)))) × (r ≤ length (recordIn (now (memory .entry)))) ⌝ }
+{
+    let end = held(memory);
+    let sought = wide(source);
+    let mut place: usize = 0;
+    while place < end {
+        if memory[2 * place + 1] == sought {
+            return place;
+        }
+        place += 1;
+    }
+    end
+}
+
+// 82 where the source is held with a number that is not below this one, else 0: any number may be a source's first. Document 02, W-212.
+pub fn number_fault(memory: &[u32], source: u16, number: u32) -> u8
+    ensures { λ r. ⌜ r ≡ numberFault source number (recordIn (now (memory .entry))) ⌝ }
+{
+    let place = place_of(memory, source);
+    if held(memory) <= place {
+        return 0;
+    }
+    if number <= memory[2 * place + 2] {
+        82
+    } else {
+        0
+    }
+}
+
+// 84 where the source is new and as many are held as there is room for, else 0. Document 02, W-212.
+pub fn source_fault(memory: &[u32], source: u16) -> u8
+    ensures { λ r. ⌜ r ≡ sourceFault source (now (memory .entry)) ⌝ }
+{
+    let end = held(memory);
+    if place_of(memory, source) < end {
+        return 0;
+    }
+    if capacity(memory) <= end { 84 } else { 0 }
+}
+
+// Notes a number as the last accepted from a source; a new one stands behind the others. Nothing changes where there is no room for it.
+// Document 02, W-212.
+pub fn accept(memory: &mut [u32], source: u16, number: u32)
+    ensures { λ _. ⌜ now (memory .exit) ≡ memoryAccepted source number (now (memory .entry)) ⌝ }
+{
+    if source_fault(memory, source) != 0 {
+        return;
+    }
+    let place = place_of(memory, source);
+    let count = count_with(memory, place);
+    memory[0] = count;
+    memory[2 * place + 1] = wide(source);
+    memory[2 * place + 2] = number;
+}
+
+// How many sources are held once one stands at a place.
+fn count_with(memory: &[u32], place: usize) -> u32
+    requires { ⌜ place < 64 ⌝ }
+    ensures { λ r. ⌜ r ≡ place + 1 + (length (recordIn (now (memory .entry))) - (place + 1)) ⌝ }
+{
+    let end = held(memory);
+    if place < end {
+        end as u32
+    } else {
+        place as u32 + 1
+    }
+}

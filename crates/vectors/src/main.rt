@@ -1,0 +1,71 @@
+// Published vectors, run: what is printed is compared with the file `stdout`.
+use libc::STDOUT_FILENO;
+
+// The bytes in hexadecimal, and the end of a line.
+fn show(bytes: &[u8]) {
+    let mut i: usize = 0;
+    while i < bytes.len() {
+        io::print_hex(STDOUT_FILENO, wide(bytes[i]), 2);
+        i += 1;
+    }
+    io::write_all(STDOUT_FILENO, b"\n");
+}
+
+fn wide(x: u8) -> u64 {
+    x as u64
+}
+
+fn show_cipher(key: [u8; 16], block: [u8; 16]) {
+    let keys = aes::expand(key);
+    let out = aes::encipher(&keys, block);
+    show(&out);
+}
+
+fn show_digest(message: &[u8]) {
+    let digest = sha1::finish(sha1::feed(sha1::begin(), message));
+    show(&digest);
+}
+
+// The letter a, a million times, in a thousand parts.
+fn show_million() {
+    let part = [97u8; 1000];
+    let mut running = sha1::begin();
+    let mut n: usize = 0;
+    while n < 1000 {
+        let next = sha1::feed(running, &part);
+        running = next;
+        n += 1;
+    }
+    let digest = sha1::finish(running);
+    show(&digest);
+}
+
+// Document 002's example: the payload and its hash, enciphered as one and in two parts.
+fn show_stream() {
+    let keys = aes::expand(*b"keep me secret!!");
+    let nonce = *b"\x03\xe8\x00\x03\x52";
+    let mut whole = *b"\x70\x01\x08\x12\x12\x03\x24\x13\x22\x02\x76\x72\x5d\xb2\xb2";
+    counter::add_stream(&keys, nonce, 0, &mut whole);
+    show(&whole);
+    let mut hash = *b"\x72\x5d\xb2\xb2";
+    counter::add_stream(&keys, nonce, 11, &mut hash);
+    show(&hash);
+}
+
+fn main() {
+    // FIPS 197, appendix B, and appendix C.1.
+    show_cipher(
+        *b"\x2b\x7e\x15\x16\x28\xae\xd2\xa6\xab\xf7\x15\x88\x09\xcf\x4f\x3c",
+        *b"\x32\x43\xf6\xa8\x88\x5a\x30\x8d\x31\x31\x98\xa2\xe0\x37\x07\x34",
+    );
+    show_cipher(
+        *b"\x00\x01\x02\x03\x04\x05\x06\x07\x08\x09\x0a\x0b\x0c\x0d\x0e\x0f",
+        *b"\x00\x11\x22\x33\x44\x55\x66\x77\x88\x99\xaa\xbb\xcc\xdd\xee\xff",
+    );
+    // FIPS 180: the empty message, "abc", the message of 448 bits, and a million times the letter a.
+    show_digest(b"");
+    show_digest(b"abc");
+    show_digest(b"abcdbcdecdefdefgefghfghighijhijkijkljklmklmnlmnomnopnopq");
+    show_million();
+    show_stream();
+}

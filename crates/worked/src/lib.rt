@@ -1,0 +1,1 @@
+// The standards' worked examples, by the definitions: proofs alone.

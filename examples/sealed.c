@@ -1,0 +1,60 @@
+/* A gate command from 1000 to 1600 that nobody else can read or make: sealed, repeated at node 2000, opened at the gate, and refused when it comes again or
+   was changed. From the repository's root:
+
+       rt staticlib mant
+       gcc -std=c11 -Wall -Wextra -pedantic examples/sealed.c -Iinclude target/staticlib/libmant.a -o /tmp/sealed && /tmp/sealed
+
+   prints examples/sealed.expected. */
+#include <stdio.h>
+
+#include "mant.h"
+
+/* The key is shared by the two sites. Sender and receiver keep the next number and the record over a restart. */
+static const MantKey key = {{'k', 'e', 'e', 'p', ' ', 'm', 'e', ' ', 's', 'e', 'c', 'r', 'e', 't', '!', '!'}};
+static uint64_t next_number = 850;
+static uint32_t record[MANT_SOURCE_WORDS];
+
+static void print_hex(const char *name, const uint8_t *bytes, size_t length)
+{
+    printf("%s, %zu bytes: ", name, length);
+    for (size_t i = 0; i < length; i++) {
+        printf("%02X", bytes[i]);
+    }
+    printf("\n");
+}
+
+static void open_at_gate(const char *name, const uint8_t *pdu, size_t length)
+{
+    uint8_t plain[MANT_PAYLOAD_LIMIT];
+    MantWritten opened = mant_open(key, record, MANT_SOURCE_WORDS, pdu, length, plain, sizeof plain);
+
+    printf("%s: %u, %s\n", name, opened.number, mant_meaning(opened.number));
+    if (opened.number == MANT_DONE) {
+        print_hex("plain payload", plain, opened.length);
+    }
+}
+
+int main(void)
+{
+    const uint8_t command[] = {0x70, 0x01, 0x08, 0x12, 0x12, 0x03, 0x24, 0x13, 0x22, 0x02, 0x76};
+    const MantFresh settings = {.edition = MANT_EDITION_1_2, .source = 1000, .has_destination = true, .destination = 1600, .hop_limit = 1, .with_path = true};
+    const MantNode node = {.own = 2000, .echo = true, .repeating = true};
+    uint8_t fresh[MANT_PDU_LIMIT], sealed[MANT_PDU_LIMIT], repeated[MANT_PDU_LIMIT];
+
+    MantWritten written = mant_originate(settings, command, sizeof command, fresh, sizeof fresh);
+    print_hex("originated", fresh, written.length);
+    written = mant_seal(key, next_number++, fresh, written.length, sealed, sizeof sealed);
+    print_hex("sealed", sealed, written.length);
+
+    /* Node 2000 has no key and needs none. */
+    MantAnswer answer = mant_hear(MANT_EDITION_1_2, node, NULL, sealed, written.length, repeated, sizeof repeated);
+    print_hex("repeated", repeated, answer.repeated_length);
+
+    repeated[answer.repeated_length - 1] ^= 1;
+    open_at_gate("changed on its way", repeated, answer.repeated_length);
+    repeated[answer.repeated_length - 1] ^= 1;
+    open_at_gate("as it was sent", repeated, answer.repeated_length);
+    open_at_gate("the same again", sealed, written.length);
+    printf("%u source is held: the last number accepted from %u is %u\n", (unsigned)record[0], (unsigned)record[1], (unsigned)record[2]);
+    return 0;
+}

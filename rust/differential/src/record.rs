@@ -1,0 +1,89 @@
+//! The words of a record of last accepted numbers inside a larger buffer, so
+//! that a word written before or after them shows too, and the reading of them
+//! that `include/mant.h` gives.
+
+use generator::Random;
+use mant::raw::SOURCE_LIMIT;
+use reference::Accepted;
+
+/// Words on each side of the record.
+const GUARD: usize = 6;
+
+/// A record's words and what surrounds them.
+#[derive(Clone, Debug, PartialEq, Eq)]
+pub struct Words {
+    words: Vec<u32>,
+    start: usize,
+    length: usize,
+}
+
+impl Words {
+    /// These words at any place modulo 2, between any words.
+    pub fn of(random: &mut Random, words: &[u32]) -> Words {
+        let start = GUARD + random.below(2);
+        let mut all: Vec<u32> = (0..start + words.len() + GUARD)
+            .map(|_| random.draw() as u32)
+            .collect();
+        all[start..start + words.len()].copy_from_slice(words);
+        Words {
+            words: all,
+            start,
+            length: words.len(),
+        }
+    }
+
+    /// The record's words.
+    pub fn words(&self) -> &[u32] {
+        &self.words[self.start..self.start + self.length]
+    }
+
+    /// The same to be changed.
+    pub fn change(&mut self) -> &mut [u32] {
+        &mut self.words[self.start..self.start + self.length]
+    }
+
+    /// How many sources there is room for.
+    fn room(&self) -> usize {
+        (self.length.saturating_sub(1) / 2).min(SOURCE_LIMIT)
+    }
+
+    /// The entries that are held: source and number.
+    fn entries(&self) -> Vec<(u32, u32)> {
+        let words = self.words();
+        let said = words.first().map_or(0, |first| *first as usize);
+        let pairs = words.get(1..).unwrap_or(&[]).chunks_exact(2);
+        let held = pairs.take(said.min(self.room()));
+        held.map(|pair| (pair[0], pair[1])).collect()
+    }
+
+    /// The record for the reference. Of the entries of a source the first
+    /// counts, and the others and those of no source take room.
+    pub fn accepted(&self) -> Accepted {
+        let entries = self.entries();
+        let mut held: Vec<(u16, u32)> = vec![];
+        for (source, number) in &entries {
+            match u16::try_from(*source) {
+                Ok(source) if held.iter().all(|one| one.0 != source) => {
+                    held.push((source, *number))
+                }
+                _ => {}
+            }
+        }
+        let without_a_source = entries.len() - held.len();
+        Accepted::holding(self.room() - without_a_source, &held)
+    }
+
+    /// The words once a number was accepted from a source, for which there is
+    /// an entry or room.
+    pub fn with(&self, source: u16, number: u32) -> Words {
+        let entries = self.entries();
+        let is_its = |entry: &(u32, u32)| entry.0 == u32::from(source);
+        let place = entries.iter().position(is_its).unwrap_or(entries.len());
+        let mut after = self.clone();
+        let words = after.change();
+        words[0] = entries.len().max(place + 1) as u32;
+        words[1 + 2 * place] = u32::from(source);
+        words[2 + 2 * place] = number;
+        after
+    }
+}
