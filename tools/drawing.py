@@ -5,11 +5,13 @@ import re
 
 TITLE = re.compile(r'hop limit (\d), originator (\d+)')
 NODE = re.compile(r'node (\d+): (?:(the originator)|chain of (\d+) hearings?, (?:delivered with path count \d+|out of reach)|no chain, out of reach)')
-COLOURS = {'originator': '#1d3557', 'delivered': '#2a9d8f', 'out of reach': '#e76f51', 'no chain': '#9b2226'}
-SPACE, DISC, MARGIN, LEGEND = 84, 21, 40, 60
-STYLE = ('<style>text{font-family:sans-serif;font-size:12px}.node{fill:#fff;text-anchor:middle}.words{fill:#444}'
-         '.chain{stroke:#333;stroke-width:2;fill:none}.other{stroke:#bbb;stroke-width:1.2;fill:none}'
-         '.ring{fill:none;stroke:#ddd}.last{stroke:#2a9d8f;stroke-dasharray:6 4}</style>')
+KINDS = ('originator', 'delivered', 'out of reach', 'no chain')
+SPACE, DISC, MARGIN, LEGEND, LEAST, ROOM = 76, 21, 24, 64, 500, 52
+STYLE = ('<style>text{font-family:sans-serif;font-size:12px;fill:#222}.name{text-anchor:middle}.light{fill:#fff;font-weight:bold}.strong{font-weight:bold}'
+         '.originator{fill:#111;stroke:#111}.delivered{fill:#2a7f74;stroke:#2a7f74}.out-of-reach,.no-chain{fill:#fff;stroke:#c2410c;stroke-width:3}'
+         '.no-chain{stroke-dasharray:5 3}.chain{stroke:#333;stroke-width:2;fill:none}.other{stroke:#888;stroke-width:1;fill:none}'
+         '.ring{fill:none;stroke:#ccc}.last{stroke:#2a7f74;stroke-width:1.6;stroke-dasharray:6 4}'
+         '.length{text-anchor:middle;stroke:#fff;stroke-width:9px;paint-order:stroke}</style>')
 
 
 def is_whole(answer):
@@ -96,19 +98,23 @@ def kind_of(length, hop_limit):
     return 'originator' if length == 0 else 'delivered' if length <= hop_limit + 1 else 'out of reach'
 
 
+def class_of(kind):
+    return kind.replace(' ', '-')
+
+
 def rim(centre, towards):
     """Where a line from a disc's centre towards a point leaves the disc."""
     far = math.hypot(towards[0] - centre[0], towards[1] - centre[1]) or 1
     return [c + (t - c) / far * (DISC + 3) for c, t in zip(centre, towards)]
 
 
-def arrow(start, end, middle, both, strong):
+def arrow(start, end, both, strong):
     """A hearing from disc to disc; with two heads where each hears the other. One that is no step of a shortest chain is bent away from the middle."""
     (x, y), (u, v) = start, end
     span = math.hypot(u - x, v - y) or 1
     bend = 0 if strong else min(span / 3, 70)
     sides = [((x + u) / 2 + side * bend * (y - v) / span, (y + v) / 2 + side * bend * (u - x) / span) for side in (1, -1)]
-    (a, b) = max(sides, key=lambda point: math.hypot(point[0] - middle, point[1] - middle))
+    (a, b) = max(sides, key=lambda point: math.hypot(*point))
     (x, y), (u, v) = rim(start, (a, b)), rim(end, (a, b))
     look, tip = ('chain', 'strong') if strong else ('other', 'weak')
     heads = f'marker-end="url(#{tip})"' + (f' marker-start="url(#{tip})"' if both else '')
@@ -116,37 +122,74 @@ def arrow(start, end, middle, both, strong):
 
 
 def tip(name, colour):
-    return (f'<marker id="{name}" viewBox="0 0 10 10" refX="9" refY="5" markerWidth="7" markerHeight="7" orient="auto-start-reverse">'
+    return (f'<marker id="{name}" viewBox="0 0 10 10" refX="9" refY="5" markerWidth="6" markerHeight="6" orient="auto-start-reverse">'
             f'<path d="M0 0L10 5L0 10z" fill="{colour}"/></marker>')
 
 
 def legend(hop_limit, lengths, left, top):
     kinds = [kind_of(length, hop_limit) for length in lengths.values()]
     missed = kinds.count('out of reach') + kinds.count('no chain')
-    yield (f'<text class="words" x="{left}" y="{top}">hop limit {hop_limit}: delivered over up to {hop_limit + 1} '
+    yield (f'<text class="strong" x="{left:.1f}" y="{top:.1f}">hop limit {hop_limit}: delivered over up to {hop_limit + 1} '
            f'hearing{"s" if hop_limit else ""}; {missed} node{"" if missed == 1 else "s"} out of reach</text>')
-    for kind in COLOURS:
+    for kind in KINDS:
         if kind in kinds:
-            yield f'<circle cx="{left + 6}" cy="{top + 20}" r="6" fill="{COLOURS[kind]}"/><text class="words" x="{left + 18}" y="{top + 24}">{kind}</text>'
-            left += 40 + 7 * len(kind)
+            yield f'<circle class="{class_of(kind)}" cx="{left + 7:.1f}" cy="{top + 21:.1f}" r="6"/><text x="{left + 20:.1f}" y="{top + 25:.1f}">{kind}</text>'
+            left += 44 + 7 * len(kind)
 
 
-def hearing_lines(hearings, below, at, middle):
+def off_line(point, start, end):
+    """How far a point is from the line between two others."""
+    (x, y), (u, v), (a, b) = start, end, point
+    span = (u - x) ** 2 + (v - y) ** 2
+    along = max(0, min(1, ((a - x) * (u - x) + (b - y) * (v - y)) / span)) if span else 0
+    return math.hypot(a - x - along * (u - x), b - y - along * (v - y))
+
+
+def length_places(radii, at, below):
+    """Where the rings' lengths are written: on one ray, in the first direction in which the nearest disc or straight arrow is farthest; none where it is near."""
+    lines = [(at[one], at[other]) for one in below for other in [one, *below[one]]]
+
+    def places(turn):
+        return {ring: (radius * math.sin(turn), -radius * math.cos(turn)) for ring, radius in radii.items() if ring}
+
+    def room(point):
+        return min(ROOM, *(off_line(point, *line) for line in lines), ROOM)
+
+    best = max((places(math.pi * part / 6) for part in range(12)), key=lambda some: min(map(room, some.values()), default=0))
+    return {ring: point for ring, point in best.items() if room(point) == ROOM}
+
+
+def length_names(hop_limit, places):
+    for length, (x, y) in places.items():
+        last = f': the last at hop limit {hop_limit}' if length == hop_limit + 1 else ''
+        yield f'<text class="length" x="{x:.1f}" y="{y + 4:.1f}">{length} hearing{"s" if length > 1 else ""}{last}</text>'
+
+
+def box(points, last, names):
+    """The part of the plane that shows all nodes, the last ring that is reached and the rings' names: left, top, width, height."""
+    sides = [(x - DISC, x + DISC, y - DISC, y + DISC) for x, y in points] + [(-last, last, -last, last)] + [(x - 40, x + 40, y - 8, y + 8) for x, y in names]
+    left, right = min(side[0] for side in sides) - MARGIN, max(side[1] for side in sides) + MARGIN
+    top, bottom = min(side[2] for side in sides) - MARGIN, max(side[3] for side in sides) + MARGIN
+    return left, top, max(right - left, LEAST), bottom - top
+
+
+def hearing_lines(hearings, below, at):
     """An arrow for each hearing, or one for two that go both ways; the steps of shortest chains above the others."""
     steps, pairs = {(sender, node) for sender in below for node in below[sender]}, set(hearings)
     for sender, node in sorted(hearings, key=lambda pair: pair in steps):
         other = (node, sender)
         if other in pairs and (other in steps or ((sender, node) not in steps and node < sender)):
             continue
-        yield arrow(at[sender], at[node], middle, other in pairs, (sender, node) in steps)
+        yield arrow(at[sender], at[node], other in pairs, (sender, node) in steps)
 
 
 def discs(hop_limit, lengths, at):
     for node, length in lengths.items():
         kind, (x, y) = kind_of(length, hop_limit), at[node]
         words = f'{node}: chain of {length}, {kind}' if length else f'{node}: {kind}'
-        yield (f'<g><title>{words}</title><circle cx="{x:.1f}" cy="{y:.1f}" r="{DISC}" fill="{COLOURS[kind]}"/>'
-               f'<text class="node" x="{x:.1f}" y="{y + 4:.1f}">{node}</text></g>')
+        light = ' light' if kind in ('originator', 'delivered') else ''
+        yield (f'<g><title>{words}</title><circle class="{class_of(kind)}" cx="{x:.1f}" cy="{y:.1f}" r="{DISC}"/>'
+               f'<text class="name{light}" x="{x:.1f}" y="{y + 4:.1f}">{node}</text></g>')
 
 
 def svg(text, answer):
@@ -155,12 +198,13 @@ def svg(text, answer):
     below = branches(lengths, hearings)
     angles = angles_of(lengths, below)
     move_apart(lengths, radii, angles)
-    half = max(max(radii.values()) + DISC + MARGIN, 200)
-    at = {node: (half + radii[length] * math.cos(angles[node]), half + radii[length] * math.sin(angles[node])) for node, length in lengths.items()}
-    width, height = f'{2 * half:.0f}', f'{2 * half + LEGEND:.0f}'
-    rings = [f'<circle class="ring{" last" * (length == hop_limit + 1)}" cx="{half:.1f}" cy="{half:.1f}" r="{radius:.1f}"/>'
-             for length, radius in radii.items() if length]
-    parts = [f'<svg xmlns="http://www.w3.org/2000/svg" width="{width}" height="{height}" viewBox="0 0 {width} {height}">', STYLE,
-             f'<defs>{tip("strong", "#333")}{tip("weak", "#bbb")}</defs>', '<rect width="100%" height="100%" fill="#fff"/>',
-             *rings, *hearing_lines(hearings, below, at, half), *discs(hop_limit, lengths, at), *legend(hop_limit, lengths, 16, 2 * half + 22), '</svg>', '']
+    at = {node: (radii[length] * math.cos(angles[node]), radii[length] * math.sin(angles[node])) for node, length in lengths.items()}
+    names = length_places(radii, at, below)
+    left, top, width, height = box(at.values(), radii.get(hop_limit + 1, 0), names.values())
+    size = f'width="{width:.0f}" height="{height + LEGEND:.0f}"'
+    rings = [f'<circle class="ring{" last" * (length == hop_limit + 1)}" r="{radius:.1f}"/>' for length, radius in radii.items() if length]
+    parts = [f'<svg xmlns="http://www.w3.org/2000/svg" {size} viewBox="{left:.1f} {top:.1f} {width:.1f} {height + LEGEND:.1f}">', STYLE,
+             f'<defs>{tip("strong", "#333")}{tip("weak", "#888")}</defs>', f'<rect x="{left:.1f}" y="{top:.1f}" {size} fill="#fff"/>',
+             *rings, *hearing_lines(hearings, below, at), *length_names(hop_limit, names), *discs(hop_limit, lengths, at),
+             f'<rect x="{left:.1f}" y="{top + height:.1f}" {size} fill="#fff"/>', *legend(hop_limit, lengths, left + 16, top + height + 22), '</svg>', '']
     return '\n'.join(parts)
