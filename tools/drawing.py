@@ -146,7 +146,7 @@ def off_line(point, start, end):
 
 
 def length_places(radii, at, below):
-    """Where the rings' lengths are written: on one ray, in the first direction in which the nearest disc or straight arrow is farthest; none where it is near."""
+    """Where the rings' lengths are written: on one ray, in the direction in which the nearest disc or straight arrow is farthest; not where that is near."""
     lines = [(at[one], at[other]) for one in below for other in [one, *below[one]]]
 
     def places(turn):
