@@ -1,5 +1,5 @@
-// Runs the cases that document 01 checks by hand and does not mark P, and an input for each number of its table and of the requests of document 02 but
-// W-206. A case is a line of `stdin`. For each a line is printed: its name, the numbers answered, and `ok`, or `WRONG` where a number or a byte of the
+// Runs the cases that document 01 checks by hand and does not mark P, and an input for each number of its table and of document 02's W-201 to
+// W-203. A case is a line of `stdin`. For each a line is printed: its name, the numbers answered, and `ok`, or `WRONG` where a number or a byte of the
 // output is not what it should be, or where the line can't be read, with the character from which it can't.
 //
 // `NAME: VERB .. = ..` has what is asked before the `=`, and what is expected after it. The first letter of the first word is the verb's; all other
