@@ -3,69 +3,46 @@
  *
  * Every call answers for every input: nothing has to be checked before it. What each answers is proved of the code in the library, against the
  * definitions in the crates' specs/ folders; this header declares it, and for a node hands its lists on from a struct. No call keeps anything between
- * calls, allocates, or does input or output.
- * The library needs memcpy, memmove and memset, and no other function of the C library. A call takes less than 640 bytes of stack, one that takes a node's
- * lists less than 1,280, sealing and opening less than 1,536, and the three with retained PDUs less than 3,584.
+ * calls, allocates, or does input or output. The library needs memcpy, memmove and memset, and no other function of the C library.
  *
- * Slices. A slice is passed as a pointer and then a length, which counts elements: bytes, or uint16_t values of a list or words of a table. Only so
- * many elements are ever read or written.
+ * The groups, by what a box does:
  *
- * What a caller owes, since no code can look whether it holds. A pointer with a length other than 0 points to that many elements, aligned for them
- * (a list or a table at an even address), which nothing else changes during the call; with length 0 it may be anything, NULL too, and is not followed.
- * An output shares no memory with another slice of the call, nor does a table or a queue. Structs are those declared here, passed by value and so
- * aligned by the compiler, MantLists by its address; a bool in them holds 0 or 1, as C's does unless it was written by other means, such as memcpy.
+ *     Reading              what the bytes of a PDU say
+ *     Originating          a fresh PDU from settings and a payload
+ *     A node               what is delivered and what is repeated, for one PDU or over a batch; its address lists
+ *     Stations heard       who was heard, how often, and over how short a path
+ *     The transmit queue   PDUs that wait for the modem's next slot
+ *     The serial exchange  a PDU between a decoder and an encoder that are two devices
+ *     Reliable messages    PDUs that are sent again until they are acknowledged
+ *     Sealing and opening  payloads that nobody without the key can read or make
+ *     Planning             how often one report can go out at most; the sizes
+ *
+ * Each begins with what it is for, its memory, the numbers that it answers beside 0 and the stack of its calls, and ends with an example: the body of a main,
+ * with mant.h, assert.h and string.h included, which the tests take out of here, compile and run. examples/box.c is a whole repeater.
+ *
+ * What a caller owes, since no code can look whether it holds. A pointer with a length other than 0 points to that many elements, aligned as C aligns their
+ * type, which nothing else changes during the call; with length 0 it may be anything, NULL too, and is not followed. An output shares no memory with another
+ * slice of the call, nor does memory that is lent. Structs are those declared here, passed by value and so aligned by the compiler, MantLists by its
+ * address; a bool in them holds 0 or 1, as C's does unless it was written by other means, such as memcpy.
+ *
+ * Slices. A slice is passed as a pointer and then a length, which counts elements: bytes, the uint16_t values of a list, the words of a table, records. Only
+ * so many elements are ever read or written.
+ *
+ * Output. It changes only where a PDU, its plain payload, an exchange or what was taken from a queue is written (number 0), or, at a node, where the repeat
+ * number is 0. It then begins with that, and keeps its bytes past the end of it. With every other number the output is left as it was. MANT_PDU_LIMIT
+ * bytes are room for every PDU, MANT_EXCHANGE_LIMIT for every exchange, MANT_QUEUE_BYTES for all that a queue holds.
+ *
+ * Lent memory. What a box remembers lies in arrays of the caller's, who lends one to each call that needs it and keeps it from call to call: a table of
+ * stations, a queue, a table of retained PDUs, a record of message numbers. Each is empty when it is all zeros, and may be of any number. With a refusal
+ * nothing in it changes. Memory put together by hand, or not set at all, gets an answer too, which its group tells.
  *
  * Edition. In edition 1.1 of the protocol the three bits after the port are one reserved number; in 1.2 the first of them is the encrypted flag
  * (document 02, W-209). What shows a header, writes one or hears as a node takes the edition as a number, MANT_EDITION_1_1 or MANT_EDITION_1_2. Any
  * other number, also one that would be 11 or 12 if it were cut to fewer bits, is answered 17 before all else is looked at. A node answers and repeats
  * the same, byte for byte, under both. Paths, exchanges and queues show none of these bits, and sealing is of 1.2 alone, so these take no edition.
  *
- * Lists. A node has eight address lists, two of each kind, such as one for the dry season and one for floods (document 02, W-211). They stand together in
- * a struct MantLists that is passed by its address, NULL for eight empty lists. Which of them a node reads is chosen in its settings, for each kind by
- * itself; to change over is to change those choices and nothing else. All eight are checked at every call, whatever is chosen.
- *
- * Output. It changes only where a PDU, its plain payload, an exchange or what was taken from a queue is written (number 0), or, at a node, where the repeat
- * number is 0. It then begins with that, and keeps its bytes past the end of it. With every other number the output is left as it was. MANT_PDU_LIMIT
- * bytes are room for every PDU, MANT_EXCHANGE_LIMIT for every exchange, MANT_QUEUE_BYTES for all that a queue holds.
- *
- * Table. The stations heard (document 02, W-201) are held in uint16_t words that the caller lends, and keeps from call to call: how many are held, then
- * four words for each station, by rising address: its address, the PDUs read from it, those of them that echo dropped, and one more than its shortest
- * path count, 0 while that is absent. Words of which the first is 0 are an empty table, whatever stands behind it. MANT_STATION_WORDS words have room
- * for MANT_STATION_LIMIT stations, and more words for no more; fewer have room for (words - 1) / 4, and fewer than 5 for none. A first word above the
- * room is a full table's. Where a call changes the table it writes the first word and the words of the stations then held, and keeps those behind
- * them; where it does not, no word changes. Words put together by hand get an answer too: they are held and listed as they stand there, but by address
- * stations are looked for as if the addresses rose, so that where they do not, one that stands there may not be found.
- *
- * Queue. The PDUs that wait for the modem's next slot (document 02, W-206) are held in bytes that the caller lends, and keeps from call to call: two
- * numbers of two bytes, most significant first, how many PDUs are held and how many bytes they have together (W-207), then the PDUs back to back, the
- * oldest first. Bytes of which the first four are 0 are an empty queue, whatever stands behind them. MANT_QUEUE_LENGTH bytes have room for
- * MANT_QUEUE_BYTES bytes of PDUs, and more for no more; fewer have room for all but four of them. Where a call changes the queue it writes the PDUs then
- * held and before them their two numbers, and keeps the bytes behind them; where it does not, no byte changes. So in a queue that began empty the numbers
- * are at all times those of the PDUs held. Bytes put together by hand get an answer too: held are the PDUs that can be read there one after the other, 32
- * at most, within as many bytes as the second number tells, or as there is room for where it tells more; mant_queue_clear does not look at them, and
- * mant_queue_level answers the two numbers as they stand.
- *
- * Retained PDUs. Reliable PDUs that wait for their acknowledgement (document 02, W-210; document 000, section 3.3) are held in MANT_RECORDS records that the
- * caller lends, and keeps from call to call, beside the last accepted time, which each call answers and the next is given. A record is in use where its
- * length is MANT_RETAINED_LIMIT at most and its PDU exactly one of protocol 1 with ACK clear and no path address; every other is free, one of all zeros
- * too, so that the records may hold anything before the first call. The first is always the one at the lowest place. Times are whole seconds of a clock
- * that does not go back; 0 stands for no time accepted yet. Where a call changes the table it changes one record; with a refusal none, nor the last time.
- * Records are aligned as C aligns them, and share no memory with another slice of the call.
- *
- * Exchange. What a decoder and an encoder that are two devices send each other (document 02, W-202; document 003, section 3, for the elements): one
- * element of type 20 that is all of the bytes, and in it an element of type 1024, the PDU's header, and one of type 1025, its payload, one of each, in
- * either order; elements of other types may stand there too. A type or a length below 128 is one byte, or two that say the same; from 128 on it is two,
- * with 128 added to the first of them. Elements of types 10, 11 and 20 hold elements, four levels down at most, of which the exchange is the first. What
- * frames it on the line is the driver's.
- *
- * Record. The last message number that was accepted from each source of encrypted PDUs (document 02, W-212; document 000, section 3.5) is held in
- * uint32_t words that the caller lends, and keeps from call to call, over a restart too: how many sources are held, then two words for each, its address
- * and that number. Words of which the first is 0 are an empty record. MANT_SOURCE_WORDS words have room for MANT_SOURCE_LIMIT sources, and more words for
- * no more; fewer have room for (words - 1) / 2. A first word above the room is a full record's. A record is changed only where a PDU is opened (number 0):
- * then the number of its source's entry is written, or a new source is put behind the others and counted; every other word is kept, but that a first word
- * above the room becomes the room. A caller who changes the key empties the record. Of words put together by hand the first entry of a source counts, and an
- * address above 65,535 is no source's. Like a table, a record is aligned for its words and shares no
- * memory with another slice of the call.
+ * Stack. The bytes below the caller's stack pointer, return address included, of the deepest of the calls that tests/stack.c tries of a function, on x86-64.
+ * tests/run_boundary measures them and fails where this header or docs/PERFORMANCE.md says otherwise.
  *
  * Numbers. Every refusal has one: enum MantNumber below, and mant_meaning gives its words.
  */
@@ -221,42 +198,38 @@ static inline const char *mant_meaning(uint8_t number)
     }
 }
 
-/* Sizes in bytes; the path's in addresses, a list's in values. mant_limits answers the same numbers. */
+/* The editions as numbers; no other number is one. */
+#define MANT_EDITION_1_1 11
+#define MANT_EDITION_1_2 12
+
+/* Holds each struct to its size in the library. */
+#ifdef __cplusplus
+#define MANT_SIZE(type, size) static_assert(sizeof(type) == (size), #type " is laid out otherwise in the library")
+#else
+#define MANT_SIZE(type, size) _Static_assert(sizeof(type) == (size), #type " is laid out otherwise in the library")
+#endif
+
+/* What writing answers: number 0 and how many bytes were written, or the refusal's number and length 0. */
+typedef struct MantWritten {
+    uint8_t number;
+    size_t length;
+} MantWritten;
+MANT_SIZE(MantWritten, 16);
+
+/* ---- Reading ----
+ *
+ * What the bytes of a PDU say: each field of its header, its path, who sent it last, where its payload lies; and the PDU written again from that.
+ * Memory: none.
+ * Numbers: 17, 1 to 6; in writing also 14.
+ * Stack: mant_read 280, mant_path_address 136, mant_path_has 136, mant_write_again 232.
+ */
+
+/* Sizes in bytes; the path's in addresses. */
 #define MANT_FIXED_LENGTH 6
 #define MANT_PAYLOAD_LIMIT 4095
 #define MANT_PATH_LIMIT 255
 #define MANT_HEADER_LIMIT 520
 #define MANT_PDU_LIMIT 4615
-#define MANT_LIST_LIMIT 128
-#define MANT_BATCH_LIMIT 16384
-
-/* How many stations a table holds at most, and how many words are room for so many. */
-#define MANT_STATION_LIMIT 128
-#define MANT_STATION_WORDS 513
-
-/* How many PDUs a queue holds at most, how many bytes they have together at most, and how many bytes are room for so many. */
-#define MANT_QUEUE_PDUS 32
-#define MANT_QUEUE_BYTES 2048
-#define MANT_QUEUE_LENGTH 2052
-
-/* How many records a table of retained PDUs has, and how many bytes the longest PDU that it retains. */
-#define MANT_RECORDS 16
-#define MANT_RETAINED_LIMIT 256
-
-/* The most bytes that mant_write_exchange writes. */
-#define MANT_EXCHANGE_LIMIT 4626
-
-/* The editions as numbers; no other number is one. */
-#define MANT_EDITION_1_1 11
-#define MANT_EDITION_1_2 12
-
-/* How many sources a record holds at most, and how many words are room for so many. */
-#define MANT_SOURCE_LIMIT 64
-#define MANT_SOURCE_WORDS 129
-
-/* How many bytes longer a sealed PDU is: its message number and its hash. The greatest message number. */
-#define MANT_SEAL_LENGTH 7
-#define MANT_NUMBER_LIMIT 16777215
 
 /* The header of a PDU, in the order of its bits. A destination, PDU ID or path count that the PDU does not have is 0. With a number other than 0
    every field after it is 0 or false. */
@@ -283,26 +256,41 @@ typedef struct MantHeader {
     size_t header_length;     /* the payload begins here */
     size_t pdu_length;        /* header and payload; the next PDU of a batch begins here */
 } MantHeader;
+MANT_SIZE(MantHeader, 40);
 
-/* What writing answers: number 0 and how many bytes were written, or the refusal's number and length 0. */
-typedef struct MantWritten {
-    uint8_t number;
-    size_t length;
-} MantWritten;
+/* The header of the PDU at the start of the bytes as the edition shows it, and its last sender; 17 for an edition that is none, and then the number, 1
+   to 6, of why there is no PDU there. Bytes after the PDU are not looked at. */
+MantHeader mant_read(uint64_t edition, const uint8_t *bytes, size_t bytes_length);
 
-/* Where the parts of a PDU lie in an exchange that was read. Places count from its first byte. With a number other than 0 every field after it is 0. */
-typedef struct MantExchange {
-    uint8_t number;           /* 0; else 57, 58, 59, 1 to 6 or 63 */
-    size_t header_place;
-    size_t header_length;
-    size_t payload_place;     /* with an empty payload, where it would begin; that may be the end of the bytes */
-    size_t payload_length;
-} MantExchange;
+/* The address at a place of the path of the PDU at the start of the bytes, the first at 0. Answers 0 past the last one and where there is no PDU;
+   an address can be 0 too, so ask mant_read for path_count. */
+uint16_t mant_path_address(const uint8_t *bytes, size_t bytes_length, size_t place);
 
-/* A key of AES-128. */
-typedef struct MantKey {
-    uint8_t bytes[16];
-} MantKey;
+/* Whether an address is anywhere in the path of the PDU at the start of the bytes. Without a path none is, nor where there is no PDU. */
+bool mant_path_has(const uint8_t *bytes, size_t bytes_length, uint16_t address);
+
+/* Writes the PDU at the start of the bytes again, from what reading shows of it under the edition: the same bytes under both. Answers 17 for an edition
+   that is none, 1 to 6 where there is no PDU, 14 where the output is too short. Leaves the output alone unless the number is 0. */
+MantWritten mant_write_again(uint64_t edition, const uint8_t *bytes, size_t bytes_length, uint8_t *output, size_t output_length);
+
+/* Example: a report of gauge 1000, heard from repeater 2000.
+
+       const uint8_t heard[] = {0x02, 0x00, 0x10, 0x01, 0x03, 0xE8, 0x01, 0x07, 0xD0, 0x2A};
+       MantHeader header = mant_read(MANT_EDITION_1_2, heard, sizeof heard);
+       assert(header.number == MANT_DONE && header.source == 1000 && header.hop_limit == 1);
+       assert(header.has_last_sender && header.last_sender == 2000);
+       assert(header.path_count == 1 && mant_path_address(heard, sizeof heard, 0) == 2000);
+       const uint8_t *payload = heard + header.header_length;
+       assert(header.payload_length == 1 && payload[0] == 0x2A);
+       assert(mant_read(MANT_EDITION_1_2, heard, sizeof heard - 1).number == MANT_PAYLOAD_CUT); */
+
+/* ---- Originating ----
+ *
+ * A fresh PDU, as a gauge or a base sends it: from settings and a payload.
+ * Memory: none.
+ * Numbers: 17, 10 to 13, 16, 14.
+ * Stack: mant_originate 88.
+ */
 
 /* What is asked of a fresh PDU. Edition, hop limit and port are wider than they need be, so that 263 arrives as 263 and is refused. An edition that
    is not set is 0, and refused with 17. */
@@ -319,6 +307,38 @@ typedef struct MantFresh {
     uint8_t pdu_id;           /* written for reliable service only */
     bool encrypted;           /* the payload is encrypted already: sets the flag, which edition 1.1 lacks; ask for no time stamp then */
 } MantFresh;
+MANT_SIZE(MantFresh, 40);
+
+/* Writes a fresh PDU with this payload. Answers 17, 10 to 13, 16 or 14, the first in this order that applies, where it can't. Leaves the output alone
+   unless the number is 0. */
+MantWritten mant_originate(MantFresh settings, const uint8_t *payload, size_t payload_length, uint8_t *output, size_t output_length);
+
+/* Example: a report for everyone, which may be repeated three times in a row.
+
+       MantFresh settings = {.edition = MANT_EDITION_1_2, .source = 1000, .hop_limit = 3, .with_path = true};
+       const uint8_t payload[] = {0x2A};
+       uint8_t report[MANT_PDU_LIMIT];
+       MantWritten written = mant_originate(settings, payload, sizeof payload, report, sizeof report);
+       assert(written.number == MANT_DONE && written.length == 8);
+       settings.hop_limit = 15;
+       written = mant_originate(settings, payload, sizeof payload, report, sizeof report);
+       assert(written.number == MANT_HOP_LIMIT_ABOVE_7 && written.length == 0); */
+
+/* ---- A node ----
+ *
+ * What is delivered and what is repeated at a box, for one PDU (mant_hear) or for PDUs that lie back to back (mant_step).
+ * Memory: no call changes any. A node has eight address lists, two of each kind, such as one for the dry season and one for floods (document 02, W-211).
+ *     They stay the caller's, together in a struct MantLists that is passed by its address, NULL for eight empty lists. Which of them a node reads is
+ *     chosen in its settings, for each kind by itself; to change over is to change those choices and nothing else. All eight are checked at every call,
+ *     whatever is chosen.
+ * Numbers: for delivery and repeating alike 17, 20 to 22, 1 to 6, 30, 42, 31 to 34 and 40; for delivery alone 35 and 39; for repeating alone 36 to 38 and
+ *     41; for a batch above the size limit 54.
+ * Stack: mant_list_fault 248, mant_list_holds 8, mant_hear 1,080, mant_step 632.
+ */
+
+/* Values in a list, bytes in a batch. */
+#define MANT_LIST_LIMIT 128
+#define MANT_BATCH_LIMIT 16384
 
 /* Which of a kind's two lists a node reads. Any other number chooses none, as 0 does. */
 enum MantChoice {
@@ -337,17 +357,20 @@ typedef struct MantNode {
     uint8_t destination_pass;
     uint8_t destination_reject;
 } MantNode;
+MANT_SIZE(MantNode, 8);
 
 /* A list: low, high, low, high and so on, both ends included, in any order; overlaps are allowed. The length counts values. */
 typedef struct MantList {
     const uint16_t *values;
     size_t length;
 } MantList;
+MANT_SIZE(MantList, 16);
 
 typedef struct MantTwoLists {
     MantList first;
     MantList second;
 } MantTwoLists;
+MANT_SIZE(MantTwoLists, 32);
 
 /* The lists of a node, two of each kind; those that are not set are empty. */
 typedef struct MantLists {
@@ -356,6 +379,7 @@ typedef struct MantLists {
     MantTwoLists destination_pass;
     MantTwoLists destination_reject;
 } MantLists;
+MANT_SIZE(MantLists, 128);
 
 /* What a node answers for one PDU. Places count from the PDU's first byte. */
 typedef struct MantAnswer {
@@ -368,12 +392,14 @@ typedef struct MantAnswer {
     size_t repeated_length;   /* how many bytes were written to the output; 0 where nothing is repeated */
     size_t taken;             /* where the next PDU begins in the received bytes; 0 where this one was not read: with 17, 20 to 22 and 1 to 6 */
 } MantAnswer;
+MANT_SIZE(MantAnswer, 40);
 
 /* Where a walk over a batch has come to. A walk begins with place 0 and not ended. */
 typedef struct MantCursor {
     size_t place;
     bool ended;
 } MantCursor;
+MANT_SIZE(MantCursor, 16);
 
 enum MantKind {
     MANT_ANSWERED = 0,        /* the answer for the PDU at the cursor, and the cursor of the next */
@@ -387,169 +413,7 @@ typedef struct MantStep {
     MantAnswer answer;
     MantCursor next;
 } MantStep;
-
-/* A station that was heard. The counts stop at 65,535, each by itself. */
-typedef struct MantStation {
-    uint16_t address;
-    uint16_t reads;           /* the PDUs read from it */
-    uint16_t echoes;          /* those of them that echo dropped */
-    bool has_path;            /* false: none of them had the path bit, and so there is no shortest path count */
-    uint16_t shortest_path;   /* the least path count of those that had it; 0 where there is none */
-} MantStation;
-
-/* What asking for a station answers: number 0 and the station, or 56 and a station that is all 0. */
-typedef struct MantFound {
-    uint8_t number;
-    MantStation station;
-} MantFound;
-
-/* What a table counts of a PDU that was read. */
-typedef struct MantHeard {
-    uint16_t source;
-    bool echo;                /* the node dropped it by echo: it answered 30 or 42 */
-    bool path_bit;            /* false: it has no path, and `path_count` does not count */
-    uint8_t path_count;
-} MantHeard;
-
-/* What hearing and counting answers: the node's answer, which does not depend on the table, and the table's number, 0 or 55. */
-typedef struct MantListened {
-    MantAnswer answer;
-    uint8_t table_number;
-} MantListened;
-
-/* How many PDUs a queue holds, and how many bytes they have together. */
-typedef struct MantLevel {
-    size_t pdus;
-    size_t bytes;
-} MantLevel;
-
-/* What taking from a queue answers: number 0, how many PDUs were taken and how many bytes they fill in the output. With 62 both are 0. */
-typedef struct MantBatch {
-    uint8_t number;           /* 0 or 62 */
-    size_t pdus;
-    size_t bytes;
-} MantBatch;
-
-/* A record of a retained PDU, which is the first `length` bytes of `pdu`; zeros stand behind it. A record that was freed or dropped is all zeros. */
-typedef struct MantRetained {
-    uint8_t pdu[MANT_RETAINED_LIMIT];
-    size_t length;
-    uint64_t sent_at;         /* when it was last sent, or retained */
-    uint64_t count;           /* how often it was sent again */
-} MantRetained;
-
-/* What a retained PDU is known by. */
-typedef struct MantNames {
-    uint16_t source;
-    uint16_t destination;
-    uint8_t pdu_id;
-} MantNames;
-
-enum MantDeed {
-    MANT_DEED_NONE = 0,
-    MANT_DEED_RETAINED = 1,     /* the PDU is in the record at `place` */
-    MANT_DEED_SENT_AGAIN = 2,   /* the PDU of the record at `place` is in the output, to be sent */
-    MANT_DEED_FAILED = 3,       /* the record at `place` was dropped: its PDU was not acknowledged */
-    MANT_DEED_FREED = 4,        /* the record at `place` was freed: its PDU was acknowledged */
-    MANT_DEED_ACKNOWLEDGED = 5  /* the acknowledgement of the PDU received is in the output, to be sent */
-};
-
-/* What the calls with a table of retained PDUs answer. With a number other than 0 the deed is 0 and `last` the one given; what a deed has not is 0. */
-typedef struct MantOutcome {
-    uint8_t number;
-    uint8_t deed;
-    uint64_t last;            /* the last accepted time, to be given to the next call */
-    size_t place;             /* with deeds 1 to 4: the record's, the first at 0 */
-    MantNames names;          /* with deeds 1 to 4: the retained PDU's; with 5: the received PDU's */
-    size_t length;            /* with deeds 2 and 5: how many bytes were written to the output */
-} MantOutcome;
-
-/* What an acknowledgement is sent with, as in MantFresh; hop limit and port count only where one is due. */
-typedef struct MantSending {
-    uint64_t hop_limit;       /* 0 to 7 */
-    uint64_t port;            /* 0 to 15 */
-    bool time_stamp_request;
-    bool with_path;
-} MantSending;
-
-/* A bound. Number 10: the hop limit is above 7. Too large: 64 bits do not hold the value. In both the value is 0. */
-typedef struct MantBound {
-    uint8_t number;
-    bool too_large;
-    uint64_t value;
-} MantBound;
-
-typedef struct MantLimits {
-    size_t fixed;
-    size_t payload;
-    size_t path;
-    size_t header;
-    size_t pdu;
-    size_t list;
-    size_t batch;
-} MantLimits;
-
-/* As the library has them. */
-#ifdef __cplusplus
-#define MANT_SIZE(type, size) static_assert(sizeof(type) == (size), #type " is laid out otherwise in the library")
-#else
-#define MANT_SIZE(type, size) _Static_assert(sizeof(type) == (size), #type " is laid out otherwise in the library")
-#endif
-MANT_SIZE(MantHeader, 40);
-MANT_SIZE(MantWritten, 16);
-MANT_SIZE(MantExchange, 40);
-MANT_SIZE(MantKey, 16);
-MANT_SIZE(MantFresh, 40);
-MANT_SIZE(MantNode, 8);
-MANT_SIZE(MantList, 16);
-MANT_SIZE(MantTwoLists, 32);
-MANT_SIZE(MantLists, 128);
-MANT_SIZE(MantAnswer, 40);
-MANT_SIZE(MantCursor, 16);
 MANT_SIZE(MantStep, 64);
-MANT_SIZE(MantStation, 10);
-MANT_SIZE(MantFound, 12);
-MANT_SIZE(MantHeard, 6);
-MANT_SIZE(MantListened, 48);
-MANT_SIZE(MantLevel, 16);
-MANT_SIZE(MantBatch, 24);
-MANT_SIZE(MantRetained, 280);
-MANT_SIZE(MantNames, 6);
-MANT_SIZE(MantOutcome, 40);
-MANT_SIZE(MantSending, 24);
-MANT_SIZE(MantBound, 16);
-MANT_SIZE(MantLimits, 56);
-#undef MANT_SIZE
-
-/* The header of the PDU at the start of the bytes as the edition shows it, and its last sender; 17 for an edition that is none, and then the number, 1
-   to 6, of why there is no PDU there. Bytes after the PDU are not looked at. */
-MantHeader mant_read(uint64_t edition, const uint8_t *bytes, size_t bytes_length);
-
-/* The address at a place of the path of the PDU at the start of the bytes, the first at 0. Answers 0 past the last one and where there is no PDU;
-   an address can be 0 too, so ask mant_read for path_count. */
-uint16_t mant_path_address(const uint8_t *bytes, size_t bytes_length, size_t place);
-
-/* Whether an address is anywhere in the path of the PDU at the start of the bytes. Without a path none is, nor where there is no PDU. */
-bool mant_path_has(const uint8_t *bytes, size_t bytes_length, uint16_t address);
-
-/* Writes the PDU at the start of the bytes again, from what reading shows of it under the edition: the same bytes under both. Answers 17 for an edition
-   that is none, 1 to 6 where there is no PDU, 14 where the output is too short. Leaves the output alone unless the number is 0. */
-MantWritten mant_write_again(uint64_t edition, const uint8_t *bytes, size_t bytes_length, uint8_t *output, size_t output_length);
-
-/* Where header and payload lie in the exchange that the bytes are, all of them. The whole of the bytes is judged first, also what is passed over: 57
-   where an element does not end within the run it stands in, 58 where one is at level 5, for the one that begins first, and 58 where it is both. Then 59
-   where the bytes are not one such exchange; 1 to 6 on header and payload joined; 63 where bytes follow the PDU, or where the header's part is not just
-   its header. To write what was read again, put the two together first, the header before the payload. */
-MantExchange mant_read_exchange(const uint8_t *bytes, size_t bytes_length);
-
-/* Writes the exchange of the PDU at the start of the bytes: header first, nothing beside the two, every type and length in the shorter form. Answers
-   1 to 6 where there is no PDU, 14 where the output is shorter than the exchange, and leaves the output alone then. Bytes after the PDU are not looked
-   at. */
-MantWritten mant_write_exchange(const uint8_t *bytes, size_t bytes_length, uint8_t *output, size_t output_length);
-
-/* Writes a fresh PDU with this payload. Answers 17, 10 to 13, 16 or 14, the first in this order that applies, where it can't. Leaves the output alone
-   unless the number is 0. */
-MantWritten mant_originate(MantFresh settings, const uint8_t *payload, size_t payload_length, uint8_t *output, size_t output_length);
 
 /* Whether an address is in some range of a list. An empty list holds none; a last value without a partner is no range. */
 bool mant_list_holds(const uint16_t *list, size_t list_length, uint16_t address);
@@ -567,9 +431,6 @@ MantAnswer mant_hear_eight(uint64_t edition, MantNode settings, MANT_EIGHT_LISTS
                            size_t output_length);
 MantStep mant_step_eight(uint64_t edition, MantNode settings, MANT_EIGHT_LISTS, const uint8_t *batch, size_t batch_length, MantCursor cursor,
                          uint8_t *output, size_t output_length);
-MantListened mant_hear_and_count_eight(uint64_t edition, MantNode settings, MANT_EIGHT_LISTS, const uint8_t *received, size_t received_length,
-                                       uint8_t *output, size_t output_length, uint16_t *table, size_t table_words);
-#undef MANT_EIGHT_LISTS
 
 /* The lists at the address, or eight that are empty where it is NULL. */
 static inline const MantLists *mant_lists_at(const MantLists *lists)
@@ -612,10 +473,8 @@ static inline MantAnswer mant_hear(uint64_t edition, MantNode settings, const Ma
    cursor, so go on only while the kind is MANT_ANSWERED. 17 comes before that: under another number than 11 and 12 a cursor
    with a byte left is answered 17, and MANT_ENDED after it. The output is changed as by mant_hear, and left alone with kinds 1 and 2.
 
-   In the loop below, the PDU that was answered began at s.next.place - s.answer.taken, also where taken is 0. The places in the answer count from
-   there: a delivered payload begins at batch + (s.next.place - s.answer.taken) + s.answer.delivered_place.
-
-       for (MantStep s = mant_step(.., (MantCursor){0, false}, ..); s.kind == MANT_ANSWERED; s = mant_step(.., s.next, ..)) { .. } */
+   The PDU that a step s answered began at s.next.place - s.answer.taken, also where taken is 0. The places in the answer count from there: a delivered
+   payload begins at batch + (s.next.place - s.answer.taken) + s.answer.delivered_place. */
 static inline MantStep mant_step(uint64_t edition, MantNode settings, const MantLists *lists, const uint8_t *batch, size_t batch_length,
                                  MantCursor cursor, uint8_t *output, size_t output_length)
 {
@@ -623,7 +482,81 @@ static inline MantStep mant_step(uint64_t edition, MantNode settings, const Mant
     return mant_step_eight(edition, settings, MANT_SPREAD(lists), batch, batch_length, cursor, output, output_length);
 }
 
-/* How many stations the table has room for, 0 to 128, and how many it holds. Document 02, W-201, as all that take a table. */
+/* Example: node 2000 in the flood season walks over the reports of two gauges, of which its list passes the first.
+
+       const uint16_t dry[] = {1001, 1999}, flood[] = {1000, 1999};
+       const MantLists lists = {.source_pass = {.first = {dry, 2}, .second = {flood, 2}}};
+       const MantNode node = {.own = 2000, .echo = true, .repeating = true, .source_pass = MANT_SECOND_LIST};
+       const uint8_t batch[] = {0x02, 0x00, 0x10, 0x01, 0x03, 0xE8, 0x00, 0x2A, 0x02, 0x00, 0x10, 0x01, 0x0B, 0xB8, 0x00, 0x2B};
+       uint8_t repeated[MANT_PDU_LIMIT];
+       unsigned repeats = 0;
+       MantCursor cursor = {0, false};
+       for (;;) {
+           MantStep step = mant_step(MANT_EDITION_1_2, node, &lists, batch, sizeof batch, cursor, repeated, sizeof repeated);
+           if (step.kind != MANT_ANSWERED) {
+               break;
+           }
+           if (step.answer.repeat == MANT_DONE) {
+               repeats++; // the first step.answer.repeated_length bytes of repeated are to be sent
+           }
+           cursor = step.next;
+       }
+       assert(repeats == 1 && cursor.place == sizeof batch);
+       MantAnswer answer = mant_hear(MANT_EDITION_1_2, node, &lists, batch + 8, 8, repeated, sizeof repeated);
+       assert(answer.delivery == MANT_SOURCE_NOT_PASSED && answer.repeat == MANT_SOURCE_NOT_PASSED && answer.last_sender == 3000); */
+
+/* ---- Stations heard ----
+ *
+ * Which stations a box hears (document 02, W-201): how many PDUs were read from each, how many of them echo dropped, its shortest path count.
+ * Memory: a table of uint16_t words, MANT_STATION_WORDS of them, 1,026 bytes, for MANT_STATION_LIMIT stations; more words have room for no more, fewer for
+ *     (words - 1) / 4, and fewer than 5 for none. It is empty where its first word is 0, whatever stands behind it. The first word is how many are held;
+ *     then come four words for each station, by rising address: its address, the PDUs read from it, those of them that echo dropped, and one more than its
+ *     shortest path count, 0 while that is absent. A first word above the room is a full table's. Where a call changes the table it writes the first
+ *     word and the words of the stations then held, and keeps those behind them; where it does not, no word changes. Words put together by hand are held
+ *     and listed as they stand there, but by address stations are looked for as if the addresses rose, so that where they do not, one that stands there
+ *     may not be found.
+ * Numbers: 55, 56.
+ * Stack: mant_stations_capacity 8, mant_stations_held 8, mant_station_at 8, mant_station_of 56, mant_remove_station 56, mant_count_heard 104,
+ *     mant_count_answer 168, mant_hear_and_count 1,192.
+ */
+
+#define MANT_STATION_LIMIT 128
+#define MANT_STATION_WORDS 513
+
+/* A station that was heard. The counts stop at 65,535, each by itself. */
+typedef struct MantStation {
+    uint16_t address;
+    uint16_t reads;           /* the PDUs read from it */
+    uint16_t echoes;          /* those of them that echo dropped */
+    bool has_path;            /* false: none of them had the path bit, and so there is no shortest path count */
+    uint16_t shortest_path;   /* the least path count of those that had it; 0 where there is none */
+} MantStation;
+MANT_SIZE(MantStation, 10);
+
+/* What asking for a station answers: number 0 and the station, or 56 and a station that is all 0. */
+typedef struct MantFound {
+    uint8_t number;
+    MantStation station;
+} MantFound;
+MANT_SIZE(MantFound, 12);
+
+/* What a table counts of a PDU that was read. */
+typedef struct MantHeard {
+    uint16_t source;
+    bool echo;                /* the node dropped it by echo: it answered 30 or 42 */
+    bool path_bit;            /* false: it has no path, and `path_count` does not count */
+    uint8_t path_count;
+} MantHeard;
+MANT_SIZE(MantHeard, 6);
+
+/* What hearing and counting answers: the node's answer, which does not depend on the table, and the table's number, 0 or 55. */
+typedef struct MantListened {
+    MantAnswer answer;
+    uint8_t table_number;
+} MantListened;
+MANT_SIZE(MantListened, 48);
+
+/* How many stations the table has room for, 0 to 128, and how many it holds. */
 size_t mant_stations_capacity(const uint16_t *table, size_t table_words);
 size_t mant_stations_held(const uint16_t *table, size_t table_words);
 
@@ -644,14 +577,16 @@ uint8_t mant_remove_station(uint16_t *table, size_t table_words, uint16_t addres
 uint8_t mant_count_heard(uint16_t *table, size_t table_words, MantHeard heard);
 
 /* Counts the PDU at the start of the received bytes by what a node answered for it, as mant_count_heard does: delivery number 30 or 42 is an echo.
-   Where the answer says that no PDU was read, `taken` is 0: it answers 0 and leaves the table alone. It is for a walk, after each step: in the loop
-   above, with received = batch + (s.next.place - s.answer.taken) and the bytes from there to the batch's end; a step without an answer counts nothing.
+   Where the answer says that no PDU was read, `taken` is 0: it answers 0 and leaves the table alone. It is for a walk, after each step s that answered:
+   with received = batch + (s.next.place - s.answer.taken) and the bytes from there to the batch's end; a step without an answer counts nothing.
    Of an answer that is not the node's for these bytes, what they hold is counted. */
 uint8_t mant_count_answer(uint16_t *table, size_t table_words, const uint8_t *received, size_t received_length, MantAnswer answer);
 
 /* What mant_hear answers and writes to the output, and the PDU counted in the table as by mant_count_answer, so that no PDU is forgotten. Every PDU
    that could be read is counted, also one that a list then stops and one for whose repeat the output is too short. With table number 55 the PDU is
-   delivered and repeated all the same. */
+   delivered and repeated all the same. It hands its lists on as mant_hear does. */
+MantListened mant_hear_and_count_eight(uint64_t edition, MantNode settings, MANT_EIGHT_LISTS, const uint8_t *received, size_t received_length,
+                                       uint8_t *output, size_t output_length, uint16_t *table, size_t table_words);
 static inline MantListened mant_hear_and_count(uint64_t edition, MantNode settings, const MantLists *lists, const uint8_t *received,
                                                size_t received_length, uint8_t *output, size_t output_length, uint16_t *table, size_t table_words)
 {
@@ -659,14 +594,200 @@ static inline MantListened mant_hear_and_count(uint64_t edition, MantNode settin
     return mant_hear_and_count_eight(edition, settings, MANT_SPREAD(lists), received, received_length, output, output_length, table, table_words);
 }
 
-#undef MANT_LIST
-#undef MANT_TWO_LISTS
-#undef MANT_SPREAD
+/* Example: node 2000 hears gauge 1000 twice, the second time as an echo of its own repeat.
+
+       static uint16_t table[MANT_STATION_WORDS];
+       const MantNode node = {.own = 2000, .echo = true, .repeating = true};
+       const uint8_t report[] = {0x02, 0x00, 0x10, 0x01, 0x03, 0xE8, 0x00, 0x2A};
+       uint8_t repeated[10], output[MANT_PDU_LIMIT];
+       MantListened heard = mant_hear_and_count(MANT_EDITION_1_2, node, NULL, report, 8, repeated, 10, table, MANT_STATION_WORDS);
+       assert(heard.answer.repeat == MANT_DONE && heard.table_number == MANT_DONE);
+       heard = mant_hear_and_count(MANT_EDITION_1_2, node, NULL, repeated, 10, output, sizeof output, table, MANT_STATION_WORDS);
+       assert(heard.answer.delivery == MANT_ECHO);
+       for (size_t i = 0; i < mant_stations_held(table, MANT_STATION_WORDS); i++) {
+           MantStation station = mant_station_at(table, MANT_STATION_WORDS, i).station;
+           assert(station.address == 1000 && station.reads == 2 && station.echoes == 1 && station.shortest_path == 0);
+       }
+       assert(mant_station_of(table, MANT_STATION_WORDS, 1001).number == MANT_NOT_HELD); */
+
+/* ---- The transmit queue ----
+ *
+ * PDUs wait there for the modem's next slot (document 02, W-206 and W-207), and come out whole and in order, as many as fit.
+ * Memory: a queue of MANT_QUEUE_LENGTH bytes, for MANT_QUEUE_PDUS PDUs that have MANT_QUEUE_BYTES bytes together; more bytes have room for no more, fewer
+ *     for all but four of them. It is empty where its first four bytes are 0, whatever stands behind them. They are two numbers of two bytes, most
+ *     significant first, how many PDUs are held and how many bytes they have together; then come the PDUs back to back, the oldest first. Where a call
+ *     changes the queue it writes the PDUs then held and before them their two numbers, and keeps the bytes behind them; where it does not, no byte changes.
+ *     So in a queue that began empty the numbers are at all times those of the PDUs held. Of bytes put together by hand held are the PDUs that can be read
+ *     there one after the other, 32 at most, within as many bytes as the second number tells, or as there is room for where it tells more;
+ *     mant_queue_clear does not look at them, and mant_queue_level answers the two numbers as they stand.
+ * Numbers: 60 to 62.
+ * Stack: mant_queue_add 88, mant_queue_level 8, mant_queue_take 136, mant_queue_clear 8.
+ */
+
+#define MANT_QUEUE_PDUS 32
+#define MANT_QUEUE_BYTES 2048
+#define MANT_QUEUE_LENGTH 2052
+
+/* How many PDUs a queue holds, and how many bytes they have together. */
+typedef struct MantLevel {
+    size_t pdus;
+    size_t bytes;
+} MantLevel;
+MANT_SIZE(MantLevel, 16);
+
+/* What taking from a queue answers: number 0, how many PDUs were taken and how many bytes they fill in the output. With 62 both are 0. */
+typedef struct MantBatch {
+    uint8_t number;           /* 0 or 62 */
+    size_t pdus;
+    size_t bytes;
+} MantBatch;
+MANT_SIZE(MantBatch, 24);
+
+/* How many PDUs and bytes a queue holds: the two numbers that it keeps, without a look at its PDUs, so that the cost is the same for any number of
+   them. A byte of the four that is not there counts as 0. */
+MantLevel mant_queue_level(const uint8_t *queue, size_t queue_length);
+
+/* Adds a PDU to a queue, behind those that it holds. Answers 61 where the bytes are not one PDU and nothing else, whatever the queue holds; then 60 where
+   it holds MANT_QUEUE_PDUS PDUs, or where their bytes and the new ones are more than it has room for. With both it leaves the queue alone; else it answers
+   0. */
+uint8_t mant_queue_add(uint8_t *queue, size_t queue_length, const uint8_t *pdu, size_t pdu_length);
+
+/* Takes PDUs from a queue, from the oldest on, up to the first that the output has no room for: writes them to the output back to back, as one batch
+   for mant_step, and releases them. Answers 62 where there is no room for the oldest. Where the queue holds none, the number is 0 and nothing is taken.
+   In these two cases queue and output are left alone. */
+MantBatch mant_queue_take(uint8_t *queue, size_t queue_length, uint8_t *output, size_t output_length);
+
+/* Drops all PDUs that a queue holds: both numbers are 0 then, and every byte behind them is kept. Fewer than four bytes, which hold none, are left
+   alone. */
+void mant_queue_clear(uint8_t *queue, size_t queue_length);
+
+/* Example: two PDUs wait, and the slot has room for one.
+
+       static uint8_t queue[MANT_QUEUE_LENGTH];
+       const uint8_t first[] = {0x02, 0x00, 0x10, 0x01, 0x03, 0xE8, 0x00, 0x2A}, second[] = {0x00, 0x00, 0x00, 0x01, 0x03, 0xE9, 0x2B};
+       uint8_t slot[12];
+       assert(mant_queue_add(queue, sizeof queue, first, sizeof first) == MANT_DONE);
+       assert(mant_queue_add(queue, sizeof queue, second, sizeof second) == MANT_DONE);
+       MantBatch batch = mant_queue_take(queue, sizeof queue, slot, sizeof slot);
+       assert(batch.number == MANT_DONE && batch.pdus == 1 && batch.bytes == sizeof first); // the first batch.bytes bytes of slot are to be sent
+       MantLevel level = mant_queue_level(queue, sizeof queue);
+       assert(level.pdus == 1 && level.bytes == sizeof second); */
+
+/* ---- The serial exchange ----
+ *
+ * What a decoder and an encoder that are two devices send each other (document 02, W-202; document 003, section 3, for the elements): one
+ * element of type 20 that is all of the bytes, and in it an element of type 1024, the PDU's header, and one of type 1025, its payload, one of each, in
+ * either order; elements of other types may stand there too. A type or a length below 128 is one byte, or two that say the same; from 128 on it is two,
+ * with 128 added to the first of them. Elements of types 10, 11 and 20 hold elements, four levels down at most, of which the exchange is the first. What
+ * frames it on the line is the driver's.
+ * Memory: none.
+ * Numbers: in reading 57 to 59, 1 to 6 and 63; in writing 1 to 6 and 14.
+ * Stack: mant_read_exchange 496, mant_write_exchange 168.
+ */
+
+/* The most bytes that mant_write_exchange writes. */
+#define MANT_EXCHANGE_LIMIT 4626
+
+/* Where the parts of a PDU lie in an exchange that was read. Places count from its first byte. With a number other than 0 every field after it is 0. */
+typedef struct MantExchange {
+    uint8_t number;           /* 0; else 57, 58, 59, 1 to 6 or 63 */
+    size_t header_place;
+    size_t header_length;
+    size_t payload_place;     /* with an empty payload, where it would begin; that may be the end of the bytes */
+    size_t payload_length;
+} MantExchange;
+MANT_SIZE(MantExchange, 40);
+
+/* Where header and payload lie in the exchange that the bytes are, all of them. The whole of the bytes is judged first, also what is passed over: 57
+   where an element does not end within the run it stands in, 58 where one is at level 5, for the one that begins first, and 58 where it is both. Then 59
+   where the bytes are not one such exchange; 1 to 6 on header and payload joined; 63 where bytes follow the PDU, or where the header's part is not just
+   its header. To write what was read again, put the two together first, the header before the payload. */
+MantExchange mant_read_exchange(const uint8_t *bytes, size_t bytes_length);
+
+/* Writes the exchange of the PDU at the start of the bytes: header first, nothing beside the two, every type and length in the shorter form. Answers
+   1 to 6 where there is no PDU, 14 where the output is shorter than the exchange, and leaves the output alone then. Bytes after the PDU are not looked
+   at. */
+MantWritten mant_write_exchange(const uint8_t *bytes, size_t bytes_length, uint8_t *output, size_t output_length);
+
+/* Example: a PDU goes over the line and is put together again.
+
+       const uint8_t pdu[] = {0x02, 0x00, 0x10, 0x01, 0x03, 0xE8, 0x00, 0x2A};
+       uint8_t line[MANT_EXCHANGE_LIMIT], joined[MANT_PDU_LIMIT];
+       MantWritten written = mant_write_exchange(pdu, sizeof pdu, line, sizeof line);
+       assert(written.number == MANT_DONE && written.length == 16);
+       MantExchange parts = mant_read_exchange(line, written.length);
+       assert(parts.number == MANT_DONE);
+       memcpy(joined, line + parts.header_place, parts.header_length);
+       memcpy(joined + parts.header_length, line + parts.payload_place, parts.payload_length);
+       assert(parts.header_length + parts.payload_length == sizeof pdu && memcmp(joined, pdu, sizeof pdu) == 0); */
+
+/* ---- Reliable messages ----
+ *
+ * PDUs of protocol 1 that wait for their acknowledgement (document 02, W-210; document 000, section 3.3): retained when they are sent, sent again where it
+ * is late, reported failed where it never comes, freed where it does. What such a PDU asks of the box that it was sent to is written here too.
+ * Memory: a table of MANT_RECORDS records of 280 bytes, and beside it the last accepted time, which each call answers and the next is given; 0 stands for
+ *     no time accepted yet. Times are whole seconds of a clock that does not go back. A record is in use where its length is MANT_RETAINED_LIMIT at most and
+ *     its PDU exactly one of protocol 1 with ACK clear and no path address; every other is free, one of all zeros too, so that the records may hold
+ *     anything before the first call. The first is always the one at the lowest place. Where a call changes the table it changes one record; with a
+ *     refusal none, nor the last time.
+ * Numbers: 10, 11, 70 to 75, 77.
+ * Stack: mant_retain 3,304, mant_retry 3,288, mant_acknowledge 3,128.
+ */
+
+/* How many records a table of retained PDUs has, and how many bytes the longest PDU that it retains. */
+#define MANT_RECORDS 16
+#define MANT_RETAINED_LIMIT 256
+
+/* A record of a retained PDU, which is the first `length` bytes of `pdu`; zeros stand behind it. A record that was freed or dropped is all zeros. */
+typedef struct MantRetained {
+    uint8_t pdu[MANT_RETAINED_LIMIT];
+    size_t length;
+    uint64_t sent_at;         /* when it was last sent, or retained */
+    uint64_t count;           /* how often it was sent again */
+} MantRetained;
+MANT_SIZE(MantRetained, 280);
+
+/* What a retained PDU is known by. */
+typedef struct MantNames {
+    uint16_t source;
+    uint16_t destination;
+    uint8_t pdu_id;
+} MantNames;
+MANT_SIZE(MantNames, 6);
+
+enum MantDeed {
+    MANT_DEED_NONE = 0,
+    MANT_DEED_RETAINED = 1,     /* the PDU is in the record at `place` */
+    MANT_DEED_SENT_AGAIN = 2,   /* the PDU of the record at `place` is in the output, to be sent */
+    MANT_DEED_FAILED = 3,       /* the record at `place` was dropped: its PDU was not acknowledged */
+    MANT_DEED_FREED = 4,        /* the record at `place` was freed: its PDU was acknowledged */
+    MANT_DEED_ACKNOWLEDGED = 5  /* the acknowledgement of the PDU received is in the output, to be sent */
+};
+
+/* What the calls with a table of retained PDUs answer. With a number other than 0 the deed is 0 and `last` the one given; what a deed has not is 0. */
+typedef struct MantOutcome {
+    uint8_t number;
+    uint8_t deed;
+    uint64_t last;            /* the last accepted time, to be given to the next call */
+    size_t place;             /* with deeds 1 to 4: the record's, the first at 0 */
+    MantNames names;          /* with deeds 1 to 4: the retained PDU's; with 5: the received PDU's */
+    size_t length;            /* with deeds 2 and 5: how many bytes were written to the output */
+} MantOutcome;
+MANT_SIZE(MantOutcome, 40);
+
+/* What an acknowledgement is sent with, as in MantFresh; hop limit and port count only where one is due. */
+typedef struct MantSending {
+    uint64_t hop_limit;       /* 0 to 7 */
+    uint64_t port;            /* 0 to 15 */
+    bool time_stamp_request;
+    bool with_path;
+} MantSending;
+MANT_SIZE(MantSending, 24);
 
 /* Retains a PDU that is sent at this time, in the first free record, with count 0; nothing is written. Answers 74 where there are not MANT_RECORDS
    records, 73 where the time is earlier than the last accepted one, 75 where the bytes are not exactly one PDU of protocol 1 with ACK clear and no path
    address, 72 where it has more than MANT_RETAINED_LIMIT bytes, 71 where one of the same source, destination and ID is retained, 70 where no record is
-   free, the first that applies. Document 02, W-210, as the next two. */
+   free, the first that applies. */
 MantOutcome mant_retain(MantRetained *table, size_t records, uint64_t last, uint64_t time, const uint8_t *pdu, size_t pdu_length);
 
 /* One step: takes the first record in use whose time lies the delay or more before this time; one that lies after it is not taken. Where its PDU was
@@ -686,38 +807,108 @@ MantOutcome mant_retry(MantRetained *table, size_t records, uint64_t last, uint6
 MantOutcome mant_acknowledge(MantRetained *table, size_t records, uint64_t last, const uint8_t *received, size_t received_length, MantAnswer answer,
                              MantSending sending, uint8_t *output, size_t output_length);
 
-/* How many PDUs and bytes a queue holds: the two numbers that it keeps (W-207), without a look at its PDUs, so that the cost is the same for any number of
-   them. A byte of the four that is not there counts as 0. Document 02, W-206, as all that take a queue. */
-MantLevel mant_queue_level(const uint8_t *queue, size_t queue_length);
+/* Example: base 1000 commands gate 1600, is not answered for 30 seconds, sends again, and hears the acknowledgement.
 
-/* Adds a PDU to a queue, behind those that it holds. Answers 61 where the bytes are not one PDU and nothing else, whatever the queue holds; then 60 where
-   it holds MANT_QUEUE_PDUS PDUs, or where their bytes and the new ones are more than it has room for. With both it leaves the queue alone; else it answers
-   0. */
-uint8_t mant_queue_add(uint8_t *queue, size_t queue_length, const uint8_t *pdu, size_t pdu_length);
+       static MantRetained table[MANT_RECORDS], at_gate[MANT_RECORDS];
+       const MantFresh command = {.edition = MANT_EDITION_1_2, .source = 1000, .has_destination = true, .destination = 1600, .reliable = true, .pdu_id = 7};
+       const MantNode base = {.own = 1000, .echo = true}, gate = {.own = 1600, .echo = true};
+       const MantSending sending = {.hop_limit = 1};
+       uint8_t sent[MANT_RETAINED_LIMIT], reply[MANT_RETAINED_LIMIT];
+       size_t length = mant_originate(command, NULL, 0, sent, sizeof sent).length;
+       MantOutcome outcome = mant_retain(table, MANT_RECORDS, 0, 100, sent, length);
+       assert(outcome.deed == MANT_DEED_RETAINED && outcome.last == 100);
+       outcome = mant_retry(table, MANT_RECORDS, outcome.last, 130, 30, 2, sent, sizeof sent);
+       assert(outcome.deed == MANT_DEED_SENT_AGAIN && outcome.length == length && outcome.last == 130);
+       uint64_t last = outcome.last;
+       MantAnswer answer = mant_hear(MANT_EDITION_1_2, gate, NULL, sent, length, NULL, 0);
+       outcome = mant_acknowledge(at_gate, MANT_RECORDS, 0, sent, length, answer, sending, reply, sizeof reply);
+       assert(outcome.deed == MANT_DEED_ACKNOWLEDGED);
+       answer = mant_hear(MANT_EDITION_1_2, base, NULL, reply, outcome.length, NULL, 0);
+       outcome = mant_acknowledge(table, MANT_RECORDS, last, reply, outcome.length, answer, sending, sent, sizeof sent);
+       assert(outcome.deed == MANT_DEED_FREED && outcome.names.pdu_id == 7); */
 
-/* Takes PDUs from a queue, from the oldest on, up to the first that the output has no room for: writes them to the output back to back, as one batch
-   for mant_step, and releases them. Answers 62 where there is no room for the oldest. Where the queue holds none, the number is 0 and nothing is taken.
-   In these two cases queue and output are left alone. */
-MantBatch mant_queue_take(uint8_t *queue, size_t queue_length, uint8_t *output, size_t output_length);
+/* ---- Sealing and opening ----
+ *
+ * Payloads that nobody without the key can read or make (document 02, W-212; document 000, section 3.5): a PDU sealed by who sends it, its payload opened by
+ * who it is for, once. Repeaters need no key.
+ * Memory: to open, a record of uint32_t words, MANT_SOURCE_WORDS of them, 516 bytes, for MANT_SOURCE_LIMIT sources, to be kept over a restart too; more
+ *     words have room for no more, fewer for (words - 1) / 2. It is empty where its first word is 0. The first word is how many sources are held; then come
+ *     two words for each, its address and the last message number accepted from it. A first word above the room is a full record's. A record is changed
+ *     only where a PDU is opened (number 0): then the number of its source's entry is written, or a new source is put behind the others and counted; every
+ *     other word is kept, but that a first word above the room becomes the room. A caller who changes the key empties the record. Of words put together by
+ *     hand the first entry of a source counts, and an address above 65,535 is no source's. To seal, none, but the caller counts the message numbers.
+ * Numbers: in sealing 1 to 6, 88, 85, 86 and 87; in opening 1 to 6, 80 to 84 and 87.
+ * Stack: mant_seal 1,424, mant_open 1,504.
+ */
 
-/* Drops all PDUs that a queue holds: both numbers are 0 then, and every byte behind them is kept. Fewer than four bytes, which hold none, are left alone.
-   Document 02, W-207. */
-void mant_queue_clear(uint8_t *queue, size_t queue_length);
+#define MANT_SOURCE_LIMIT 64
+#define MANT_SOURCE_WORDS 129
+
+/* How many bytes longer a sealed PDU is: its message number and its hash. The greatest message number. */
+#define MANT_SEAL_LENGTH 7
+#define MANT_NUMBER_LIMIT 16777215
+
+/* A key of AES-128. */
+typedef struct MantKey {
+    uint8_t bytes[16];
+} MantKey;
+MANT_SIZE(MantKey, 16);
 
 /* Seals the PDU at the start of the bytes: writes it with its payload enciphered under the key, its encrypted bit set, its time stamp request clear and
    its payload MANT_SEAL_LENGTH bytes longer; hop limit, path and all else are as they were. Answers 1 to 6 where there is no PDU, 88 where its encrypted
    bit is set already, 85 where the payload would have more than MANT_PAYLOAD_LIMIT bytes, 86 where the number is above MANT_NUMBER_LIMIT, 87 where the
    output is shorter than the sealed PDU, the first that applies, and leaves the output alone then. Bytes after the PDU are not looked at. Under one key
-   no source may use a number twice: the caller counts them up, and keeps the count over a restart. Document 02, W-212. */
+   no source may use a number twice: the caller counts them up, and keeps the count over a restart. */
 MantWritten mant_seal(MantKey key, uint64_t number, const uint8_t *pdu, size_t pdu_length, uint8_t *output, size_t output_length);
 
 /* Opens the sealed PDU at the start of the bytes: writes its plain payload, and notes its number in the record. Answers 1 to 6 where there is no PDU, 80
    where its encrypted bit is clear, 81 where its payload is shorter than MANT_SEAL_LENGTH, 82 where the record holds its source with this number or a
    greater one, 83 where its hash is another, 84 where its source is new and the record full, 87 where the output is shorter than the plain payload, the
    first that applies, and leaves output and record alone then. Against the same record it opens the same after any repeats as before them; once opened, a
-   repeat of it is 82. Of a source that the record does not hold any number is taken, so an empty record takes what it has taken before. Document 02, W-212. */
+   repeat of it is 82. Of a source that the record does not hold any number is taken, so an empty record takes what it has taken before. */
 MantWritten mant_open(MantKey key, uint32_t *record, size_t record_words, const uint8_t *pdu, size_t pdu_length, uint8_t *output,
                       size_t output_length);
+
+/* Example: a command under message number 850 opens once.
+
+       static uint32_t record[MANT_SOURCE_WORDS];
+       const MantKey key = {{1, 2, 3, 4, 5, 6, 7, 8, 9, 10, 11, 12, 13, 14, 15, 16}};
+       const uint8_t pdu[] = {0x02, 0x00, 0x10, 0x01, 0x03, 0xE8, 0x00, 0x2A};
+       uint8_t sealed[MANT_PDU_LIMIT], plain[MANT_PAYLOAD_LIMIT];
+       MantWritten written = mant_seal(key, 850, pdu, sizeof pdu, sealed, sizeof sealed);
+       assert(written.number == MANT_DONE && written.length == sizeof pdu + MANT_SEAL_LENGTH);
+       MantWritten opened = mant_open(key, record, MANT_SOURCE_WORDS, sealed, written.length, plain, sizeof plain);
+       assert(opened.number == MANT_DONE && opened.length == 1 && plain[0] == 0x2A);
+       opened = mant_open(key, record, MANT_SOURCE_WORDS, sealed, written.length, plain, sizeof plain);
+       assert(opened.number == MANT_NUMBER_NOT_GREATER); */
+
+/* ---- Planning ----
+ *
+ * How often one report can go out at most, and how many bytes that is on the air; and the sizes, for a program in another language.
+ * Memory: none.
+ * Numbers: 10.
+ * Stack: mant_most_transmissions 8, mant_most_bytes 8, mant_limits 8.
+ */
+
+/* A bound. Number 10: the hop limit is above 7. Too large: 64 bits do not hold the value. In both the value is 0. */
+typedef struct MantBound {
+    uint8_t number;
+    bool too_large;
+    uint64_t value;
+} MantBound;
+MANT_SIZE(MantBound, 16);
+
+/* MANT_FIXED_LENGTH, MANT_PAYLOAD_LIMIT and so on. */
+typedef struct MantLimits {
+    size_t fixed;
+    size_t payload;
+    size_t path;
+    size_t header;
+    size_t pdu;
+    size_t list;
+    size_t batch;
+} MantLimits;
+MANT_SIZE(MantLimits, 56);
 
 /* The most transmissions that one fresh PDU with a path and this hop limit can cause among so many repeating nodes, its first sending counted. Echo is
    on at each node, and no two have the same address. The node at the PDU's source address hears too, with echo on, and does not count among these nodes,
@@ -729,6 +920,20 @@ MantBound mant_most_bytes(uint64_t nodes, uint64_t hop_limit, uint64_t size);
 
 /* The sizes above, as the library has them. */
 MantLimits mant_limits(void);
+
+/* Example: one report of 20 bytes among five repeaters, with hop limit 3.
+
+       assert(mant_most_transmissions(5, 3).value == 86);
+       assert(mant_most_bytes(5, 3, 20).value == 2170);
+       MantBound bound = mant_most_transmissions(5, 8);
+       assert(bound.number == MANT_HOP_LIMIT_ABOVE_7 && bound.value == 0);
+       assert(mant_limits().pdu == MANT_PDU_LIMIT); */
+
+#undef MANT_EIGHT_LISTS
+#undef MANT_LIST
+#undef MANT_TWO_LISTS
+#undef MANT_SPREAD
+#undef MANT_SIZE
 
 #ifdef __cplusplus
 }

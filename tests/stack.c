@@ -4,8 +4,8 @@
 
        gcc -std=c11 -O2 -Wall -Wextra -pedantic tests/stack.c -Iinclude target/staticlib/libmant.a -o /tmp/stack && /tmp/stack
 
-   prints the bytes of each function, the most of the calls tried, and fails where they are more than its limit. Those that take lists are called through
-   the functions of mant.h, and what these take is counted too. */
+   prints the bytes of each function, the most of the calls tried, and its limit, and fails where they are more than that. Those that take lists are called
+   through the functions of mant.h, and what these take is counted too. tools/stack holds include/mant.h and docs/PERFORMANCE.md to what it prints. */
 #include <stdio.h>
 #include <string.h>
 
@@ -61,6 +61,7 @@ CALL(path_address_call, mant_path_address(pdu, sizeof pdu, 253) == 1799)
 CALL(path_has_call, !mant_path_has(pdu, sizeof pdu, 1))
 CALL(write_again_call, mant_write_again(EDITION, LENT).length == PDU_LENGTH)
 CALL(originate_call, mant_originate(fresh, pdu, MANT_PAYLOAD_LIMIT, output, sizeof output).length == 4105)
+CALL(originate_short_call, mant_originate(fresh, pdu, 9, output, sizeof output).length == 19)
 CALL(list_fault_call, mant_list_fault(LISTS) == 0)
 CALL(list_holds_call, !mant_list_holds(list, MANT_LIST_LIMIT, 1))
 CALL(hear_cut_call, mant_hear(EDITION, node, NO_LISTS, pdu, 20, output, sizeof output).repeat == MANT_HEADER_CUT)
@@ -111,7 +112,7 @@ static const struct {
     {"mant_path_address", {path_address_call}},
     {"mant_path_has", {path_has_call}},
     {"mant_write_again", {write_again_call}},
-    {"mant_originate", {originate_call}},
+    {"mant_originate", {originate_call, originate_short_call}},
     {"mant_list_fault_eight", {list_fault_call}},
     {"mant_list_holds", {list_holds_call}},
     {"mant_hear_eight", {hear_cut_call, hear_call, hear_listed_call}},
@@ -207,9 +208,9 @@ int main(void)
             size_t depth = depth_of(functions[i].calls[k]);
             most = depth > most ? depth : most;
         }
-        bool too_many = most > limit_of(functions[i].name);
-        status = too_many ? 1 : status;
-        printf("%s %zu%s\n", functions[i].name, most, too_many ? ", too many" : "");
+        size_t limit = limit_of(functions[i].name);
+        status = most > limit ? 1 : status;
+        printf("%s %zu of %zu%s\n", functions[i].name, most, limit, most > limit ? ", too many" : "");
     }
     if (!meant) {
         printf("a call did not go the long way\n");
