@@ -508,13 +508,13 @@ static inline MantStep mant_step(uint64_t edition, MantNode settings, const Mant
 /* ---- Stations heard ----
  *
  * Which stations a box hears (document 02, W-201): how many PDUs were read from each, how many of them echo dropped, its shortest path count.
- * Memory: a table of uint16_t words, MANT_STATION_WORDS of them, 1,026 bytes, for MANT_STATION_LIMIT stations; more words have room for no more, fewer for
- *     (words - 1) / 4, and fewer than 5 for none. It is empty where its first word is 0, whatever stands behind it. The first word is how many are held;
- *     then come four words for each station, by rising address: its address, the PDUs read from it, those of them that echo dropped, and one more than its
- *     shortest path count, 0 while that is absent. A first word above the room is a full table's. Where a call changes the table it writes the first
- *     word and the words of the stations then held, and keeps those behind them; where it does not, no word changes. Words put together by hand are held
- *     and listed as they stand there, but by address stations are looked for as if the addresses rose, so that where they do not, one that stands there
- *     may not be found.
+ * Memory: a table that the caller lends: MANT_STATION_WORDS uint16_t words, 1,026 bytes, for MANT_STATION_LIMIT stations; more words have room for no more,
+ *     fewer for (words - 1) / 4, and fewer than 5 for none. It is empty where its first word is 0, whatever stands behind it. The first word is how many
+ *     are held; then come four words for each station, by rising address: its address, the PDUs read from it, those of them that echo dropped, and one more
+ *     than its shortest path count, 0 while that is absent. A first word above the room is a full table's. Where a call changes the table it writes the
+ *     first word and the words of the stations then held, and keeps those behind them; where it does not, no word changes. Words put together by hand are
+ *     held and listed as they stand there, but by address stations are looked for as if the addresses rose, so that where they do not, one that stands
+ *     there may not be found.
  * Numbers: 55, 56.
  * Stack: mant_stations_capacity 8, mant_stations_held 8, mant_station_at 8, mant_station_of 56, mant_remove_station 56, mant_count_heard 104,
  *     mant_count_answer 168, mant_hear_and_count 1,192.
@@ -613,8 +613,8 @@ static inline MantListened mant_hear_and_count(uint64_t edition, MantNode settin
 /* ---- The transmit queue ----
  *
  * PDUs wait there for the modem's next slot (document 02, W-206 and W-207), and come out whole and in order, as many as fit.
- * Memory: a queue of MANT_QUEUE_LENGTH bytes, for MANT_QUEUE_PDUS PDUs that have MANT_QUEUE_BYTES bytes together; more bytes have room for no more, fewer
- *     for all but four of them. It is empty where its first four bytes are 0, whatever stands behind them. They are two numbers of two bytes, most
+ * Memory: a queue that the caller lends: MANT_QUEUE_LENGTH bytes, for MANT_QUEUE_PDUS PDUs that have MANT_QUEUE_BYTES bytes together; more have room for no
+ *     more, fewer for all but four of them. It is empty where its first four bytes are 0, whatever stands behind them. They are two numbers of two bytes, most
  *     significant first, how many PDUs are held and how many bytes they have together; then come the PDUs back to back, the oldest first. Where a call
  *     changes the queue it writes the PDUs then held and before them their two numbers, and keeps the bytes behind them; where it does not, no byte changes.
  *     So in a queue that began empty the numbers are at all times those of the PDUs held. Of bytes put together by hand held are the PDUs that can be read
@@ -725,11 +725,11 @@ MantWritten mant_write_exchange(const uint8_t *bytes, size_t bytes_length, uint8
  *
  * PDUs of protocol 1 that wait for their acknowledgement (document 02, W-210; document 000, section 3.3): retained when they are sent, sent again where it
  * is late, reported failed where it never comes, freed where it does. What such a PDU asks of the box that it was sent to is written here too.
- * Memory: a table of MANT_RECORDS records of 280 bytes, and beside it the last accepted time, which each call answers and the next is given; 0 stands for
- *     no time accepted yet. Times are whole seconds of a clock that does not go back. A record is in use where its length is MANT_RETAINED_LIMIT at most and
- *     its PDU exactly one of protocol 1 with ACK clear and no path address; every other is free, one of all zeros too, so that the records may hold
- *     anything before the first call. The first is always the one at the lowest place. Where a call changes the table it changes one record; with a
- *     refusal none, nor the last time.
+ * Memory: a table that the caller lends: MANT_RECORDS records, 4,480 bytes. Beside it the caller keeps the last accepted time, which each call answers and
+ *     the next is given; 0 stands for no time accepted yet. Times are whole seconds of a clock that does not go back. A record is in use where its length is
+ *     MANT_RETAINED_LIMIT at most and its PDU exactly one of protocol 1 with ACK clear and no path address; every other is free, one of all zeros too, so
+ *     that the records may hold anything before the first call. The first is always the one at the lowest place. Where a call changes the table it
+ *     changes one record; with a refusal none, nor the last time.
  * Numbers: 10, 11, 70 to 75, 77.
  * Stack: mant_retain 3,304, mant_retry 3,288, mant_acknowledge 3,128.
  */
@@ -831,12 +831,13 @@ MantOutcome mant_acknowledge(MantRetained *table, size_t records, uint64_t last,
  *
  * Payloads that nobody without the key can read or make (document 02, W-212; document 000, section 3.5): a PDU sealed by who sends it, its payload opened by
  * who it is for, once. Repeaters need no key.
- * Memory: to open, a record of uint32_t words, MANT_SOURCE_WORDS of them, 516 bytes, for MANT_SOURCE_LIMIT sources, to be kept over a restart too; more
- *     words have room for no more, fewer for (words - 1) / 2. It is empty where its first word is 0. The first word is how many sources are held; then come
- *     two words for each, its address and the last message number accepted from it. A first word above the room is a full record's. A record is changed
- *     only where a PDU is opened (number 0): then the number of its source's entry is written, or a new source is put behind the others and counted; every
- *     other word is kept, but that a first word above the room becomes the room. A caller who changes the key empties the record. Of words put together by
- *     hand the first entry of a source counts, and an address above 65,535 is no source's. To seal, none, but the caller counts the message numbers.
+ * Memory: to open, a record that the caller lends, and keeps over a restart too: MANT_SOURCE_WORDS uint32_t words, 516 bytes, for MANT_SOURCE_LIMIT sources;
+ *     more words have room for no more, fewer for (words - 1) / 2. It is empty where its first word is 0. The first word is how many sources are held; then
+ *     come two words for each, its address and the last message number accepted from it. A first word above the room is a full record's. A record is
+ *     changed only where a PDU is opened (number 0): then the number of its source's entry is written, or a new source is put behind the others and counted;
+ *     every other word is kept, but that a first word above the room becomes the room. A caller who changes the key empties the record. Of words put
+ *     together by hand the first entry of a source counts, and an address above 65,535 is no source's. To seal, none, but the caller counts the message
+ *     numbers.
  * Numbers: in sealing 1 to 6, 88, 85, 86 and 87; in opening 1 to 6, 80 to 84 and 87.
  * Stack: mant_seal 1,424, mant_open 1,504.
  */
