@@ -3,7 +3,8 @@
  *
  * Every call answers for every input: nothing has to be checked before it. What each answers is proved of the code in the library, against the
  * definitions in the crates' specs/ folders; this header declares it, and for a node hands its lists on from a struct. No call keeps anything between
- * calls, allocates, or does input or output. The library needs memcpy, memmove and memset, and no other function of the C library.
+ * calls, allocates, or does input or output, so two may run at once unless they share memory that one of them changes. The library needs memcpy, memmove
+ * and memset, and no other function of the C library.
  *
  * The groups, by what a box does:
  *
@@ -33,16 +34,16 @@
  * bytes are room for every PDU, MANT_EXCHANGE_LIMIT for every exchange, MANT_QUEUE_BYTES for all that a queue holds.
  *
  * Lent memory. What a box remembers lies in arrays of the caller's, who lends one to each call that needs it and keeps it from call to call: a table of
- * stations, a queue, a table of retained PDUs, a record of message numbers. Each is empty when it is all zeros, and may be of any number. With a refusal
- * nothing in it changes. Memory put together by hand, or not set at all, gets an answer too, which its group tells.
+ * stations, a queue, a table of retained PDUs, a record of message numbers. Each is empty when it is all zeros. With a refusal nothing in it changes. Memory
+ * put together by hand, or not set at all, gets an answer too, which its group tells.
  *
  * Edition. In edition 1.1 of the protocol the three bits after the port are one reserved number; in 1.2 the first of them is the encrypted flag
  * (document 02, W-209). What shows a header, writes one or hears as a node takes the edition as a number, MANT_EDITION_1_1 or MANT_EDITION_1_2. Any
  * other number, also one that would be 11 or 12 if it were cut to fewer bits, is answered 17 before all else is looked at. A node answers and repeats
  * the same, byte for byte, under both. Paths, exchanges and queues show none of these bits, and sealing is of 1.2 alone, so these take no edition.
  *
- * Stack. The bytes below the caller's stack pointer, return address included, of the deepest of the calls that tests/stack.c tries of a function, on x86-64.
- * tests/run_boundary measures them and fails where this header or docs/PERFORMANCE.md says otherwise.
+ * Stack. Bytes below the caller's stack pointer, return address included: the most of the calls that tests/stack.c tries of each. tests/run_boundary measures
+ * them, and fails where one is above its limit or is not the figure that stands here.
  *
  * Numbers. Every refusal has one: enum MantNumber below, and mant_meaning gives its words.
  */
@@ -220,7 +221,7 @@ MANT_SIZE(MantWritten, 16);
  *
  * What the bytes of a PDU say: each field of its header, its path, who sent it last, where its payload lies; and the PDU written again from that.
  * Memory: none.
- * Numbers: 17, 1 to 6; in writing also 14.
+ * Numbers: 17, 1 to 6; in writing again also 14.
  * Stack: mant_read 280, mant_path_address 136, mant_path_has 136, mant_write_again 232.
  */
 

@@ -2,7 +2,7 @@
    lies between that and the caller's stack pointer is the call's, its return address and what the C library's functions take included. From the
    repository's root, after rt staticlib mant:
 
-       gcc -std=c11 -O2 -Wall -Wextra -pedantic tests/stack.c -Iinclude target/staticlib/libmant.a -o /tmp/stack && /tmp/stack
+       gcc -std=c11 -O2 -Wall -Wextra -pedantic tests/stack.c -Iinclude target/staticlib/libmant.a -o /tmp/stack && LD_BIND_NOW=1 /tmp/stack
 
    prints the bytes of each function, the most of the calls tried, and its limit, and fails where they are more than that. Those that take lists are called
    through the functions of mant.h, and what these take is counted too. tools/stack holds include/mant.h and docs/PERFORMANCE.md to what it prints. */
