@@ -1,5 +1,5 @@
 //! Transmit queues (02, W-206 and W-207): what is done with one, and memory
-//! that holds one (include/mant.h, "Queue").
+//! that holds one (include/mant.h, "The transmit queue").
 
 use crate::random::Random;
 use crate::received::{cut, damaged, random_bytes};

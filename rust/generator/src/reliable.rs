@@ -1,5 +1,5 @@
 //! Reliable messages (02, W-210): what is done with a table of retained PDUs,
-//! and records that hold one (include/mant.h, "Retained PDUs").
+//! and records that hold one (include/mant.h, "Reliable messages").
 
 use crate::output::room;
 use crate::random::Random;

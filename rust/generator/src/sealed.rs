@@ -1,5 +1,5 @@
 //! Encrypted payloads (02, W-212): what is sealed and opened, and words that
-//! hold a record of last accepted numbers (include/mant.h, "Record").
+//! hold a record of last accepted numbers (include/mant.h, "Sealing and opening").
 
 use crate::output::room;
 use crate::random::Random;

@@ -1,4 +1,4 @@
-//! Tables of stations as words (include/mant.h, "Table"; 02, W-201).
+//! Tables of stations as words (include/mant.h, "Stations heard"; 02, W-201).
 
 use crate::random::Random;
 use crate::shape::address;
