@@ -45,7 +45,7 @@
  * Stack. Bytes below the caller's stack pointer, return address included: the most of the calls that tests/stack.c tries of each. tests/run_boundary measures
  * them, and fails where one is above its limit or is not the figure that stands here.
  *
- * Numbers. Every refusal has one: enum MantNumber below, and mant_meaning gives its words.
+ * Numbers. Every refusal has one: enum MantNumber below; mant_meaning, at the end, gives its words to a program.
  */
 #ifndef MANT_H
 #define MANT_H
@@ -129,75 +129,6 @@ enum MantNumber {
 
 /* No number: what delivery and repeat hold in a step that has no answer, MANT_ENDED. */
 #define MANT_NO_NUMBER 255
-
-/* What a number means, in words; "no such number" for any other. */
-static inline const char *mant_meaning(uint8_t number)
-{
-    switch (number) {
-    case MANT_DONE: return "done";
-    case MANT_TOO_SHORT: return "too short: every PDU has 6 bytes or more";
-    case MANT_WRONG_VERSION: return "its version is not 0";
-    case MANT_UNKNOWN_PROTOCOL: return "its protocol is neither 0 nor 1";
-    case MANT_NO_DESTINATION: return "it is reliable and has no destination";
-    case MANT_HEADER_CUT: return "the bytes end within its header";
-    case MANT_PAYLOAD_CUT: return "the bytes end within its payload";
-    case MANT_HOP_LIMIT_ABOVE_7: return "the hop limit asked for is above 7";
-    case MANT_PORT_ABOVE_15: return "the port asked for is above 15";
-    case MANT_PAYLOAD_TOO_LONG: return "the payload has more than 4,095 bytes";
-    case MANT_RELIABLE_WITHOUT_DESTINATION: return "reliable service needs a destination";
-    case MANT_OUTPUT_TOO_SHORT: return "the output has no room for the PDU, or for its exchange";
-    case MANT_RESERVED_ABOVE_3: return "reserved bits above 3: a number of this library's own, for a header put together by hand";
-    case MANT_NO_ENCRYPTED_FLAG: return "encryption is asked for, and edition 1.1 has no encrypted flag";
-    case MANT_UNKNOWN_EDITION: return "the edition is neither 11, which is 1.1, nor 12, which is 1.2";
-    case MANT_LOW_ABOVE_HIGH: return "a list has a range whose low is above its high";
-    case MANT_LIST_ODD: return "the last value of a list has no partner";
-    case MANT_LIST_TOO_LONG: return "a list has more than 128 values";
-    case MANT_ECHO: return "echo: this node is in the path";
-    case MANT_SOURCE_NOT_PASSED: return "the source pass list does not hold the source";
-    case MANT_SOURCE_REJECTED: return "the source reject list holds the source";
-    case MANT_DESTINATION_NOT_PASSED: return "the destination pass list does not hold the destination";
-    case MANT_DESTINATION_REJECTED: return "the destination reject list holds the destination";
-    case MANT_ADDED_HEADER: return "not delivered: it has an added header";
-    case MANT_REPEATING_OFF: return "not repeated: this node has repeating off";
-    case MANT_HOP_LIMIT_0: return "not repeated: its hop limit is 0";
-    case MANT_PATH_FULL: return "not repeated: its path is full, with 255 addresses";
-    case MANT_FOR_ANOTHER: return "not delivered: it is for another node";
-    case MANT_REPEAT_OUTPUT_TOO_SHORT: return "the output has no room for the repeated PDU";
-    case MANT_FOR_THIS_NODE: return "not repeated: it is for this node";
-    case MANT_OWN_REPORT: return "echo: this node is the source";
-    case MANT_JOB_CUT: return "the job ends too early";
-    case MANT_JOB_FLAGS: return "bit 6 or 7 of the job's flags is set";
-    case MANT_JOB_LIST_COUNT: return "a list of the job has more than 64 ranges";
-    case MANT_JOB_LEFT_OVER: return "the job goes on after its batch";
-    case MANT_BATCH_TOO_LONG: return "the batch has more than 16,384 bytes";
-    case MANT_TABLE_FULL: return "a new station, and the table holds as many as it has room for";
-    case MANT_NOT_HELD: return "no such station is held";
-    case MANT_ELEMENT_CUT: return "an element does not end within the run that it stands in";
-    case MANT_ELEMENT_TOO_DEEP: return "an element stands at level 5";
-    case MANT_NOT_AN_EXCHANGE: return "not one element of type 20 that holds one header and one payload";
-    case MANT_QUEUE_FULL: return "the queue holds 32 PDUs, or has no room for so many bytes more";
-    case MANT_NOT_ONE_PDU: return "not one whole PDU with nothing after it";
-    case MANT_OLDEST_TOO_LONG: return "the output has no room for the oldest PDU of the queue";
-    case MANT_NOT_SPLIT_AT_HEADER: return "bytes follow the PDU, or its two parts do not meet at the header's end";
-    case MANT_RECORDS_IN_USE: return "all 16 records are in use";
-    case MANT_ALREADY_RETAINED: return "a PDU of this source, destination and ID is already retained";
-    case MANT_ABOVE_256_BYTES: return "the PDU to retain has more than 256 bytes";
-    case MANT_EARLIER_TIME: return "the time is earlier than the last accepted one";
-    case MANT_NOT_16_RECORDS: return "the lent memory is not 16 records";
-    case MANT_NOT_RETAINABLE: return "not exactly one PDU of protocol 1 with ACK clear and no path address";
-    case MANT_SENDING_TOO_LONG: return "the output has no room for what is to be sent";
-    case MANT_NOT_ENCRYPTED: return "its encrypted bit is clear";
-    case MANT_TOO_SHORT_TO_OPEN: return "its payload is too short for a message number and a hash";
-    case MANT_NUMBER_NOT_GREATER: return "its message number is not greater than the last accepted from its source";
-    case MANT_HASH_DIFFERS: return "its hash differs: another key, or it was changed on its way";
-    case MANT_RECORD_FULL: return "a new source, and the record holds as many as it has room for";
-    case MANT_SEALED_TOO_LONG: return "the sealed payload would have more than 4,095 bytes";
-    case MANT_NUMBER_TOO_LARGE: return "the message number is above 16,777,215";
-    case MANT_NO_ROOM_FOR_PAYLOAD: return "the output has no room for the sealed PDU, or for the plain payload";
-    case MANT_ALREADY_ENCRYPTED: return "its encrypted bit is already set";
-    default: return "no such number";
-    }
-}
 
 /* The editions as numbers; no other number is one. */
 #define MANT_EDITION_1_1 11
@@ -930,6 +861,75 @@ MantLimits mant_limits(void);
        MantBound bound = mant_most_transmissions(5, 8);
        assert(bound.number == MANT_HOP_LIMIT_ABOVE_7 && bound.value == 0);
        assert(mant_limits().pdu == MANT_PDU_LIMIT); */
+
+/* What a number means, in words; "no such number" for any other. */
+static inline const char *mant_meaning(uint8_t number)
+{
+    switch (number) {
+    case MANT_DONE: return "done";
+    case MANT_TOO_SHORT: return "too short: every PDU has 6 bytes or more";
+    case MANT_WRONG_VERSION: return "its version is not 0";
+    case MANT_UNKNOWN_PROTOCOL: return "its protocol is neither 0 nor 1";
+    case MANT_NO_DESTINATION: return "it is reliable and has no destination";
+    case MANT_HEADER_CUT: return "the bytes end within its header";
+    case MANT_PAYLOAD_CUT: return "the bytes end within its payload";
+    case MANT_HOP_LIMIT_ABOVE_7: return "the hop limit asked for is above 7";
+    case MANT_PORT_ABOVE_15: return "the port asked for is above 15";
+    case MANT_PAYLOAD_TOO_LONG: return "the payload has more than 4,095 bytes";
+    case MANT_RELIABLE_WITHOUT_DESTINATION: return "reliable service needs a destination";
+    case MANT_OUTPUT_TOO_SHORT: return "the output has no room for the PDU, or for its exchange";
+    case MANT_RESERVED_ABOVE_3: return "reserved bits above 3: a number of this library's own, for a header put together by hand";
+    case MANT_NO_ENCRYPTED_FLAG: return "encryption is asked for, and edition 1.1 has no encrypted flag";
+    case MANT_UNKNOWN_EDITION: return "the edition is neither 11, which is 1.1, nor 12, which is 1.2";
+    case MANT_LOW_ABOVE_HIGH: return "a list has a range whose low is above its high";
+    case MANT_LIST_ODD: return "the last value of a list has no partner";
+    case MANT_LIST_TOO_LONG: return "a list has more than 128 values";
+    case MANT_ECHO: return "echo: this node is in the path";
+    case MANT_SOURCE_NOT_PASSED: return "the source pass list does not hold the source";
+    case MANT_SOURCE_REJECTED: return "the source reject list holds the source";
+    case MANT_DESTINATION_NOT_PASSED: return "the destination pass list does not hold the destination";
+    case MANT_DESTINATION_REJECTED: return "the destination reject list holds the destination";
+    case MANT_ADDED_HEADER: return "not delivered: it has an added header";
+    case MANT_REPEATING_OFF: return "not repeated: this node has repeating off";
+    case MANT_HOP_LIMIT_0: return "not repeated: its hop limit is 0";
+    case MANT_PATH_FULL: return "not repeated: its path is full, with 255 addresses";
+    case MANT_FOR_ANOTHER: return "not delivered: it is for another node";
+    case MANT_REPEAT_OUTPUT_TOO_SHORT: return "the output has no room for the repeated PDU";
+    case MANT_FOR_THIS_NODE: return "not repeated: it is for this node";
+    case MANT_OWN_REPORT: return "echo: this node is the source";
+    case MANT_JOB_CUT: return "the job ends too early";
+    case MANT_JOB_FLAGS: return "bit 6 or 7 of the job's flags is set";
+    case MANT_JOB_LIST_COUNT: return "a list of the job has more than 64 ranges";
+    case MANT_JOB_LEFT_OVER: return "the job goes on after its batch";
+    case MANT_BATCH_TOO_LONG: return "the batch has more than 16,384 bytes";
+    case MANT_TABLE_FULL: return "a new station, and the table holds as many as it has room for";
+    case MANT_NOT_HELD: return "no such station is held";
+    case MANT_ELEMENT_CUT: return "an element does not end within the run that it stands in";
+    case MANT_ELEMENT_TOO_DEEP: return "an element stands at level 5";
+    case MANT_NOT_AN_EXCHANGE: return "not one element of type 20 that holds one header and one payload";
+    case MANT_QUEUE_FULL: return "the queue holds 32 PDUs, or has no room for so many bytes more";
+    case MANT_NOT_ONE_PDU: return "not one whole PDU with nothing after it";
+    case MANT_OLDEST_TOO_LONG: return "the output has no room for the oldest PDU of the queue";
+    case MANT_NOT_SPLIT_AT_HEADER: return "bytes follow the PDU, or its two parts do not meet at the header's end";
+    case MANT_RECORDS_IN_USE: return "all 16 records are in use";
+    case MANT_ALREADY_RETAINED: return "a PDU of this source, destination and ID is already retained";
+    case MANT_ABOVE_256_BYTES: return "the PDU to retain has more than 256 bytes";
+    case MANT_EARLIER_TIME: return "the time is earlier than the last accepted one";
+    case MANT_NOT_16_RECORDS: return "the lent memory is not 16 records";
+    case MANT_NOT_RETAINABLE: return "not exactly one PDU of protocol 1 with ACK clear and no path address";
+    case MANT_SENDING_TOO_LONG: return "the output has no room for what is to be sent";
+    case MANT_NOT_ENCRYPTED: return "its encrypted bit is clear";
+    case MANT_TOO_SHORT_TO_OPEN: return "its payload is too short for a message number and a hash";
+    case MANT_NUMBER_NOT_GREATER: return "its message number is not greater than the last accepted from its source";
+    case MANT_HASH_DIFFERS: return "its hash differs: another key, or it was changed on its way";
+    case MANT_RECORD_FULL: return "a new source, and the record holds as many as it has room for";
+    case MANT_SEALED_TOO_LONG: return "the sealed payload would have more than 4,095 bytes";
+    case MANT_NUMBER_TOO_LARGE: return "the message number is above 16,777,215";
+    case MANT_NO_ROOM_FOR_PAYLOAD: return "the output has no room for the sealed PDU, or for the plain payload";
+    case MANT_ALREADY_ENCRYPTED: return "its encrypted bit is already set";
+    default: return "no such number";
+    }
+}
 
 #undef MANT_EIGHT_LISTS
 #undef MANT_LIST
