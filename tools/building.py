@@ -1,4 +1,4 @@
-"""Builds from the present sources, for ./relay, tools/build and the tests: one build at a time in a clone, and none left running. What is built is for
+"""Builds from the present sources, for ./relay, ./show, tools/build and the tests: one build at a time in a clone, and none left running. What is built is for
 x86-64; on another processor it runs under the emulator of the Rattle kit, and a library is also made for that processor, to be tested and timed."""
 import contextlib
 import fcntl
@@ -188,6 +188,31 @@ def library(name, crate):
     else:
         for_this_processor(name, crate, own)
     made_from.write_text(state_of(crate, archive))
+
+
+def shared(name, crate):
+    """Makes of a library a file that Python loads, for this machine's processor, by the kit's own linker, unless the one that is there was made here from
+    the same archive. What it needs of the C library is there where Python runs."""
+    library(name, crate)
+    archive, loaded = TARGET / 'native' / f'lib{crate}.a', TARGET / 'python' / f'lib{crate}.so'
+    made_from, made = loaded.with_suffix('.from'), loaded.with_name(f'{loaded.name}.{os.getpid()}')
+
+    def state():
+        return ' '.join(hashlib.sha256(file.read_bytes()).hexdigest() for file in (archive, loaded))
+
+    if loaded.is_file() and made_from.is_file() and made_from.read_text() == state():
+        return
+    loaded.parent.mkdir(parents=True, exist_ok=True)
+    try:
+        linked = subprocess.run([toolchain() / 'bin/ld.lld', '-shared', '--whole-archive', archive, '-o', made], capture_output=True, text=True)
+        if linked.returncode != 0:
+            raise Failed(f'{linked.stderr}{archive} could not be linked')
+        made.replace(loaded)
+    except OSError as error:
+        raise Failed(f'{error.filename}: {error.strerror}') from error
+    finally:
+        made.unlink(missing_ok=True)
+    made_from.write_text(state())
 
 
 def for_this_processor(name, crate, own):

@@ -6,17 +6,20 @@
 //! jobs (1), how many (1,000), and the first (0), so that one can be run alone.
 //! `jobs reach PROGRAM [seed [count [first]]]` asks the program `reach` about
 //! generated networks and compares in the same way.
+//! `jobs lines SEED COUNT` prints so many generated inputs of the library's
+//! functions, with what the reading answers.
 
 mod compare;
+mod lines;
 mod networks;
 
 use compare::{compare_all, Asked};
 use networks::compare_networks;
-use std::io::{self, Read, Write};
+use std::io::{self, BufWriter, Read, Write};
 use std::process::ExitCode;
 
-const USE: &str =
-    "use: jobs print, or jobs compare PROGRAM [seed [count [first]]], or jobs reach and the same";
+const USE: &str = "use: jobs print, or jobs compare PROGRAM [seed [count [first]]], \
+or jobs reach and the same, or jobs lines SEED COUNT";
 
 fn main() -> ExitCode {
     let words: Vec<String> = std::env::args().skip(1).collect();
@@ -24,6 +27,7 @@ fn main() -> ExitCode {
         Some("print") if words.len() == 1 => print().map_err(|error| error.to_string()),
         Some("compare") => asked(&words[1..]).and_then(|asked| compare_all(&asked)),
         Some("reach") => asked(&words[1..]).and_then(|asked| compare_networks(&asked)),
+        Some("lines") if words.len() == 3 => print_lines(&words[1], &words[2]),
         _ => Err(String::from(USE)),
     };
     match done {
@@ -40,6 +44,16 @@ fn print() -> io::Result<()> {
     let mut job = vec![];
     io::stdin().read_to_end(&mut job)?;
     io::stdout().write_all(reference::relay(&job).as_bytes())
+}
+
+/// Prints the lines of generated inputs.
+fn print_lines(seed: &str, count: &str) -> Result<(), String> {
+    let number = |word: &str| word.parse().map_err(|_| String::from(USE));
+    let mut output = BufWriter::new(io::stdout().lock());
+    for line in lines::lines(number(seed)?, number(count)?) {
+        writeln!(output, "{line}").map_err(|error| error.to_string())?;
+    }
+    output.flush().map_err(|error| error.to_string())
 }
 
 /// Reads the arguments of a comparison.

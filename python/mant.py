@@ -1,0 +1,307 @@
+"""The MANT layer of ALERT2 for Python: the library libmant, called through ctypes. For Python 3.9 or newer, without dependencies.
+
+Make the library once, with `tools/build python shared mant` at the top of the clone, then set PYTHONPATH to the clone's folder `python`; or name the library
+in MANT_LIB. Bytes go in as anything like bytes, and come out as bytes.
+
+>>> report = bytes.fromhex('0300100B03E80640007001081212032413220276')
+>>> header = read(report)
+>>> header.source, header.destination, header.hop_limit, header.path
+(1000, 1600, 1, ())
+>>> answer = hear(report, Node(own=2000))
+>>> answer.delivery, answer.repeat, answer.repeated.hex()
+(<Number.FOR_ANOTHER: 39>, <Number.DONE: 0>, '0300000b03e806400107d07001081212032413220276')
+
+What is refused raises Refused, with its `number` and its `meaning`. A setting reaches the library as it is, or is no number that C can hold, and then raises
+ValueError; none is trimmed. There is always room for what is written, so that the numbers for want of room are never answered.
+
+>>> originate(b'rain', source=1000, hop_limit=263)
+Traceback (most recent call last):
+    ...
+mant_numbers.Refused: 10: the hop limit asked for is above 7
+>>> originate(b'rain', source=70000, hop_limit=3)
+Traceback (most recent call last):
+    ...
+ValueError: source is 70000; it can be 0 to 65535
+
+What a box keeps from call to call, the table of stations, the queue and the PDUs that wait for their acknowledgement, is for C and Rust."""
+import ctypes
+import dataclasses
+from typing import Iterator
+
+import mant_c
+from mant_c import LibraryMissing, library
+from mant_numbers import Number, Refused
+from mant_reach import Reach, Reached, reach
+from mant_types import (ADDRESS, BYTE, EDITION_1_1, EDITION_1_2, FIRST_LIST, NO_LIST, SECOND_LIST, WORD_32, WORD_64, Answer, Exchange, Header, Lists, Node,
+                        Step, flag, whole)
+
+__all__ = ['Answer', 'EDITION_1_1', 'EDITION_1_2', 'Exchange', 'FIRST_LIST', 'Header', 'LibraryMissing', 'Lists', 'NO_LIST', 'Node', 'Number', 'Reach',
+           'Reached', 'Record', 'Refused', 'SECOND_LIST', 'Step', 'hear', 'list_fault', 'list_holds', 'most_bytes', 'most_transmissions', 'open',
+           'originate', 'path', 'reach', 'read', 'read_exchange', 'seal', 'walk', 'write_exchange']
+
+MOST_EXCHANGE = 4626  # MANT_EXCHANGE_LIMIT
+RECORD_WORDS = 129  # MANT_SOURCE_WORDS
+
+
+class Record:
+    """The last message number accepted from each of up to 64 sources, for `open`. `words` can be kept over a restart, and given to a new one.
+
+    >>> Record().words[:3]
+    (0, 0, 0)
+    """
+
+    def __init__(self, words=()):
+        words = [whole('a word of the record', word, WORD_32) for word in words]
+        if len(words) > RECORD_WORDS:
+            raise ValueError(f'a record has {RECORD_WORDS} words, not {len(words)}')
+        self._words = (ctypes.c_uint32 * RECORD_WORDS)(*words)
+
+    @property
+    def words(self):
+        return tuple(self._words)
+
+
+def _bytes(value):
+    return memoryview(value).tobytes()
+
+
+def _slice(value):
+    """Bytes as the library takes them, with their length."""
+    value = _bytes(value)
+    return value, len(value)
+
+
+def _list(name, values):
+    """A list's values as the library takes them, with their count."""
+    values = [whole(f'a value of {name}', value, ADDRESS) for value in values]
+    return (ctypes.c_uint16 * len(values))(*values), len(values)
+
+
+def _eight(lists):
+    return [part for field in dataclasses.fields(lists) for part in _list(field.name, getattr(lists, field.name))]
+
+
+def _node(node):
+    choices = {name: whole(name, getattr(node, name), BYTE) for name in ('source_pass', 'source_reject', 'destination_pass', 'destination_reject')}
+    return mant_c.Node(own=whole('own', node.own, ADDRESS), echo=flag('echo', node.echo), repeating=flag('repeating', node.repeating), **choices)
+
+
+def _key(key):
+    key = _bytes(key)
+    if len(key) != 16:
+        raise ValueError(f'a key has 16 bytes, not {len(key)}')
+    return mant_c.Key((ctypes.c_uint8 * 16)(*key))
+
+
+def _room(length=None):
+    """An output with room for every PDU, or for so many bytes."""
+    length = library().mant_limits().pdu if length is None else length
+    return ctypes.create_string_buffer(length), length
+
+
+def _checked(number):
+    if number:
+        raise Refused(number)
+
+
+def _written(written, output):
+    """The bytes that were written to an output."""
+    _checked(written.number)
+    return ctypes.string_at(output[0], written.length)
+
+
+def read(pdu, edition=EDITION_1_2):
+    """The header of the PDU at the start of the bytes as an edition shows it. Bytes after the PDU are not looked at.
+
+    >>> read(bytes.fromhex('0100300203E80640AABB')).payload.hex()
+    'aabb'
+    >>> read(b'short')
+    Traceback (most recent call last):
+        ...
+    mant_numbers.Refused: 1: too short: every PDU has 6 bytes or more
+    """
+    pdu = _bytes(pdu)
+    found = library().mant_read(whole('edition', edition, WORD_64), pdu, len(pdu))
+    _checked(found.number)
+    return Header(
+        protocol=found.protocol, time_stamp_request=found.time_stamp_request, port=found.port, encrypted=found.encrypted if found.has_encrypted else None,
+        reserved=found.reserved, ack=found.ack, added_header=found.added_header, hop_limit=found.hop_limit, source=found.source,
+        destination=found.destination if found.has_destination else None, pdu_id=found.pdu_id if found.protocol == 1 else None,
+        path=_path(pdu, found), last_sender=found.last_sender if found.has_last_sender else None,
+        payload=pdu[found.header_length:found.pdu_length], header_length=found.header_length, pdu_length=found.pdu_length)
+
+
+def _path(pdu, found):
+    if not found.path_bit:
+        return None
+    return tuple(library().mant_path_address(pdu, len(pdu), place) for place in range(found.path_count))
+
+
+def path(pdu):
+    """The addresses of the path of the PDU at the start of the bytes, in order; None without the path bit.
+
+    >>> path(bytes.fromhex('0200000003E80207D00BB8'))
+    (2000, 3000)
+    """
+    return read(pdu).path
+
+
+def originate(payload, *, source, hop_limit, destination=None, port=0, time_stamp_request=False, with_path=False, reliable=False, pdu_id=0,
+              encrypted=False, edition=EDITION_1_2):
+    """A fresh PDU with this payload. Without a destination it is for everyone; `encrypted` says that the payload is encrypted already.
+
+    >>> originate(b'rain', source=1000, hop_limit=3, with_path=True).hex()
+    '0200300403e8007261696e'
+    """
+    fresh = mant_c.Fresh(
+        edition=whole('edition', edition, WORD_64), source=whole('source', source, ADDRESS), has_destination=destination is not None,
+        destination=whole('destination', 0 if destination is None else destination, ADDRESS), hop_limit=whole('hop_limit', hop_limit, WORD_64),
+        port=whole('port', port, WORD_64), time_stamp_request=flag('time_stamp_request', time_stamp_request), with_path=flag('with_path', with_path),
+        reliable=flag('reliable', reliable), pdu_id=whole('pdu_id', pdu_id, BYTE), encrypted=flag('encrypted', encrypted))
+    output = _room()
+    return _written(library().mant_originate(fresh, *_slice(payload), *output), output)
+
+
+def list_fault(lists):
+    """The number of what is wrong with a node's lists, the first of the eight that has a fault, or 0.
+
+    >>> list_fault(Lists(source_pass=[1000, 1999]))
+    <Number.DONE: 0>
+    >>> list_fault(Lists(source_pass=[1999, 1000]))
+    <Number.LOW_ABOVE_HIGH: 20>
+    """
+    return Number(library().mant_list_fault_eight(*_eight(lists)))
+
+
+def list_holds(values, address):
+    """Whether an address is in some range of a list.
+
+    >>> list_holds([1000, 1999, 3000, 3000], 3000)
+    True
+    """
+    return library().mant_list_holds(*_list('the list', values), whole('address', address, ADDRESS))
+
+
+def _answer(found, received, output):
+    place = found.delivered_place
+    return Answer(
+        delivery=Number(found.delivery), repeat=Number(found.repeat), payload=None if found.delivery else received[place:place + found.delivered_length],
+        repeated=None if found.repeat else ctypes.string_at(output[0], found.repeated_length),
+        last_sender=found.last_sender if found.has_last_sender else None, taken=found.taken)
+
+
+def hear(received, node, lists=Lists(), edition=EDITION_1_2):
+    """What a node answers for the PDU at the start of the received bytes. An answer has two numbers, so that nothing is raised by one.
+
+    >>> answer = hear(originate(b'rain', source=1000, hop_limit=3), Node(own=2000, repeating=False))
+    >>> answer.payload, answer.repeat.meaning
+    (b'rain', 'not repeated: this node has repeating off')
+    >>> hear(b'short', Node(own=2000)).delivery
+    <Number.TOO_SHORT: 1>
+    """
+    received, output = _bytes(received), _room()
+    found = library().mant_hear_eight(whole('edition', edition, WORD_64), _node(node), *_eight(lists), received, len(received), *output)
+    return _answer(found, received, output)
+
+
+def walk(batch, node, lists=Lists(), edition=EDITION_1_2) -> Iterator[Step]:
+    """A node's answer for each PDU of a batch, in order. The walk ends after one that cannot be read, whose `taken` is 0. A batch of more than 16,384 bytes
+    is refused with 54 before the first.
+
+    >>> batch = originate(b'rain', source=1000, hop_limit=3) + originate(b'wind', source=1001, hop_limit=0) + b'noise'
+    >>> for step in walk(batch, Node(own=2000)):
+    ...     print(step.offset, step.answer.payload, int(step.answer.delivery), int(step.answer.repeat))
+    0 b'rain' 0 0
+    10 b'wind' 0 37
+    20 None 1 1
+    """
+    return _steps(_bytes(batch), (whole('edition', edition, WORD_64), _node(node), *_eight(lists)))
+
+
+def _steps(batch, settings):
+    output, cursor = _room(), mant_c.Cursor()
+    while True:
+        found = library().mant_step_eight(*settings, batch, len(batch), cursor, *output)
+        if found.kind == mant_c.REFUSED:
+            raise Refused(found.answer.delivery)
+        if found.kind == mant_c.ENDED:
+            return
+        yield Step(cursor.place, _answer(found.answer, batch[cursor.place:found.next.place], output))
+        cursor = found.next
+
+
+def _bound(found):
+    _checked(found.number)
+    if found.too_large:
+        raise OverflowError('the bound is more than 64 bits hold')
+    return found.value
+
+
+def most_transmissions(nodes, hop_limit):
+    """The most times that one report goes out on the air, its first sending counted, for so many repeating nodes besides the originator. It holds if the
+    report has a path, every node has echo suppression on and an address of its own. Raises OverflowError where 64 bits do not hold it.
+
+    >>> most_transmissions(8, 3)
+    401
+    """
+    return _bound(library().mant_most_transmissions(whole('nodes', nodes, WORD_64), whole('hop_limit', hop_limit, WORD_64)))
+
+
+def most_bytes(nodes, hop_limit, size):
+    """The most bytes that those transmissions have together, where the fresh PDU has this size, header included.
+
+    >>> most_bytes(8, 3, 20)
+    10276
+    """
+    return _bound(library().mant_most_bytes(whole('nodes', nodes, WORD_64), whole('hop_limit', hop_limit, WORD_64), whole('size', size, WORD_64)))
+
+
+def read_exchange(exchange):
+    """Header and payload of the exchange that the bytes are, all of them.
+
+    >>> read_exchange(write_exchange(bytes.fromhex('0000000203E8AABB')))
+    Exchange(header=b'\\x00\\x00\\x00\\x02\\x03\\xe8', payload=b'\\xaa\\xbb', header_place=5, payload_place=14)
+    """
+    exchange = _bytes(exchange)
+    found = library().mant_read_exchange(exchange, len(exchange))
+    _checked(found.number)
+    header, payload = (exchange[place:place + length] for place, length in (
+        (found.header_place, found.header_length), (found.payload_place, found.payload_length)))
+    return Exchange(header, payload, found.header_place, found.payload_place)
+
+
+def write_exchange(pdu):
+    """The exchange of the PDU at the start of the bytes.
+
+    >>> write_exchange(bytes.fromhex('0000000203E8AABB')).hex()
+    '140e8400060000000203e8840102aabb'
+    """
+    output = _room(MOST_EXCHANGE)
+    return _written(library().mant_write_exchange(*_slice(pdu), *output), output)
+
+
+def seal(pdu, key, number):
+    """The PDU at the start of the bytes with its payload enciphered under a key of 16 bytes. Under one key no source may use a number twice.
+
+    >>> sealed = seal(originate(b'open gate 3', source=1000, hop_limit=3), b'sixteen  letters', 1)
+    >>> read(sealed).encrypted, len(read(sealed).payload)
+    (True, 18)
+    """
+    output = _room()
+    return _written(library().mant_seal(_key(key), whole('number', number, WORD_64), *_slice(pdu), *output), output)
+
+
+def open(pdu, key, record):
+    """The plain payload of the sealed PDU at the start of the bytes; its number is noted in the record, which keeps it from being opened again.
+
+    >>> record = Record()
+    >>> sealed = seal(originate(b'open gate 3', source=1000, hop_limit=3), b'sixteen  letters', 1)
+    >>> open(sealed, b'sixteen  letters', record)
+    b'open gate 3'
+    >>> open(sealed, b'sixteen  letters', record)
+    Traceback (most recent call last):
+        ...
+    mant_numbers.Refused: 82: its message number is not greater than the last accepted from its source
+    """
+    output = _room()
+    return _written(library().mant_open(_key(key), record._words, RECORD_WORDS, *_slice(pdu), *output), output)

@@ -1,0 +1,75 @@
+"""Who is delivered a report, by the program `reach`. Its functions are not in the library, and a reading of their own here would be proved by no one, so the
+program is run, in the clone where this file lies."""
+import functools
+import pathlib
+import re
+import subprocess
+import sys
+from dataclasses import dataclass
+from typing import Optional, Tuple
+
+from mant_types import WORD_64, whole
+
+TOP = pathlib.Path(__file__).resolve().parent.parent
+NODE = re.compile(r'^node (\d+): (?:(the originator)|chain of (\d+) hearings?, (?:delivered with path count (\d+)|out of reach)|no chain, out of reach)$', re.M)
+LEAST = re.compile(r'^the least hop limit that reaches all is (\d)$', re.M)
+
+
+@dataclass(frozen=True)
+class Reached:
+    """A node of a network."""
+    address: int
+    chain: Optional[int]  # how many hearings its shortest chain has: 0 for the originator, None where there is no chain
+    path_count: Optional[int]  # of the transmission in which the report is delivered; None where it is not
+
+    @property
+    def is_out_of_reach(self):
+        return self.path_count is None and self.chain != 0
+
+
+@dataclass(frozen=True)
+class Reach:
+    """Who is delivered a report: the nodes in the order in which they were named, and the least hop limit that reaches all, if one of 0 to 6 does."""
+    nodes: Tuple[Reached, ...]
+    least_hop_limit: Optional[int]
+
+    @property
+    def out_of_reach(self):
+        """The addresses of the nodes that are not delivered the report."""
+        return tuple(node.address for node in self.nodes if node.is_out_of_reach)
+
+
+@functools.lru_cache(maxsize=None)
+def program():
+    """The program, proved and built from the present sources at the first call."""
+    if not (TOP / 'tools/build').is_file():
+        raise FileNotFoundError(f'reach runs the program of that name, in a clone of the repository; {TOP} is none')
+    subprocess.run([sys.executable, TOP / 'tools/build', 'mant.reach', 'check', 'reach'], check=True)
+    found = subprocess.run([sys.executable, TOP / 'tools/run', '--path', TOP / 'target/bin/reach'], check=True, stdout=subprocess.PIPE, text=True)
+    return found.stdout.strip()
+
+
+def reach(hop_limit, heard_by):
+    """Who is delivered a report with this hop limit, 0 to 6, where `heard_by` has for each node the nodes that hear it; the first is the originator. What
+    the program refuses raises ValueError. It holds on the conditions that `./reach` prints.
+
+    >>> found = reach(1, {1200: [2001, 2002], 2001: [2003], 2003: [2004]})
+    >>> found.out_of_reach, found.least_hop_limit
+    ((2004,), 2)
+    >>> found.nodes[3]
+    Reached(address=2003, chain=2, path_count=1)
+    """
+    lines = [[whole('hop_limit', hop_limit, WORD_64)], *([node, *hearing] for node, hearing in dict(heard_by).items())]
+    text = ''.join(' '.join(str(whole('a number of the network', number, WORD_64)) for number in line) + '\n' for line in lines)
+    run = subprocess.run([program()], input=text, capture_output=True, text=True)
+    if run.returncode != 0:
+        raise RuntimeError(f'the program reach ended with status {run.returncode}: {run.stderr}')
+    if run.stderr:
+        raise ValueError(run.stderr.strip())
+    least = LEAST.search(run.stdout)
+    return Reach(tuple(map(_reached, NODE.findall(run.stdout))), int(least.group(1)) if least else None)
+
+
+def _reached(found):
+    address, originator, chain, path_count = found
+    return Reached(int(address), 0 if originator else int(chain) if chain else None, int(path_count) if path_count else None)

@@ -1,0 +1,100 @@
+"""What the functions of mant.py take and answer, and the settings that C can hold."""
+import operator
+from dataclasses import dataclass
+from typing import Optional, Sequence, Tuple
+
+from mant_numbers import Number
+
+EDITION_1_1, EDITION_1_2 = 11, 12
+NO_LIST, FIRST_LIST, SECOND_LIST = 0, 1, 2
+BYTE, ADDRESS, WORD_32, WORD_64 = 2**8 - 1, 2**16 - 1, 2**32 - 1, 2**64 - 1  # the most that a C type holds
+
+
+@dataclass(frozen=True)
+class Header:
+    """What reading shows of a PDU, in the order of its bits."""
+    protocol: int  # 0 best efforts, 1 reliable
+    time_stamp_request: bool
+    port: int
+    encrypted: Optional[bool]  # None under edition 1.1, which has no encrypted flag
+    reserved: int
+    ack: bool
+    added_header: bool
+    hop_limit: int
+    source: int
+    destination: Optional[int]  # None: for everyone
+    pdu_id: Optional[int]  # None for best efforts
+    path: Optional[Tuple[int, ...]]  # the nodes that repeated it, in order; None without the path bit
+    last_sender: Optional[int]  # who it was heard from: the last of its path, or the source of an empty one; None without the path bit
+    payload: bytes
+    header_length: int  # the payload begins here
+    pdu_length: int  # the next PDU of a batch begins here
+
+
+@dataclass(frozen=True)
+class Node:
+    """What a node is set to. Each of the last four chooses one of the two lists of its kind, FIRST_LIST or SECOND_LIST, or none."""
+    own: int
+    echo: bool = True
+    repeating: bool = True
+    source_pass: int = NO_LIST
+    source_reject: int = NO_LIST
+    destination_pass: int = NO_LIST
+    destination_reject: int = NO_LIST
+
+
+@dataclass(frozen=True)
+class Lists:
+    """The address lists of a node, two of each kind. Each is low, high, low, high and so on, both ends included."""
+    source_pass: Sequence[int] = ()
+    source_pass_second: Sequence[int] = ()
+    source_reject: Sequence[int] = ()
+    source_reject_second: Sequence[int] = ()
+    destination_pass: Sequence[int] = ()
+    destination_pass_second: Sequence[int] = ()
+    destination_reject: Sequence[int] = ()
+    destination_reject_second: Sequence[int] = ()
+
+
+@dataclass(frozen=True)
+class Answer:
+    """What a node answers for one PDU: a number for delivery and one for repeating, each 0 for yes."""
+    delivery: Number
+    repeat: Number
+    payload: Optional[bytes]  # what is delivered, or None
+    repeated: Optional[bytes]  # the repeated PDU, or None
+    last_sender: Optional[int]  # who the PDU was heard from; None where that is unknown
+    taken: int  # how many bytes the PDU has; 0 where it was not read
+
+
+@dataclass(frozen=True)
+class Step:
+    """One PDU of a batch: where it begins, and the node's answer."""
+    offset: int
+    answer: Answer
+
+
+@dataclass(frozen=True)
+class Exchange:
+    """Header and payload of a PDU as they lie in an exchange. Places count from its first byte."""
+    header: bytes
+    payload: bytes
+    header_place: int
+    payload_place: int
+
+
+def whole(name, value, most):
+    """A whole number that C can hold."""
+    try:
+        value = operator.index(value)
+    except TypeError:
+        raise TypeError(f'{name} is {value!r}, which is no whole number') from None
+    if not 0 <= value <= most:
+        raise ValueError(f'{name} is {value}; it can be 0 to {most}')
+    return value
+
+
+def flag(name, value):
+    if value not in (True, False):
+        raise TypeError(f'{name} is {value!r}, which is neither True nor False')
+    return bool(value)

@@ -1,0 +1,145 @@
+"""The lines that `jobs lines` prints (rust/jobs/src/lines.rs): a call of the library from Python for each, beside what the independent reading answers."""
+import mant
+
+record = None  # what each opening is asked with
+
+
+def bytes_of(word):
+    return b'' if word == '.' else bytes.fromhex(word)
+
+
+def values_of(word):
+    return () if word == '.' else tuple(map(int, word.split(',')))
+
+
+def some(word, made=int):
+    return None if word == '-' else made(word)
+
+
+def flag_of(word):
+    return word == '1'
+
+
+def refused_or(call):
+    """What a call answers after 0, or the number that it is refused with."""
+    try:
+        return 0, call()
+    except mant.Refused as refused:
+        return int(refused.number), None
+
+
+def written(answer):
+    return int(answer[0]), bytes_of(answer[1]) if len(answer) > 1 else None
+
+
+def header_of(words):
+    flags = [flag_of(words[place]) for place in (1, 5, 6)]
+    return mant.Header(
+        int(words[0]), flags[0], int(words[2]), some(words[3], flag_of), int(words[4]), flags[1], flags[2], int(words[7]), int(words[8]), some(words[9]),
+        some(words[10]), some(words[11], values_of), some(words[12]), bytes_of(words[13]), int(words[14]), int(words[15]))
+
+
+def node_of(words):
+    """Edition, settings and lists of a node."""
+    edition, own, echo, repeating, *choices, lists = words
+    return int(edition), mant.Node(int(own), flag_of(echo), flag_of(repeating), *map(int, choices)), mant.Lists(*map(values_of, lists.split(';')))
+
+
+def answer_of(words):
+    delivery, repeat, payload, repeated, last, taken = words
+    return mant.Answer(int(delivery), int(repeat), some(payload, bytes_of), some(repeated, bytes_of), some(last), int(taken))
+
+
+def check_read(words, answer):
+    found = refused_or(lambda: mant.read(bytes_of(words[1]), int(words[0])))
+    return found, (int(answer[0]), header_of(answer[1:]) if answer[0] == '0' else None)
+
+
+def check_originate(words, answer):
+    edition, source, destination, hop_limit, port, stamp, path, reliable, pdu_id, encrypted, payload = words
+    return refused_or(lambda: mant.originate(
+        bytes_of(payload), source=int(source), destination=some(destination), hop_limit=int(hop_limit), port=int(port), time_stamp_request=flag_of(stamp),
+        with_path=flag_of(path), reliable=flag_of(reliable), pdu_id=int(pdu_id), encrypted=flag_of(encrypted), edition=int(edition))), written(answer)
+
+
+def check_lists(words, answer):
+    lists = mant.Lists(*map(values_of, words[0].split(';')))
+    return (mant.list_fault(lists), mant.list_holds(lists.source_pass, int(words[1]))), (int(answer[0]), flag_of(answer[1]))
+
+
+def check_hear(words, answer):
+    edition, node, lists = node_of(words[:-1])
+    return mant.hear(bytes_of(words[-1]), node, lists, edition), answer_of(answer)
+
+
+def check_walk(words, answer):
+    edition, node, lists = node_of(words[:-1])
+    found = refused_or(lambda: list(mant.walk(bytes_of(words[-1]), node, lists, edition)))
+    steps = [mant.Step(int(answer[at]), answer_of(answer[at + 1:at + 7])) for at in range(1, len(answer), 7)]
+    return found, (int(answer[0]), None if answer[0] != '0' else steps)
+
+
+def check_bound(words, answer):
+    def value(call):
+        try:
+            return call()
+        except OverflowError:
+            return None
+    nodes, hop_limit, size = map(int, words)
+    found = refused_or(lambda: (value(lambda: mant.most_transmissions(nodes, hop_limit)), value(lambda: mant.most_bytes(nodes, hop_limit, size))))
+    return found, (int(answer[0]), None if answer[0] != '0' else (some(answer[1]), some(answer[2])))
+
+
+def check_exchange(words, answer):
+    found = refused_or(lambda: mant.read_exchange(bytes_of(words[0])))
+    parts = None if answer[0] != '0' else mant.Exchange(bytes_of(answer[1]), bytes_of(answer[2]), int(answer[3]), int(answer[4]))
+    return found, (int(answer[0]), parts)
+
+
+def check_pack(words, answer):
+    return refused_or(lambda: mant.write_exchange(bytes_of(words[0]))), written(answer)
+
+
+def check_seal(words, answer):
+    return refused_or(lambda: mant.seal(bytes_of(words[2]), bytes_of(words[0]), int(words[1]))), written(answer)
+
+
+def check_record(words, answer):
+    global record
+    record = mant.Record()
+    return record.words, (0,) * mant.RECORD_WORDS
+
+
+def check_open(words, answer):
+    return refused_or(lambda: mant.open(bytes_of(words[1]), bytes_of(words[0]), record)), written(answer)
+
+
+def counted(number, what):
+    return f'{number} {what}' + ('' if number == 1 else 's')
+
+
+def said_of(node):
+    """The line that `reach` prints of a node."""
+    if node.chain == 0:
+        return f'node {node.address}: the originator'
+    chain = 'no chain' if node.chain is None else f'chain of {counted(node.chain, "hearing")}'
+    return f'node {node.address}: {chain}, ' + ('out of reach' if node.is_out_of_reach else f'delivered with path count {node.path_count}')
+
+
+def check_reach(words, answer):
+    lines = [values_of(word) for word in words[1].split(';')]
+    found = mant.reach(int(words[0]), {line[0]: line[1:] for line in lines})
+    least = found.least_hop_limit
+    printed = [f'hop limit {words[0]}, originator {lines[0][0]}', *map(said_of, found.nodes), f'{counted(len(found.out_of_reach), "node")} out of reach',
+               'no hop limit from 0 to 6 reaches all' if least is None else f'the least hop limit that reaches all is {least}']
+    return printed, ' '.join(answer).split('/')[:-2]
+
+
+CHECKS = {name[len('check_'):]: value for name, value in list(globals().items()) if name.startswith('check_')}
+
+
+def compared(line):
+    """What a line asks for, what Python answers, and what the reading does."""
+    words, answer = line.rstrip('\n').split(' =', 1)
+    verb, *words = words.split(' ')
+    return (verb, *CHECKS[verb](words, answer.split()))
