@@ -32,12 +32,12 @@ import mant_c
 from mant_c import LibraryMissing, library
 from mant_numbers import Number, Refused
 from mant_reach import Reach, Reached, reach
-from mant_types import (ADDRESS, BYTE, EDITION_1_1, EDITION_1_2, FIRST_LIST, NO_LIST, SECOND_LIST, WORD_32, WORD_64, Answer, Exchange, Header, Lists, Node,
-                        Step, flag, whole)
+from mant_types import (ADDRESS, BYTE, EDITION_1_1, EDITION_1_2, FIRST_LIST, NO_LIST, SECOND_LIST, WORD_32, WORD_64, Answer, Exchange, Header, Limits, Lists,
+                        Node, Step, flag, whole)
 
-__all__ = ['Answer', 'EDITION_1_1', 'EDITION_1_2', 'Exchange', 'FIRST_LIST', 'Header', 'LibraryMissing', 'Lists', 'NO_LIST', 'Node', 'Number', 'Reach',
-           'Reached', 'Record', 'Refused', 'SECOND_LIST', 'Step', 'hear', 'list_fault', 'list_holds', 'most_bytes', 'most_transmissions', 'open',
-           'originate', 'path', 'reach', 'read', 'read_exchange', 'seal', 'walk', 'write_exchange']
+__all__ = ['Answer', 'EDITION_1_1', 'EDITION_1_2', 'Exchange', 'FIRST_LIST', 'Header', 'LibraryMissing', 'Limits', 'Lists', 'NO_LIST', 'Node', 'Number',
+           'Reach', 'Reached', 'Record', 'Refused', 'SECOND_LIST', 'Step', 'hear', 'limits', 'list_fault', 'list_holds', 'most_bytes', 'most_transmissions',
+           'open', 'originate', 'path', 'reach', 'read', 'read_exchange', 'seal', 'walk', 'write_exchange']
 
 MOST_EXCHANGE = 4626  # MANT_EXCHANGE_LIMIT
 RECORD_WORDS = 129  # MANT_SOURCE_WORDS
@@ -95,7 +95,7 @@ def _key(key):
 
 def _room(length=None):
     """An output with room for every PDU, or for so many bytes."""
-    length = library().mant_limits().pdu if length is None else length
+    length = limits().pdu if length is None else length
     return ctypes.create_string_buffer(length), length
 
 
@@ -108,6 +108,16 @@ def _written(written, output):
     """The bytes that were written to an output."""
     _checked(written.number)
     return ctypes.string_at(output[0], written.length)
+
+
+def limits():
+    """The sizes, as the library has them.
+
+    >>> limits().pdu, limits().batch
+    (4615, 16384)
+    """
+    found = library().mant_limits()
+    return Limits(*(getattr(found, field.name) for field in dataclasses.fields(Limits)))
 
 
 def read(pdu, edition=EDITION_1_2):

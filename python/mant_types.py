@@ -83,6 +83,18 @@ class Exchange:
     payload_place: int
 
 
+@dataclass(frozen=True)
+class Limits:
+    """Sizes in bytes; the path's in addresses, a list's in values."""
+    fixed: int
+    payload: int
+    path: int
+    header: int
+    pdu: int
+    list: int
+    batch: int
+
+
 def whole(name, value, most):
     """A whole number that C can hold."""
     try:
