@@ -11,6 +11,9 @@ in MANT_LIB. Bytes go in as anything like bytes, and come out as bytes.
 >>> answer.delivery, answer.repeat, answer.repeated.hex()
 (<Number.FOR_ANOTHER: 39>, <Number.DONE: 0>, '0300000b03e806400107d07001081212032413220276')
 
+It can read a PDU (`read`, `path`), make one (`originate`), be a node (`hear`, `walk`, `list_fault`, `list_holds`), plan (`most_transmissions`, `most_bytes`,
+`reach`), exchange with a decoder (`read_exchange`, `write_exchange`), and seal and open payloads (`seal`, and `mant.open` with a `Record`).
+
 What is refused raises Refused, with its `number` and its `meaning`. A setting reaches the library as it is, or is no number that C can hold, and then raises
 ValueError; none is trimmed. There is always room for what is written, so that the numbers for want of room are never answered.
 
@@ -35,9 +38,10 @@ from mant_reach import Reach, Reached, reach
 from mant_types import (ADDRESS, BYTE, EDITION_1_1, EDITION_1_2, FIRST_LIST, NO_LIST, SECOND_LIST, WORD_32, WORD_64, Answer, Exchange, Header, Limits, Lists,
                         Node, Step, flag, whole)
 
-__all__ = ['Answer', 'EDITION_1_1', 'EDITION_1_2', 'Exchange', 'FIRST_LIST', 'Header', 'LibraryMissing', 'Limits', 'Lists', 'NO_LIST', 'Node', 'Number',
-           'Reach', 'Reached', 'Record', 'Refused', 'SECOND_LIST', 'Step', 'hear', 'limits', 'list_fault', 'list_holds', 'most_bytes', 'most_transmissions',
-           'open', 'originate', 'path', 'reach', 'read', 'read_exchange', 'seal', 'walk', 'write_exchange']
+# `open` is left out, so that `from mant import *` does not take the place of Python's own
+__all__ = ['Answer', 'EDITION_1_1', 'EDITION_1_2', 'Exchange', 'FIRST_LIST', 'Header', 'LibraryMissing', 'Limits', 'Lists', 'NO_LIST', 'Node',
+           'Number', 'Reach', 'Reached', 'Record', 'Refused', 'SECOND_LIST', 'Step', 'hear', 'limits', 'list_fault', 'list_holds', 'most_bytes',
+           'most_transmissions', 'originate', 'path', 'reach', 'read', 'read_exchange', 'seal', 'walk', 'write_exchange']
 
 MOST_EXCHANGE = 4626  # MANT_EXCHANGE_LIMIT
 RECORD_WORDS = 129  # MANT_SOURCE_WORDS

@@ -6,14 +6,14 @@
 //! not there is `-`; a list has `,` between its values, eight lists have `;`.
 //! `record` empties the record that each `open` after it is asked with.
 
+use crate::words::{answer, eight, flag, header, hex, list, node, some, written};
 use generator::{
     address, batch, edition, eight_lists, exchange, exchanged_pdu, network, openings, origination,
-    payload_to_send, received, settings_for, to_seal, EightLists, Random,
+    payload_to_send, received, settings_for, to_seal, Random,
 };
 use reference::{
     bound, bytes_bound, hear, holds, list_fault, open, originate, reach, read_exchange, read_under,
-    seal, walk, write_exchange, Accepted, Answer, Bits, Choice, Settings, Shown, MOST_EXCHANGE,
-    MOST_PDU,
+    seal, walk, write_exchange, Accepted, MOST_EXCHANGE, MOST_PDU,
 };
 
 /// A kind of line: its share, and what makes it.
@@ -59,47 +59,6 @@ fn line(random: &mut Random) -> String {
     String::new()
 }
 
-/// Bytes in hex.
-fn hex(bytes: &[u8]) -> String {
-    match bytes {
-        [] => String::from("."),
-        _ => bytes.iter().map(|byte| format!("{byte:02x}")).collect(),
-    }
-}
-
-/// Values with commas between them.
-fn list(values: &[u16]) -> String {
-    let words: Vec<String> = values.iter().map(u16::to_string).collect();
-    match values {
-        [] => String::from("."),
-        _ => words.join(","),
-    }
-}
-
-/// Eight lists.
-fn eight(lists: &EightLists) -> String {
-    let words: Vec<String> = lists.0.iter().map(|values| list(values)).collect();
-    words.join(";")
-}
-
-/// What is there, or `-`.
-fn some<T: ToString>(value: Option<T>) -> String {
-    value.map_or(String::from("-"), |value| value.to_string())
-}
-
-/// A flag as 0 or 1.
-fn flag(flag: bool) -> u8 {
-    u8::from(flag)
-}
-
-/// A number, and with 0 so many bytes of an output.
-fn written((number, length): (u8, usize), output: &[u8]) -> String {
-    match number {
-        0 => format!("0 {}", hex(&output[..length])),
-        _ => number.to_string(),
-    }
-}
-
 /// Reading.
 fn read_line(random: &mut Random) -> String {
     let (edition, bytes) = (edition(random), received(random));
@@ -108,34 +67,6 @@ fn read_line(random: &mut Random) -> String {
         Ok(shown) => format!("{asked} = 0 {}", header(&shown, &bytes)),
         Err(number) => format!("{asked} = {number}"),
     }
-}
-
-/// The fields that are shown, in the order of their bits.
-fn header(shown: &Shown, bytes: &[u8]) -> String {
-    let header = &shown.others;
-    let (encrypted, reserved) = match shown.bits {
-        Bits::Reserved(reserved) => (None, reserved),
-        Bits::Flagged(encrypted, reserved) => (Some(flag(encrypted)), reserved),
-    };
-    [
-        header.protocol.to_string(),
-        flag(header.time_stamp_request).to_string(),
-        header.port.to_string(),
-        some(encrypted),
-        reserved.to_string(),
-        flag(header.ack).to_string(),
-        flag(header.added_header).to_string(),
-        header.hop_limit.to_string(),
-        header.source.to_string(),
-        some(header.destination),
-        some(header.pdu_id),
-        some(header.path.as_deref().map(list)),
-        some(header.last_sender()),
-        hex(header.payload(bytes)),
-        header.length().to_string(),
-        header.pdu_length().to_string(),
-    ]
-    .join(" ")
 }
 
 /// Origination.
@@ -163,45 +94,6 @@ fn lists_line(random: &mut Random) -> String {
     let held = flag(holds(&lists.0[0], address));
     let fault = list_fault(&lists.lists());
     format!("lists {} {address} = {fault} {held}", eight(&lists))
-}
-
-/// A node's settings and lists.
-fn node(edition: u64, settings: &Settings, lists: &EightLists) -> String {
-    let choices = [
-        settings.source_pass,
-        settings.source_reject,
-        settings.destination_pass,
-        settings.destination_reject,
-    ];
-    let choices = choices.map(|choice| match choice {
-        Choice::None => "0",
-        Choice::First => "1",
-        Choice::Second => "2",
-    });
-    format!(
-        "{edition} {} {} {} {} {}",
-        settings.own_address,
-        flag(settings.echo),
-        flag(settings.repeating),
-        choices.join(" "),
-        eight(lists)
-    )
-}
-
-/// A node's answer for the PDU at the start of the bytes.
-fn answer(answer: &Answer, bytes: &[u8], repeated: &[u8]) -> String {
-    let (place, length) = answer.delivered;
-    let delivered = (answer.delivery == 0).then(|| hex(&bytes[place..place + length]));
-    let repeated = (answer.repeat == 0).then(|| hex(repeated));
-    format!(
-        "{} {} {} {} {} {}",
-        answer.delivery,
-        answer.repeat,
-        some(delivered),
-        some(repeated),
-        some(answer.last_sender),
-        answer.taken
-    )
 }
 
 /// One PDU at one node.

@@ -12,6 +12,7 @@
 mod compare;
 mod lines;
 mod networks;
+mod words;
 
 use compare::{compare_all, Asked};
 use networks::compare_networks;
