@@ -1,5 +1,6 @@
 """A PDU, an exchange or a batch in words, for ./show. What it holds and why it is refused is what the library answers (python/mant.py); only the words, and
 the byte where a refusal was found, are worked out here."""
+import collections
 import textwrap
 
 import mant
@@ -10,6 +11,9 @@ RUNS, LEVELS = (10, 11, 20), 4  # the types of elements that hold elements, and 
 EXCHANGE, PARTS = 20, {1024: 'header', 1025: 'payload'}  # the type of an exchange, and of the two that it holds
 FIRST_BYTE = (mant.Number.WRONG_VERSION, mant.Number.UNKNOWN_PROTOCOL, mant.Number.NO_DESTINATION)  # refused for what the first byte says
 OBSERVER = mant.Node(own=0, echo=False, repeating=False)  # walks a batch and drops nothing
+
+
+Element = collections.namedtuple('Element', 'place level kind start end')  # its value lies from start to end
 
 
 class Fault(Exception):
@@ -153,7 +157,7 @@ def number_at(content, at, end):
 
 
 def elements(content, at, end, level=1):
-    """Each element of a run in the order in which they begin: its place, its level, its type, and where its value begins and ends."""
+    """Each element of a run, and those inside it, in the order in which they begin."""
     while at < end:
         begin = at
         try:
@@ -163,7 +167,7 @@ def elements(content, at, end, level=1):
             raise Fault(begin) from None
         if level > LEVELS or at + length > end:
             raise Fault(begin)
-        yield begin, level, kind, at, at + length
+        yield Element(begin, level, kind, at, at + length)
         if kind in RUNS:
             yield from elements(content, at, at + length, level + 1)
         at += length
@@ -178,17 +182,26 @@ def fault_place(content):
     return None
 
 
+def parts(found, kind):
+    """The elements of a type just inside the exchange."""
+    return [element for element in found if (element.level, element.kind) == (2, kind)]
+
+
+def joined(content, header, payload):
+    return content[header.start:header.end] + content[payload.start:payload.end]
+
+
 def not_exchange_place(found):
     """Why elements without a fault are no exchange."""
-    outer = [element for element in found if element[1] == 1]
+    outer = [element for element in found if element.level == 1]
     if not outer:
         return 'at byte 0: there is no element'
-    if outer[0][2] != EXCHANGE:
-        return f'at byte 0, where an element of type {outer[0][2]} begins'
+    if outer[0].kind != EXCHANGE:
+        return f'at byte 0, where an element of type {outer[0].kind} begins'
     if len(outer) > 1:
-        return f'at byte {outer[1][0]}, where another element begins'
+        return f'at byte {outer[1].place}, where another element begins'
     for kind, name in PARTS.items():
-        places = [element[0] for element in found if element[1:3] == (2, kind)]
+        places = [element.place for element in parts(found, kind)]
         if len(places) > 1:
             return f'at byte {places[1]}, where a second {name} begins'
         if not places:
@@ -198,10 +211,10 @@ def not_exchange_place(found):
 
 def split_place(content, header, payload):
     """Where the two parts of a PDU do not meet, or bytes follow it."""
-    read = mant.read(content[header[3]:header[4]] + content[payload[3]:payload[4]])
-    if header[4] - header[3] != read.header_length:
-        return f'at byte {header[0]}, where the element of the header begins: it has {counted(header[4] - header[3], "byte")}, the header {read.header_length}'
-    return f'at byte {payload[3] + len(read.payload)}, where the payload ends, in the element that begins at byte {payload[0]}'
+    read, length = mant.read(joined(content, header, payload)), header.end - header.start
+    if length != read.header_length:
+        return f'at byte {header.place}, where the element of the header begins: it has {counted(length, "byte")}, the header {read.header_length}'
+    return f'at byte {payload.start + len(read.payload)}, where the payload ends, in the element that begins at byte {payload.place}'
 
 
 def exchange_place(number, content):
@@ -211,13 +224,13 @@ def exchange_place(number, content):
     found = list(elements(content, 0, len(content)))
     if number == mant.Number.NOT_AN_EXCHANGE:
         return not_exchange_place(found)
-    header, payload = (next(element for element in found if element[1:3] == (2, kind)) for kind in PARTS)
+    header, payload = (parts(found, kind)[0] for kind in PARTS)
     if number == mant.Number.NOT_SPLIT_AT_HEADER:
         return split_place(content, header, payload)
-    joined = content[header[3]:header[4]] + content[payload[3]:payload[4]]
     if number in FIRST_BYTE:
-        return place_of(number, joined, header[3] if header[4] > header[3] else payload[3])
-    return f'{place_of(number, joined)}\n      counted in header and payload put together; their elements begin at bytes {header[0]} and {payload[0]}'
+        return place_of(number, joined(content, header, payload), header.start if header.end > header.start else payload.start)
+    place = place_of(number, joined(content, header, payload))
+    return f'{place}\n      counted in header and payload put together; their elements begin at bytes {header.place} and {payload.place}'
 
 
 # the three things that are shown; what is refused ends each with an exception that has the words
