@@ -9,12 +9,21 @@ class Number(enum.IntEnum):
     <Number.HOP_LIMIT_ABOVE_7: 10>
     >>> Number.HOP_LIMIT_ABOVE_7.meaning
     'the hop limit asked for is above 7'
+    >>> str(Number(10)), f'{Number(10):>4}'
+    ('10', '  10')
     """
 
     def __new__(cls, number, meaning):
         made = int.__new__(cls, number)
         made._value_, made.meaning = number, meaning
         return made
+
+    # as in Python 3.11; those before it would give the name
+    def __str__(self):
+        return str(self._value_)
+
+    def __format__(self, form):
+        return format(self._value_, form)
 
     # the numbers
     DONE = 0, 'done'
@@ -89,4 +98,4 @@ class Refused(Exception):
         self.meaning = self.number.meaning
 
     def __str__(self):
-        return f'{self.number:d}: {self.meaning}'
+        return f'{self.number}: {self.meaning}'

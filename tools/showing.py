@@ -240,7 +240,7 @@ class Refusal(Exception):
 
 
 def refusal(number, place, what=''):
-    return Refusal(f'{what}refused, {number:d}: {number.meaning}' + (f'\n      found {place}' if place else ''))
+    return Refusal(f'{what}refused, {number}: {number.meaning}' + (f'\n      found {place}' if place else ''))
 
 
 def pdu(content, edition):
