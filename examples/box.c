@@ -1,13 +1,10 @@
-/* A whole repeater. What the modem hears is counted, delivered and repeated; a command for the box is acknowledged and opened; what is to be sent waits for
-   the next slot; an alarm of its own is sent again by the clock until it is acknowledged. Stored frames stand for the modem, and it prints what a box would
-   send and do. From the repository's root:
+/* A whole repeater. What the modem hears is counted, delivered and repeated; a sealed command for the box is opened, carried out and acknowledged; what is to
+   be sent waits for the next slot; an alarm of its own is sent again in later slots until it is acknowledged. Stored frames stand for the modem, and it
+   prints what a box would send and do, examples/box.expected. From the repository's root:
 
        rt staticlib mant
-       gcc -std=c11 -Wall -Wextra -pedantic examples/box.c -Iinclude target/staticlib/libmant.a -o /tmp/box && /tmp/box
-
-   prints examples/box.expected. */
+       gcc -std=c11 -Wall -Wextra -pedantic examples/box.c -Iinclude target/staticlib/libmant.a -o /tmp/box && /tmp/box */
 #include <stdio.h>
-
 #include "mant.h"
 
 /* What the box is set to. */
@@ -17,7 +14,7 @@
 #define HOP_LIMIT 3   /* of what it sends itself */
 #define SLOT 10       /* seconds from one slot to the next */
 #define SLOT_BYTES 32 /* what the modem sends in a slot */
-#define DELAY 20      /* seconds until an alarm that is not acknowledged is sent again */
+#define DELAY 20      /* seconds until an alarm that is not acknowledged is sent again, in the next slot */
 #define TRIES 2       /* times that it is sent again */
 
 static const uint16_t left_to_others[] = {1300, 1399};
@@ -26,28 +23,25 @@ static const MantNode node = {.own = OWN, .echo = true, .repeating = true, .sour
 static const MantSending sending = {.hop_limit = HOP_LIMIT, .with_path = true};
 static const MantKey key = {{'k', 'e', 'e', 'p', ' ', 'm', 'e', ' ', 's', 'e', 'c', 'r', 'e', 't', '!', '!'}};
 
-/* What the box remembers, all of it empty at first. It keeps the record over a restart, or it would open old commands again. */
+/* What the box remembers, all of it empty at first. The record alone is kept over a restart, or old commands would be opened again. */
 static uint16_t stations[MANT_STATION_WORDS];
 static uint8_t queue[MANT_QUEUE_LENGTH];
 static MantRetained alarms[MANT_RECORDS];
-static uint64_t last_time;
+static uint64_t last_time; /* in seconds since the start, so that no time is earlier than the last */
 static uint32_t record[MANT_SOURCE_WORDS];
-
-static uint8_t output[MANT_PDU_LIMIT], plain[MANT_PAYLOAD_LIMIT]; /* room for what a call writes */
+static uint64_t carried_out = UINT64_MAX; /* the last command: its source, PDU ID and message number as one; at first no command's */
+static uint8_t raised, alarm_id = 1;      /* the alarms that wait for a slot, a bit each, and the PDU ID that they get */
+static uint8_t output[MANT_PDU_LIMIT], plain[MANT_PAYLOAD_LIMIT], slot[SLOT_BYTES]; /* room for what a call writes */
 
 /* What the modem hears, and at which second. */
-#define COMMAND 0x0B, 0x08, 0x30, 0x0B, 0x06, 0x40, 0x07, 0xD0, 0x09, 0x00, 0x00, 0x03, 0x52, 0x5C, 0x1B, 0xA0, 0x3B, 0x2D, 0x59, 0x77, 0xB5
-static const struct {
-    uint64_t time;
-    const char *what;
-    size_t length;
-    uint8_t bytes[40];
-} frames[] = {
+#define COMMAND(last) 0x0B, 8, 0x30, 11, 0x06, 0x40, 0x07, 0xD0, 9, 0, 0, 0x03, 0x52, 0x5C, 0x1B, 0xA0, 0x3B, 0x2D, 0x59, 0x77, last
+static const struct { uint64_t time; const char *what; size_t length; uint8_t bytes[40]; } frames[] = {
     {3, "reports of gauges 1000 and 1300", 17, {2, 0, 0x20, 2, 0x03, 0xE8, 0, 0x12, 0x34, 2, 0, 0x20, 1, 0x05, 0x14, 0, 0x55}},
     {6, "a long report of gauge 1001", 37, {2, 0, 0x20, 30, 0x03, 0xE9, 0, 0x56}},
     {12, "the first again, by way of this box and of 2001", 13, {2, 0, 0, 2, 0x03, 0xE8, 2, 0x07, 0xD0, 0x07, 0xD1, 0x12, 0x34}},
-    {14, "a sealed command of the base", 21, {COMMAND}},
-    {24, "the same again, since its acknowledgement was lost", 21, {COMMAND}},
+    {13, "a sealed command of the base, changed on its way", 21, {COMMAND(0xB4)}},
+    {14, "the same as it was sent", 21, {COMMAND(0xB5)}},
+    {24, "the same again, since its acknowledgement was lost", 21, {COMMAND(0xB5)}},
     {33, "the base acknowledges the alarm", 10, {0x0B, 1, 0x30, 0, 0x06, 0x40, 0x07, 0xD0, 1, 0}},
     {36, "a report cut on its way", 8, {2, 0, 0x20, 5, 0x03, 0xE8, 0, 0x12}},
 };
@@ -80,47 +74,63 @@ static void enqueue(const char *name, const uint8_t *pdu, size_t length)
     }
 }
 
-/* What is delivered here. A sealed payload counts for nothing until it is opened. */
-static void deliver(const uint8_t *pdu, MantAnswer answer)
+/* Writes the record to memory that keeps it without power; either all of it is changed there or nothing. */
+static void save_record(void) { }
+
+/* A sealed command; whether to acknowledge it: only what was carried out. Of 82 that is known of the very last; any other came too late, or is forged. The
+   number is kept before the command is carried out, so that no restart carries it out twice. */
+static bool carry_out(const uint8_t *pdu, MantHeader header)
 {
-    if (!mant_read(EDITION, pdu, answer.taken).encrypted) {
-        print_hex("payload", pdu + answer.delivered_place, answer.delivered_length);
-        return;
+    MantWritten opened = mant_open(key, record, MANT_SOURCE_WORDS, pdu, header.pdu_length, plain, sizeof plain);
+    if (!done("opening", opened.number) && opened.number != MANT_NUMBER_NOT_GREATER) {
+        return false;
     }
-    MantWritten opened = mant_open(key, record, MANT_SOURCE_WORDS, pdu, answer.taken, plain, sizeof plain);
-    if (done("opening", opened.number)) {
+    const uint8_t *number = pdu + header.header_length;
+    uint64_t command = (uint64_t)header.source << 32 | (uint64_t)header.pdu_id << 24 | (uint64_t)number[0] << 16 | (uint64_t)number[1] << 8 | number[2];
+    if (opened.number == MANT_DONE) {
+        save_record();
         print_hex("command", plain, opened.length);
+        carried_out = command;
     }
+    return command == carried_out;
 }
 
-/* What came of a call with the alarms; it gives the time that the next call is given. */
-static void note(MantOutcome outcome)
+/* What is delivered here; whether to acknowledge it. What is not sealed is a report: anyone can send it, and it may come twice, by two ways. */
+static bool deliver(const uint8_t *pdu, MantAnswer answer)
+{
+    MantHeader header = mant_read(EDITION, pdu, answer.taken);
+    if (header.encrypted) {
+        return carry_out(pdu, header);
+    }
+    print_hex("payload", pdu + answer.delivered_place, answer.delivered_length);
+    return true;
+}
+
+/* What came of a call with the alarms, which gives the time that the next is given; whether it did what was asked. */
+static bool note(MantOutcome outcome)
 {
     static const char *const deeds[] = {"", "retained", "sent again", "given up", "known to have arrived", "acknowledged"};
-
     last_time = outcome.last;
-    if (done("alarms", outcome.number) && outcome.deed != MANT_DEED_NONE) {
+    if (outcome.deed != MANT_DEED_NONE) {
         printf("    PDU %u from %u to %u is %s\n", outcome.names.pdu_id, outcome.names.source, outcome.names.destination, deeds[outcome.deed]);
     }
-    if (outcome.deed == MANT_DEED_SENT_AGAIN || outcome.deed == MANT_DEED_ACKNOWLEDGED) {
-        enqueue("queued", output, outcome.length);
-    }
+    return done("alarms", outcome.number);
 }
 
-/* The PDU at the start of the bytes; gives its length, or 0 where it cannot be read. It is acknowledged also where it was opened before: who sent it may not
-   have heard that it arrived. */
+/* The PDU at the start of the bytes; gives its length, or 0 where it cannot be read. */
 static size_t hear(const uint8_t *pdu, size_t length)
 {
     MantListened heard = mant_hear_and_count(EDITION, node, &lists, pdu, length, output, sizeof output, stations, MANT_STATION_WORDS);
     MantAnswer answer = heard.answer;
-
     done("table of stations", heard.table_number);
     if (done("repeat", answer.repeat)) {
         enqueue("repeat", output, answer.repeated_length);
     }
-    if (done("delivery", answer.delivery)) {
-        deliver(pdu, answer);
-        note(mant_acknowledge(alarms, MANT_RECORDS, last_time, pdu, answer.taken, answer, sending, output, sizeof output));
+    if (done("delivery", answer.delivery) && deliver(pdu, answer)) {
+        MantOutcome outcome = mant_acknowledge(alarms, MANT_RECORDS, last_time, pdu, answer.taken, answer, sending, output, sizeof output);
+        if (note(outcome) && outcome.deed == MANT_DEED_ACKNOWLEDGED) {
+            enqueue("acknowledgement", output, outcome.length);
+        }
     }
     return answer.taken;
 }
@@ -128,65 +138,55 @@ static size_t hear(const uint8_t *pdu, size_t length)
 /* A frame has PDUs back to back. What follows one that cannot be read is lost. */
 static void hear_frame(const uint8_t *bytes, size_t length)
 {
-    size_t taken = 1;
-
-    for (size_t place = 0; place < length && taken != 0; place += taken) {
+    for (size_t place = 0, taken = 1; place < length && taken != 0; place += taken) {
         taken = hear(bytes + place, length - place);
     }
 }
 
-/* Sends the base an alarm of one byte, and retains it until it is acknowledged. */
-static void raise_alarm(uint8_t pdu_id, uint8_t what, uint64_t now)
+/* Begins the slot with the alarms that were raised, and gives their bytes. What is not retained is not sent, and waits for the next slot. */
+static size_t begin_with_alarms(uint64_t now)
 {
     const MantFresh fresh = {.edition = EDITION, .source = OWN, .has_destination = true, .destination = BASE, .hop_limit = HOP_LIMIT, .with_path = true,
-                             .reliable = true, .pdu_id = pdu_id};
-    MantWritten written = mant_originate(fresh, &what, 1, output, sizeof output);
-
-    if (done("alarm", written.number)) {
-        enqueue("alarm", output, written.length);
-        note(mant_retain(alarms, MANT_RECORDS, last_time, now, output, written.length));
+                             .reliable = true, .pdu_id = alarm_id};
+    MantWritten written = mant_originate(fresh, &raised, 1, slot, sizeof slot);
+    if (!done("alarm", written.number) || !note(mant_retain(alarms, MANT_RECORDS, last_time, now, slot, written.length))) {
+        return 0;
     }
+    raised = 0;
+    alarm_id++;
+    return written.length;
 }
 
-/* Every alarm that is late is sent again, or given up. */
-static void retry(uint64_t now)
-{
-    MantOutcome outcome;
-
-    do {
-        outcome = mant_retry(alarms, MANT_RECORDS, last_time, now, DELAY, TRIES, output, sizeof output);
-        if (outcome.deed != MANT_DEED_NONE) {
-            printf("%u s: an alarm is late\n", (unsigned)now);
-        }
-        note(outcome);
-    } while (outcome.deed != MANT_DEED_NONE);
-}
-
+/* Sends the slot: alarms before all else, those that are late too, then from the queue what there is room for. What has no room (77, 62) goes out later. */
 static void send_slot(uint64_t now)
 {
-    MantBatch batch = mant_queue_take(queue, sizeof queue, output, SLOT_BYTES);
-
     printf("%u s: a slot\n", (unsigned)now);
-    if (done("queue", batch.number)) {
-        print_hex("sent", output, batch.bytes);
+    size_t used = raised != 0 ? begin_with_alarms(now) : 0;
+    MantOutcome outcome;
+    do {
+        outcome = mant_retry(alarms, MANT_RECORDS, last_time, now, DELAY, TRIES, slot + used, sizeof slot - used);
+        note(outcome);
+        used += outcome.length;
+    } while (outcome.deed != MANT_DEED_NONE);
+    MantBatch batch = mant_queue_take(queue, sizeof queue, slot + used, sizeof slot - used);
+    done("queue", batch.number);
+    used += batch.bytes;
+    if (used > 0) {
+        print_hex("sent", slot, used);
     }
 }
 
 int main(void)
 {
-    size_t next = 0;
-
     if (!done("lists", mant_list_fault(&lists))) {
         return 1;
     }
-    printf("1 s: the box starts with an alarm\n");
-    raise_alarm(1, 0x07, 1);
-    for (uint64_t now = 1; now <= 40; now++) { /* a box goes on */
+    raised = 0x04; /* the box starts with an alarm */
+    for (uint64_t now = 1, next = 0; now <= 40; now++) { /* a box goes on */
         for (; next < sizeof frames / sizeof frames[0] && frames[next].time == now; next++) {
             printf("%u s: %s\n", (unsigned)now, frames[next].what);
             hear_frame(frames[next].bytes, frames[next].length);
         }
-        retry(now);
         if (now % SLOT == 0) {
             send_slot(now);
         }
