@@ -43,7 +43,8 @@
  * the same, byte for byte, under both. Paths, exchanges and queues show none of these bits, and sealing is of 1.2 alone, so these take no edition.
  *
  * Stack. Bytes below the caller's stack pointer, return address included: the most of the calls that tests/stack.c tries of each. tests/run_boundary measures
- * them, and fails where one is above its limit or is not the figure that stands here.
+ * them, and fails where one is above its limit (docs/PERFORMANCE.md) or is not the figure that stands here. No way through the library's code takes more than
+ * that limit, counted in its disassembly, apart from what the C library's three functions take.
  *
  * Numbers. Every refusal has one: enum MantNumber below; mant_meaning, at the end, gives its words to a program.
  */
