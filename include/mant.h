@@ -19,7 +19,11 @@
  *     Planning             how often one report can go out at most; the sizes
  *
  * Each begins with what it is for, its memory, the numbers that it answers beside 0 and the stack of its calls, and ends with an example: the body of a main,
- * with mant.h, assert.h and string.h included, which the tests take out of here, compile and run. examples/box.c is a whole repeater.
+ * with mant.h, assert.h and string.h included, which the tests take out of here, compile and run as C11; C++20 takes the .name = of its structs too.
+ * examples/box.c is a whole repeater.
+ *
+ * Documents. 01 is the scope document; 02 the requests made after it, W-201 to W-212, each told in docs/requests/W-201.md and so on; 000 the protocol's
+ * edition 1.2; 003 the binary elements that serial devices send each other. The four themselves are kept apart from this repository.
  *
  * What a caller owes, since no code can look whether it holds. A pointer with a length other than 0 points to that many elements, aligned as C aligns their
  * type, which nothing else changes during the call; with length 0 it may be anything, NULL too, and is not followed. An output shares no memory with another
@@ -259,7 +263,9 @@ MantWritten mant_originate(MantFresh settings, const uint8_t *payload, size_t pa
 
 /* ---- A node ----
  *
- * What is delivered and what is repeated at a box, for one PDU (mant_hear) or for PDUs that lie back to back (mant_step).
+ * What is delivered and what is repeated at a box, for one PDU (mant_hear) or for PDUs that lie back to back (mant_step). No call remembers what was
+ * delivered: the same PDU heard by two ways is delivered twice, and repeated twice, unless the path shows that this node had it. Where that matters the box
+ * remembers it.
  * Memory: no call changes any. A node has eight address lists, two of each kind, such as one for the dry season and one for floods (document 02, W-211).
  *     They stay the caller's, together in a struct MantLists that is passed by its address, NULL for eight empty lists. Which of them a node reads is
  *     chosen in its settings, for each kind by itself; to change over is to change those choices and nothing else. All eight are checked at every call,
@@ -512,7 +518,7 @@ uint8_t mant_count_heard(uint16_t *table, size_t table_words, MantHeard heard);
 /* Counts the PDU at the start of the received bytes by what a node answered for it, as mant_count_heard does: delivery number 30 or 42 is an echo.
    Where the answer says that no PDU was read, `taken` is 0: it answers 0 and leaves the table alone. It is for a walk, after each step s that answered:
    with received = batch + (s.next.place - s.answer.taken) and the bytes from there to the batch's end; a step without an answer counts nothing.
-   Of an answer that is not the node's for these bytes, what they hold is counted. */
+   Hand on only what the node answered for these bytes: of another answer what they hold is counted, missing bytes as 0. */
 uint8_t mant_count_answer(uint16_t *table, size_t table_words, const uint8_t *received, size_t received_length, MantAnswer answer);
 
 /* What mant_hear answers and writes to the output, and the PDU counted in the table as by mant_count_answer, so that no PDU is forgotten. Every PDU
@@ -552,7 +558,8 @@ static inline MantListened mant_hear_and_count(uint64_t edition, MantNode settin
  *     changes the queue it writes the PDUs then held and before them their two numbers, and keeps the bytes behind them; where it does not, no byte changes.
  *     So in a queue that began empty the numbers are at all times those of the PDUs held. Of bytes put together by hand held are the PDUs that can be read
  *     there one after the other, 32 at most, within as many bytes as the second number tells, or as there is room for where it tells more;
- *     mant_queue_clear does not look at them, and mant_queue_level answers the two numbers as they stand.
+ *     mant_queue_clear does not look at them, and mant_queue_level answers the two numbers as they stand. So clear memory first that was not zeroed, or
+ *     what it happens to hold is sent.
  * Numbers: 60 to 62.
  * Stack: mant_queue_add 88, mant_queue_level 8, mant_queue_take 136, mant_queue_clear 8.
  */
@@ -657,12 +664,15 @@ MantWritten mant_write_exchange(const uint8_t *bytes, size_t bytes_length, uint8
 /* ---- Reliable messages ----
  *
  * PDUs of protocol 1 that wait for their acknowledgement (document 02, W-210; document 000, section 3.3): retained when they are sent, sent again where it
- * is late, reported failed where it never comes, freed where it does. What such a PDU asks of the box that it was sent to is written here too.
+ * is late, reported failed where it never comes, freed where it does. What such a PDU asks of the box that it was sent to is written here too. That box
+ * acknowledges each copy that reaches it, and each is delivered to it: no call remembers what was delivered, so a command that must not be obeyed twice is
+ * known to the box by its source and ID, or is sealed.
  * Memory: a table that the caller lends: MANT_RECORDS records, 4,480 bytes. Beside it the caller keeps the last accepted time, which each call answers and
- *     the next is given; 0 stands for no time accepted yet. Times are whole seconds of a clock that does not go back. A record is in use where its length is
- *     MANT_RETAINED_LIMIT at most and its PDU exactly one of protocol 1 with ACK clear and no path address; every other is free, one of all zeros too, so
- *     that the records may hold anything before the first call. The first is always the one at the lowest place. Where a call changes the table it
- *     changes one record; with a refusal none, nor the last time.
+ *     the next is given; 0 stands for no time accepted yet. Times are whole seconds of a clock that does not go back. If it was set back all the same (73), go
+ *     on with 0 for the last time and set sent_at of each record to the time now: each is then late after a whole delay, and its count stays. A record is in
+ *     use where its length is MANT_RETAINED_LIMIT at most and its PDU exactly one of protocol 1 with ACK clear and no path address; every other is free, one
+ *     of all zeros too, so that the records may hold anything before the first call. The first is always the one at the lowest place. Where a call changes
+ *     the table it changes one record; with a refusal none, nor the last time.
  * Numbers: 10, 11, 70 to 75, 77.
  * Stack: mant_retain 3,304, mant_retry 3,288, mant_acknowledge 3,128.
  */
@@ -735,8 +745,8 @@ MantOutcome mant_retry(MantRetained *table, size_t records, uint64_t last, uint6
    and has protocol 1: with ACK set it frees the first record with its ID and its addresses exchanged, or nothing where there is none; with ACK clear
    its acknowledgement is written to the output. No other PDU does anything. Where an acknowledgement is due it answers 10 where the hop limit is above
    7, 11 where the port is above 15; then, for any PDU, 74; then 77 where the acknowledgement, 9 bytes or with a path 10, has no room. What was delivered
-   stays delivered with each of them. It takes no time, and `last` comes back as it was. Of an answer that is not the node's for these bytes, what they
-   hold counts. */
+   stays delivered with each of them. It takes no time, and `last` comes back as it was. Hand on only what the node answered for these bytes: of another
+   answer what they hold counts, missing bytes as 0, and a MantAnswer of all zeros says delivered. */
 MantOutcome mant_acknowledge(MantRetained *table, size_t records, uint64_t last, const uint8_t *received, size_t received_length, MantAnswer answer,
                              MantSending sending, uint8_t *output, size_t output_length);
 
@@ -763,7 +773,10 @@ MantOutcome mant_acknowledge(MantRetained *table, size_t records, uint64_t last,
 /* ---- Sealing and opening ----
  *
  * Payloads that nobody without the key can read or make (document 02, W-212; document 000, section 3.5): a PDU sealed by who sends it, its payload opened by
- * who it is for, once. Repeaters need no key.
+ * who it is for, once. Repeaters need no key. The message number lies in clear in the first three bytes of the sealed payload, most significant first. Once a
+ * later number is accepted from a source an earlier one never opens, so who sends has one sealed message under way to a box, or seals what was lost anew under
+ * a new number. 82 is found before the hash is looked at: it proves nothing about who sent the PDU, nor that it was opened before; acknowledge then
+ * only the very message that was carried out last (examples/box.c).
  * Memory: to open, a record that the caller lends, and keeps over a restart too: MANT_SOURCE_WORDS uint32_t words, 516 bytes, for MANT_SOURCE_LIMIT sources;
  *     more words have room for no more, fewer for (words - 1) / 2. It is empty where its first word is 0. The first word is how many sources are held; then
  *     come two words for each, its address and the last message number accepted from it. A first word above the room is a full record's. A record is

@@ -535,6 +535,37 @@ static void retrying(void)
     CHECK(is_outcome(mant_retry(table, 16, 190, UINT64_MAX, 0, 0, NULL, 0), 0, 3, UINT64_MAX, 0, 0));
 }
 
+/* The clock is set back from 1,000 to 50: with the last time 0 and each record's time 50 it goes on, late after a whole delay. */
+static void a_clock_set_back(void)
+{
+    MantRetained table[MANT_RECORDS] = {0};
+    uint8_t output[11];
+    CHECK(mant_retain(table, 16, 0, 1000, command, 10).last == 1000);
+    CHECK(is_outcome(mant_retry(table, 16, 1000, 50, 30, 2, output, 11), MANT_EARLIER_TIME, 0, 1000, 0, 0));
+    for (size_t i = 0; i < MANT_RECORDS; i++) {
+        table[i].sent_at = 50;
+    }
+    CHECK(is_outcome(mant_retry(table, 16, 0, 79, 30, 2, output, 11), 0, 0, 79, 0, 0));
+    CHECK(is_outcome(mant_retry(table, 16, 79, 80, 30, 2, output, 11), 0, 2, 80, 0, 10) && is_retained(table, 80, 1));
+    CHECK(mant_retain(table, 16, 80, 80, command, 10).number == 71);
+}
+
+/* An answer that no node gave: one of zeros says delivered, and bytes that are not there count as 0. And a command is delivered as often as it is heard. */
+static void what_a_box_looks_after(void)
+{
+    const MantNode at_gate = {.own = 1600, .echo = true};
+    MantRetained table[MANT_RECORDS] = {0};
+    uint16_t stations[MANT_STATION_WORDS] = {0};
+    uint8_t output[9];
+    MantOutcome outcome = mant_acknowledge(table, 16, 5, command, 8, (MantAnswer){0}, sending, output, 9);
+    CHECK(outcome.deed == MANT_DEED_ACKNOWLEDGED && outcome.names.source == 1000 && outcome.names.destination == 1600 && outcome.names.pdu_id == 0);
+    CHECK(mant_count_answer(stations, MANT_STATION_WORDS, NULL, 0, (MantAnswer){.taken = 1}) == 0);
+    CHECK(mant_station_of(stations, MANT_STATION_WORDS, 0).station.reads == 1);
+    for (unsigned i = 0; i < 2; i++) {
+        CHECK(mant_hear(EDITION, at_gate, NO_LISTS, command, 10, NULL, 0).delivery == 0);
+    }
+}
+
 /* A command at the gate is acknowledged; the acknowledgement at the base frees the record, the second of two. */
 static void acknowledging(void)
 {
@@ -733,6 +764,9 @@ static void opening(void)
     CHECK(memcmp(output, example + 9, 11) == 0 && output[11] == 77);
     memset(output, 77, sizeof output);
     CHECK(is_written(mant_open(key, record, MANT_SOURCE_WORDS, sealed, 27, output, 12), 82, 0) && memcmp(output, untouched, 12) == 0);
+    CHECK(is_written(mant_open(key, record, MANT_SOURCE_WORDS, changed, 27, output, 12), 82, 0));
+    const uint8_t *number = sealed + mant_read(EDITION, sealed, 27).header_length;
+    CHECK((number[0] << 16 | number[1] << 8 | number[2]) == 850);
     CHECK(mant_hear(EDITION, node, NO_LISTS, sealed, 27, repeated, sizeof repeated).repeated_length == 29);
     record[2] = 849;
     CHECK(is_written(mant_open(key, record, MANT_SOURCE_WORDS, repeated, 29, output, 12), 0, 11) && memcmp(output, example + 9, 11) == 0);
@@ -798,6 +832,8 @@ int main(void)
     short_tables();
     no_records();
     retaining();
+    a_clock_set_back();
+    what_a_box_looks_after();
     retrying();
     acknowledging();
     null_queue();
