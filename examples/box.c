@@ -29,7 +29,7 @@ static uint8_t queue[MANT_QUEUE_LENGTH];
 static MantRetained alarms[MANT_RECORDS];
 static uint64_t last_time; /* in seconds since the start, so that no time is earlier than the last */
 static uint32_t record[MANT_SOURCE_WORDS];
-static uint64_t carried_out = UINT64_MAX; /* the last command: its source, PDU ID and message number as one; at first no command's */
+static uint64_t last_opened = UINT64_MAX; /* of what was opened last the source, PDU ID and message number, as one; at first nobody's */
 static uint8_t raised, alarm_id = 1;      /* the alarms that wait for a slot, a bit each, and the PDU ID that they get */
 static uint8_t output[MANT_PDU_LIMIT], plain[MANT_PAYLOAD_LIMIT], slot[SLOT_BYTES]; /* room for what a call writes */
 
@@ -77,22 +77,22 @@ static void enqueue(const char *name, const uint8_t *pdu, size_t length)
 /* Writes the record to memory that keeps it without power; either all of it is changed there or nothing. */
 static void save_record(void) { }
 
-/* A sealed command; whether to acknowledge it: only what was carried out. Of 82 that is known of the very last; any other came too late, or is forged. The
-   number is kept before the command is carried out, so that no restart carries it out twice. */
-static bool carry_out(const uint8_t *pdu, MantHeader header)
+/* A sealed payload, a command only where the base sends it to this box; whether to acknowledge it: only what was carried out. Of 82 that is known of the very
+   last; any other came too late, or is forged. The record is kept before a command is carried out, so that no restart carries it out twice. */
+static bool open_sealed(const uint8_t *pdu, MantHeader header)
 {
     MantWritten opened = mant_open(key, record, MANT_SOURCE_WORDS, pdu, header.pdu_length, plain, sizeof plain);
     if (!done("opening", opened.number) && opened.number != MANT_NUMBER_NOT_GREATER) {
         return false;
     }
     const uint8_t *number = pdu + header.header_length;
-    uint64_t command = (uint64_t)header.source << 32 | (uint64_t)header.pdu_id << 24 | (uint64_t)number[0] << 16 | (uint64_t)number[1] << 8 | number[2];
+    uint64_t message = (uint64_t)header.source << 32 | (uint64_t)header.pdu_id << 24 | (uint64_t)number[0] << 16 | (uint64_t)number[1] << 8 | number[2];
     if (opened.number == MANT_DONE) {
         save_record();
-        print_hex("command", plain, opened.length);
-        carried_out = command;
+        print_hex(header.source == BASE && header.has_destination ? "command" : "sealed report", plain, opened.length);
+        last_opened = message;
     }
-    return command == carried_out;
+    return message == last_opened;
 }
 
 /* What is delivered here; whether to acknowledge it. What is not sealed is a report: anyone can send it, and it may come twice, by two ways. */
@@ -100,7 +100,7 @@ static bool deliver(const uint8_t *pdu, MantAnswer answer)
 {
     MantHeader header = mant_read(EDITION, pdu, answer.taken);
     if (header.encrypted) {
-        return carry_out(pdu, header);
+        return open_sealed(pdu, header);
     }
     print_hex("payload", pdu + answer.delivered_place, answer.delivered_length);
     return true;

@@ -18,6 +18,8 @@ impl Exchange<'_> {
 }
 
 /// The header and the payload in the exchange that the bytes are, all of them.
+/// Refusals: 57 to 59, 1 to 6 on header and payload joined, and 63 where bytes
+/// follow the PDU or the two parts do not meet at the header's end.
 pub fn read_exchange(bytes: &[u8]) -> Result<Exchange<'_>, Refusal> {
     let exchange = raw::read_exchange(bytes);
     Refusal::check(exchange.number)?;
@@ -28,7 +30,7 @@ pub fn read_exchange(bytes: &[u8]) -> Result<Exchange<'_>, Refusal> {
 }
 
 /// Writes the exchange of the PDU at the start of the bytes and gives its
-/// length.
+/// length. Refusals: 1 to 6, and 14 where the output is shorter than that.
 pub fn write_exchange(bytes: &[u8], output: &mut [u8]) -> Result<usize, Refusal> {
     length(raw::write_exchange(bytes, output))
 }

@@ -8,6 +8,39 @@
 //! heard, [`Queue`] the PDUs that wait to be sent, [`Reliable`] those that wait
 //! for their acknowledgement, [`Record`] the last message numbers of encrypted
 //! PDUs. [`raw`] gives the library's structs as they are.
+//!
+//! What is refused is a [`Refusal`], with its number and its meaning; the
+//! functions below name the numbers in the order in which they are looked for,
+//! and with each of them output, table, queue and record stay as they were.
+//! `limits().pdu` bytes are room for every PDU, and [`Exchange::LIMIT`] for
+//! every exchange.
+//!
+//! No function remembers what was delivered: the same PDU heard by two ways is
+//! delivered twice, and so is a command that is sent again. Where that matters
+//! the program remembers it.
+//!
+//! To link, `libmant.a` must be there: `rt staticlib mant` makes it for x86-64
+//! Linux in the repository's `target/staticlib`, which is looked for first. On
+//! another processor `tools/build rust staticlib mant` makes one to try it
+//! with, and `MANT_LIB_DIR=../target/native` names its folder; a path that is
+//! not absolute counts from the repository's folder `rust`.
+//!
+//! A report goes out, and repeater 2000 hears it:
+//!
+//! ```
+//! use mant::{hear, originate, read, Fresh, Lists, Node, EDITION_1_2};
+//!
+//! let fresh = Fresh { source: 1000, hop_limit: 3, with_path: true, ..Fresh::default() };
+//! let node = Node { own: 2000, echo: true, repeating: true, ..Node::default() };
+//! let mut report = vec![0; mant::limits().pdu];
+//! let mut repeated = report.clone();
+//! let length = originate(&fresh, b"rain", &mut report)?;
+//! let answer = hear(EDITION_1_2, &node, &Lists::default(), &report[..length], &mut repeated);
+//! assert_eq!(&report[answer.delivery?], b"rain");
+//! let header = read(EDITION_1_2, &repeated[..answer.repeat?])?;
+//! assert_eq!((header.hop_limit, header.last_sender), (2, Some(2000)));
+//! # Ok::<(), mant::Refusal>(())
+//! ```
 
 mod edition;
 mod exchange;
@@ -23,7 +56,7 @@ pub use edition::Bits;
 pub use exchange::{read_exchange, write_exchange, Exchange};
 pub use node::{list_fault, list_holds, Choice, Lists, Node, TwoLists};
 pub use queue::{Queue, Taken};
-pub use raw::{Cursor, Key, Level, Limits, Names, Sending, EDITION_1_1, EDITION_1_2};
+pub use raw::{Cursor, Key, Level, Limits, Names, Retained, Sending, EDITION_1_1, EDITION_1_2};
 pub use refusal::Refusal;
 pub use reliable::{Deed, Reliable};
 pub use sealed::{seal, Record};
@@ -130,12 +163,13 @@ pub enum Step {
     Answered(Answer, Cursor),
     /// No more PDU.
     Ended,
-    /// The batch is above 16,384 bytes.
+    /// The batch is above 16,384 bytes, 54, and every step says so.
     Refused(Refusal),
 }
 
 /// The header of the PDU at the start of the bytes, as the edition shows it.
-/// Bytes after the PDU are not looked at.
+/// Bytes after the PDU are not looked at. Refusals: 17, and 1 to 6 where there
+/// is no PDU.
 pub fn read(edition: u64, bytes: &[u8]) -> Result<Header, Refusal> {
     let header = raw::read(edition, bytes);
     Refusal::check(header.number)?;
@@ -170,12 +204,14 @@ pub fn path_has(bytes: &[u8], address: u16) -> bool {
 }
 
 /// Writes the PDU at the start of the bytes again, from what the edition shows
-/// of it, and gives its length.
+/// of it, and gives its length. Refusals: 17, 1 to 6, and 14 where the output
+/// is shorter than the PDU.
 pub fn write_again(edition: u64, bytes: &[u8], output: &mut [u8]) -> Result<usize, Refusal> {
     length(raw::write_again(edition, bytes, output))
 }
 
-/// Writes a fresh PDU with this payload and gives its length.
+/// Writes a fresh PDU with this payload and gives its length. Refusals: 17, 10
+/// to 13, 16, and 14 where the output is shorter than the PDU.
 pub fn originate(fresh: &Fresh, payload: &[u8], output: &mut [u8]) -> Result<usize, Refusal> {
     let settings = raw::Fresh {
         edition: fresh.edition,
@@ -194,6 +230,13 @@ pub fn originate(fresh: &Fresh, payload: &[u8], output: &mut [u8]) -> Result<usi
 }
 
 /// What a node answers for the PDU at the start of the received bytes.
+///
+/// Refusals of delivery and repeat alike, the first that applies: 17, 20 to 22
+/// for a fault of the lists, 1 to 6 where there is no PDU, 30 and 42 with echo
+/// on, 31 to 34 by the lists that are chosen, and 40 where the output is too
+/// short for the repeated PDU, which then is not delivered either. Of delivery
+/// alone: 35 and 39; of repeat alone: 36 to 38 and 41. The output is written to
+/// only where repeat is `Ok`; it may be empty where nothing is to be repeated.
 pub fn hear(
     edition: u64,
     node: &Node,
@@ -205,8 +248,30 @@ pub fn hear(
     Answer::of(raw::hear(edition, node, lists, received, output))
 }
 
-/// One step of the walk over PDUs that lie back to back. A walk begins with
-/// `Cursor::default()`.
+/// One step of the walk over PDUs that lie back to back: what [`hear`] answers
+/// for the PDU at the cursor, with the same refusals and the same output. A walk
+/// begins with `Cursor::default()`.
+///
+/// After 17, 20 to 22 and 1 to 6 the next cursor has ended. Of the step that
+/// answered `answer` and `next`, the PDU began at `next.place - answer.taken`,
+/// and the ranges of the answer count from there.
+///
+/// ```
+/// use mant::{step, Cursor, Lists, Node, Step, EDITION_1_2};
+///
+/// let node = Node { own: 2000, echo: true, repeating: true, ..Node::default() };
+/// let batch = [2, 0, 0x10, 1, 3, 0xE8, 0, 0x2A, 2, 0, 0x10, 1, 0x0B, 0xB8, 0, 0x2B];
+/// let (mut cursor, mut repeated, mut payloads) = (Cursor::default(), [0; 4615], vec![]);
+/// while let Step::Answered(answer, next) =
+///     step(EDITION_1_2, &node, &Lists::default(), &batch, cursor, &mut repeated)
+/// {
+///     let pdu = &batch[next.place - answer.taken..];
+///     payloads.extend(answer.delivery.map(|range| &pdu[range]));
+///     cursor = next;
+/// }
+/// assert_eq!(payloads, [[0x2A], [0x2B]]);
+/// assert_eq!(cursor.place, batch.len());
+/// ```
 pub fn step(
     edition: u64,
     node: &Node,
@@ -226,13 +291,21 @@ pub fn step(
 
 /// The most transmissions that one fresh PDU with a path and this hop limit
 /// can cause among so many repeating nodes, all with echo on; the node at its
-/// source address is not one of them. None: 64 bits do not hold it.
+/// source address is not one of them. None: 64 bits do not hold it. Refusal: 10
+/// where the hop limit is above 7.
+///
+/// ```
+/// assert_eq!(mant::most_transmissions(5, 3), Ok(Some(86)));
+/// assert_eq!(mant::most_bytes(5, 3, 20), Ok(Some(2170)));
+/// assert_eq!(mant::most_transmissions(5, 8), Err(mant::Refusal::HopLimitAbove7));
+/// ```
 pub fn most_transmissions(nodes: u64, hop_limit: u64) -> Result<Option<u64>, Refusal> {
     bound(raw::most_transmissions(nodes, hop_limit))
 }
 
 /// The most bytes that those transmissions have together, where the fresh PDU
-/// has this size. None: 64 bits do not hold it.
+/// has this size. None: 64 bits do not hold it. Refusal: 10 where the hop limit
+/// is above 7.
 pub fn most_bytes(nodes: u64, hop_limit: u64, size: u64) -> Result<Option<u64>, Refusal> {
     bound(raw::most_bytes(nodes, hop_limit, size))
 }

@@ -61,7 +61,7 @@ impl Node {
 }
 
 /// The two lists of a kind, each low, high, low, high and so on, both ends
-/// included.
+/// included, in any order and of 128 values at most; overlaps are allowed.
 #[derive(Clone, Copy, Debug, Default, PartialEq, Eq)]
 pub struct TwoLists<'a> {
     /// The first.
@@ -105,7 +105,8 @@ pub fn list_fault(lists: &Lists) -> Result<(), Refusal> {
     Refusal::check(raw::list_fault(lists.in_order()))
 }
 
-/// Whether an address is in some range of a list.
+/// Whether an address is in some range of a list. An empty list holds none; a
+/// last value without a partner is no range.
 pub fn list_holds(list: &[u16], address: u16) -> bool {
     raw::list_holds(list, address)
 }

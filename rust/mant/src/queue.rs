@@ -81,6 +81,15 @@ impl Queue {
 
     /// Moves as many of the oldest PDUs to the output as fit there, or answers
     /// 62 where the oldest doesn't. An empty queue gives none.
+    ///
+    /// ```
+    /// let (mut queue, mut slot) = (mant::Queue::new(), [0; 12]);
+    /// queue.add(&[0x02, 0x00, 0x10, 0x01, 0x03, 0xE8, 0x00, 0x2A])?;
+    /// queue.add(&[0x00, 0x00, 0x00, 0x01, 0x03, 0xE9, 0x2B])?;
+    /// assert_eq!(queue.take(&mut slot)?.bytes, 8); // the first 8 of slot are to be sent
+    /// assert_eq!(queue.level().pdus, 1);
+    /// # Ok::<(), mant::Refusal>(())
+    /// ```
     pub fn take(&mut self, output: &mut [u8]) -> Result<Taken, Refusal> {
         let batch = raw::queue_take(&mut self.memory, output);
         Refusal::check(batch.number).map(|()| Taken {

@@ -1,59 +1,97 @@
 //! The C library as `include/mant.h` declares it, its structs passed through
 //! as they are. Slices go in as a pointer and a length, which is all that the
-//! library asks of a caller, so these functions are safe.
+//! library asks of a caller, so these functions are safe. What each answers the
+//! header tells under the name in C.
 
-#![allow(missing_docs)]
-
-/// `MantHeader`.
+/// The header of a PDU, as an edition shows it. A destination, PDU ID or path
+/// count that the PDU does not have is 0.
+/// In C `MantHeader`.
 #[repr(C)]
 #[derive(Clone, Copy, Debug, Default, PartialEq, Eq)]
 pub struct Header {
+    /// 0; else 17, or 1 to 6.
     pub number: u8,
+    /// 0 best efforts, 1 reliable.
     pub protocol: u8,
+    /// The time stamp request bit.
     pub time_stamp_request: bool,
+    /// The path bit.
     pub path_bit: bool,
+    /// Without one the PDU is for everyone.
     pub has_destination: bool,
+    /// 0 to 15.
     pub port: u8,
+    /// False under edition 1.1, which has no encrypted flag; `encrypted` is
+    /// false then.
     pub has_encrypted: bool,
+    /// The encrypted flag.
     pub encrypted: bool,
+    /// 0 to 3; under edition 1.1 all three bits, 0 to 7.
     pub reserved: u8,
+    /// The ACK bit.
     pub ack: bool,
+    /// The added header bit.
     pub added_header: bool,
+    /// 0 to 7; 7 sets no limit.
     pub hop_limit: u8,
+    /// How many bytes the payload has.
     pub payload_length: u16,
+    /// Source address.
     pub source: u16,
+    /// Destination address.
     pub destination: u16,
+    /// PDU ID.
     pub pdu_id: u8,
+    /// How many addresses the path has.
     pub path_count: u8,
+    /// False: the PDU has no path bit, so who sent it last is unknown.
     pub has_last_sender: bool,
+    /// Who it was heard from: the last path address, or the source if the path
+    /// is empty; 0 where it is unknown.
     pub last_sender: u16,
+    /// The payload begins here.
     pub header_length: usize,
+    /// Header and payload; the next PDU of a batch begins here.
     pub pdu_length: usize,
 }
 
-/// `MantWritten`.
+/// What writing answers: number 0 and how many bytes were written, or the
+/// refusal's number and length 0.
+/// In C `MantWritten`.
 #[repr(C)]
 #[derive(Clone, Copy, Debug, Default, PartialEq, Eq)]
 pub struct Written {
+    /// 0, or the number of the refusal.
     pub number: u8,
+    /// How many bytes were written.
     pub length: usize,
 }
 
-/// `MantExchange`.
+/// Where the parts of a PDU lie in an exchange that was read. Places count from
+/// its first byte. With a number other than 0 every field after it is 0.
+/// In C `MantExchange`.
 #[repr(C)]
 #[derive(Clone, Copy, Debug, Default, PartialEq, Eq)]
 pub struct Exchange {
+    /// 0; else 57, 58, 59, 1 to 6 or 63.
     pub number: u8,
+    /// Where the header begins in the exchange.
     pub header_place: usize,
+    /// How many bytes it has.
     pub header_length: usize,
+    /// Where the payload begins; with an empty one, where it would, which may
+    /// be the end of the bytes.
     pub payload_place: usize,
+    /// How many bytes the payload has.
     pub payload_length: usize,
 }
 
-/// `MantKey`.
+/// A key of AES-128.
+/// In C `MantKey`.
 #[repr(C)]
 #[derive(Clone, Copy, Default, PartialEq, Eq)]
 pub struct Key {
+    /// The key.
     pub bytes: [u8; 16],
 }
 
@@ -63,187 +101,295 @@ impl std::fmt::Debug for Key {
     }
 }
 
-/// `MantFresh`.
+/// What is asked of a fresh PDU. Edition, hop limit and port are wider than
+/// they need be, so that 263 arrives as 263 and is refused.
+/// In C `MantFresh`.
 #[repr(C)]
 #[derive(Clone, Copy, Debug, Default, PartialEq, Eq)]
 pub struct Fresh {
+    /// [`EDITION_1_1`] or [`EDITION_1_2`].
     pub edition: u64,
+    /// Source address.
     pub source: u16,
+    /// False: for everyone, and `destination` does not count.
     pub has_destination: bool,
+    /// Destination address.
     pub destination: u16,
+    /// 0 to 7; 7 sets no limit.
     pub hop_limit: u64,
+    /// 0 to 15.
     pub port: u64,
+    /// The time stamp request bit.
     pub time_stamp_request: bool,
+    /// Every node that repeats the PDU adds its address.
     pub with_path: bool,
+    /// Reliable service, which needs a destination.
     pub reliable: bool,
+    /// Written for reliable service only.
     pub pdu_id: u8,
+    /// The payload is encrypted already: sets the flag, which edition 1.1
+    /// lacks; ask for no time stamp then.
     pub encrypted: bool,
 }
 
-/// `MantNode`.
+/// What a node is set to.
+/// In C `MantNode`.
 #[repr(C)]
 #[derive(Clone, Copy, Debug, Default, PartialEq, Eq)]
 pub struct Node {
+    /// Its own address.
     pub own: u16,
+    /// Drop a PDU whose path holds the own address, or whose source it is.
     pub echo: bool,
+    /// Repeat what may be repeated.
     pub repeating: bool,
+    /// A choice: [`NO_LIST`], [`FIRST_LIST`] or [`SECOND_LIST`].
     pub source_pass: u8,
+    /// As `source_pass`.
     pub source_reject: u8,
+    /// As `source_pass`.
     pub destination_pass: u8,
+    /// As `source_pass`.
     pub destination_reject: u8,
 }
 
-/// `MantAnswer`.
+/// What a node answers for one PDU. Places count from the PDU's first byte.
+/// In C `MantAnswer`.
 #[repr(C)]
 #[derive(Clone, Copy, Debug, Default, PartialEq, Eq)]
 pub struct Answer {
+    /// 0: delivered; else why not.
     pub delivery: u8,
+    /// 0: repeated; else why not.
     pub repeat: u8,
+    /// False: who sent it last is unknown: no path bit, or the PDU was not
+    /// read.
     pub has_last_sender: bool,
+    /// Who the PDU was heard from: the last path address, or the source if the
+    /// path is empty; 0 where it is unknown.
     pub last_sender: u16,
+    /// Where the payload lies in the received bytes; 0 where nothing is
+    /// delivered.
     pub delivered_place: usize,
+    /// 0 where nothing is delivered, and for an empty payload.
     pub delivered_length: usize,
+    /// How many bytes were written to the output; 0 where nothing is repeated.
     pub repeated_length: usize,
+    /// Where the next PDU begins in the received bytes; 0 where this one was
+    /// not read: with 17, 20 to 22 and 1 to 6.
     pub taken: usize,
 }
 
-/// `MantCursor`.
+/// Where a walk over a batch has come to. A walk begins with place 0 and not
+/// ended.
+/// In C `MantCursor`.
 #[repr(C)]
 #[derive(Clone, Copy, Debug, Default, PartialEq, Eq)]
 pub struct Cursor {
+    /// Where the next PDU begins in the batch.
     pub place: usize,
+    /// Whether the walk has ended.
     pub ended: bool,
 }
 
-/// `MantStep`.
+/// What one step of a walk finds.
+/// In C `MantStep`.
 #[repr(C)]
 #[derive(Clone, Copy, Debug, Default, PartialEq, Eq)]
 pub struct Step {
+    /// [`ANSWERED`], [`ENDED`] or [`REFUSED`].
     pub kind: u8,
+    /// The answer, with [`ANSWERED`].
     pub answer: Answer,
+    /// The cursor of the next step.
     pub next: Cursor,
 }
 
-/// `MantStation`.
+/// A station that was heard. The counts stop at 65,535, each by itself.
+/// In C `MantStation`.
 #[repr(C)]
 #[derive(Clone, Copy, Debug, Default, PartialEq, Eq)]
 pub struct Station {
+    /// Its address.
     pub address: u16,
+    /// The PDUs read from it.
     pub reads: u16,
+    /// Those of them that echo dropped.
     pub echoes: u16,
+    /// False: none of them had the path bit, and so there is no shortest path
+    /// count.
     pub has_path: bool,
+    /// The least path count of those that had it; 0 where there is none.
     pub shortest_path: u16,
 }
 
-/// `MantFound`.
+/// What asking for a station answers: number 0 and the station, or 56 and a
+/// station that is all 0.
+/// In C `MantFound`.
 #[repr(C)]
 #[derive(Clone, Copy, Debug, Default, PartialEq, Eq)]
 pub struct Found {
+    /// 0, or the number of the refusal.
     pub number: u8,
+    /// The station, or all 0.
     pub station: Station,
 }
 
-/// `MantHeard`.
+/// What a table counts of a PDU that was read.
+/// In C `MantHeard`.
 #[repr(C)]
 #[derive(Clone, Copy, Debug, Default, PartialEq, Eq)]
 pub struct Heard {
+    /// Source address.
     pub source: u16,
+    /// The node dropped it by echo: it answered 30 or 42.
     pub echo: bool,
+    /// False: it has no path, and `path_count` does not count.
     pub path_bit: bool,
+    /// How many addresses the path has.
     pub path_count: u8,
 }
 
-/// `MantListened`.
+/// What hearing and counting answers: the node's answer, which does not depend
+/// on the table, and the table's number, 0 or 55.
+/// In C `MantListened`.
 #[repr(C)]
 #[derive(Clone, Copy, Debug, Default, PartialEq, Eq)]
 pub struct Listened {
+    /// The node's answer.
     pub answer: Answer,
+    /// 0, or 55.
     pub table_number: u8,
 }
 
-/// `MantLevel`.
+/// How many PDUs a queue holds, and how many bytes they have together.
+/// In C `MantLevel`.
 #[repr(C)]
 #[derive(Clone, Copy, Debug, Default, PartialEq, Eq)]
 pub struct Level {
+    /// How many PDUs.
     pub pdus: usize,
+    /// How many bytes they have together.
     pub bytes: usize,
 }
 
-/// `MantBatch`.
+/// What taking from a queue answers: number 0, how many PDUs were taken and how
+/// many bytes they fill in the output. With 62 both are 0.
+/// In C `MantBatch`.
 #[repr(C)]
 #[derive(Clone, Copy, Debug, Default, PartialEq, Eq)]
 pub struct Batch {
+    /// 0 or 62.
     pub number: u8,
+    /// How many PDUs.
     pub pdus: usize,
+    /// How many bytes they have together.
     pub bytes: usize,
 }
 
-/// `MantRetained`.
+/// A record of a retained PDU, which is the first `length` bytes of `pdu`;
+/// zeros stand behind it. A record that was freed or dropped is all zeros.
+/// In C `MantRetained`.
 #[repr(C)]
 #[derive(Clone, Copy, Debug, PartialEq, Eq)]
 pub struct Retained {
+    /// The PDU, and zeros behind it.
     pub pdu: [u8; RETAINED_LIMIT],
+    /// How many bytes the PDU has.
     pub length: usize,
+    /// When it was last sent, or retained.
     pub sent_at: u64,
+    /// How often it was sent again.
     pub count: u64,
 }
 
-/// `MantNames`.
+/// What a retained PDU is known by.
+/// In C `MantNames`.
 #[repr(C)]
 #[derive(Clone, Copy, Debug, Default, PartialEq, Eq)]
 pub struct Names {
+    /// Source address.
     pub source: u16,
+    /// Destination address.
     pub destination: u16,
+    /// PDU ID.
     pub pdu_id: u8,
 }
 
-/// `MantOutcome`.
+/// What the calls with a table of retained PDUs answer. With a number other
+/// than 0 the deed is 0 and `last` the one given; what a deed has not is 0.
+/// In C `MantOutcome`.
 #[repr(C)]
 #[derive(Clone, Copy, Debug, Default, PartialEq, Eq)]
 pub struct Outcome {
+    /// 0, or the number of the refusal.
     pub number: u8,
+    /// What was done, 0 for nothing, or a `DEED_` constant.
     pub deed: u8,
+    /// The last accepted time, to be given to the next call.
     pub last: u64,
+    /// With deeds 1 to 4: the record's, the first at 0.
     pub place: usize,
+    /// With deeds 1 to 4: the retained PDU's; with 5: the received PDU's.
     pub names: Names,
+    /// With deeds 2 and 5: how many bytes were written to the output.
     pub length: usize,
 }
 
-/// `MantSending`.
+/// What an acknowledgement is sent with, as in [`Fresh`]; hop limit and port
+/// count only where one is due.
+/// In C `MantSending`.
 #[repr(C)]
 #[derive(Clone, Copy, Debug, Default, PartialEq, Eq)]
 pub struct Sending {
+    /// 0 to 7; 7 sets no limit.
     pub hop_limit: u64,
+    /// 0 to 15.
     pub port: u64,
+    /// The time stamp request bit.
     pub time_stamp_request: bool,
+    /// Every node that repeats the PDU adds its address.
     pub with_path: bool,
 }
 
-/// `MantBound`.
+/// A bound. Number 10: the hop limit is above 7. Too large: 64 bits do not hold
+/// the value. In both the value is 0.
+/// In C `MantBound`.
 #[repr(C)]
 #[derive(Clone, Copy, Debug, Default, PartialEq, Eq)]
 pub struct Bound {
+    /// 0, or 10 where the hop limit is above 7.
     pub number: u8,
+    /// 64 bits do not hold the value.
     pub too_large: bool,
+    /// The bound; 0 where there is none.
     pub value: u64,
 }
 
-/// `MantLimits`.
+/// The sizes, as the library has them.
+/// In C `MantLimits`.
 #[repr(C)]
 #[derive(Clone, Copy, Debug, Default, PartialEq, Eq)]
 pub struct Limits {
+    /// The bytes of the shortest header.
     pub fixed: usize,
+    /// The most bytes of a payload.
     pub payload: usize,
+    /// The most addresses of a path.
     pub path: usize,
+    /// The most bytes of a header.
     pub header: usize,
+    /// The most bytes of a PDU.
     pub pdu: usize,
+    /// The most values of a list.
     pub list: usize,
+    /// The most bytes of a batch.
     pub batch: usize,
 }
 
-/// `MANT_EDITION_1_1`.
+/// Edition 1.1 as a number, `MANT_EDITION_1_1`.
 pub const EDITION_1_1: u64 = 11;
-/// `MANT_EDITION_1_2`.
+/// Edition 1.2 as a number, `MANT_EDITION_1_2`.
 pub const EDITION_1_2: u64 = 12;
 
 /// `MANT_NO_LIST`.

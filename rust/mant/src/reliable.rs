@@ -23,7 +23,9 @@ pub enum Deed {
 }
 
 /// The reliable PDUs that wait for their acknowledgement, 16 of them at most,
-/// and the last accepted time, in seconds. It begins free.
+/// and the last accepted time, in seconds. It begins free. After a clock was set
+/// back, 73, go on with [`Reliable::from_records`]: the same records with their
+/// `sent_at` set to the time now, and 0 for the last time.
 #[derive(Clone, Debug, PartialEq, Eq)]
 pub struct Reliable {
     records: [Retained; RECORDS],
@@ -57,8 +59,11 @@ impl Reliable {
         self.last
     }
 
-    /// Retains a PDU that is sent at this time; 73, 75, 72, 71 or 70 where it
-    /// can't.
+    /// Retains a PDU that is sent at this time. Refusals: 73 where the time is
+    /// earlier than the last, 75 where it is not one fresh reliable PDU, 72
+    /// where it has more than 256 bytes, 71 where one of the same source,
+    /// destination and ID is retained, 70 where no record is free. Send it only
+    /// once it is retained.
     pub fn retain(&mut self, time: u64, pdu: &[u8]) -> Result<Deed, Refusal> {
         let outcome = raw::retain(&mut self.records, self.last, time, pdu);
         self.after(outcome)
@@ -66,7 +71,21 @@ impl Reliable {
 
     /// One step: the first PDU that was last sent the delay ago, or longer, is
     /// sent again, or, where it was sent again so many times, reported failed.
-    /// At each moment, go on while something is done.
+    /// At each moment, go on while something is done. Refusals: 73, and 77 where
+    /// the output is shorter than the PDU to be sent, which then stays as it
+    /// was.
+    ///
+    /// ```
+    /// use mant::{originate, Deed, Fresh, Reliable};
+    ///
+    /// let command = Fresh { source: 1000, destination: Some(1600), reliable: true, ..Fresh::default() };
+    /// let (mut sent, mut table) = ([0; Reliable::LIMIT], Reliable::new());
+    /// let length = originate(&command, b"", &mut sent)?;
+    /// table.retain(100, &sent[..length])?;
+    /// assert_eq!(table.retry(129, 30, 2, &mut sent)?, Deed::Nothing);
+    /// assert!(matches!(table.retry(130, 30, 2, &mut sent)?, Deed::SentAgain(0, _, 9)));
+    /// # Ok::<(), mant::Refusal>(())
+    /// ```
     pub fn retry(
         &mut self,
         time: u64,
@@ -80,7 +99,10 @@ impl Reliable {
     }
 
     /// What the PDU at the start of the received bytes does, for which a node
-    /// has answered: it frees a record, or is acknowledged, or neither.
+    /// has answered: it frees a record, or is acknowledged, or neither. Hand on
+    /// only what the node answered for these bytes. Refusals: 10 and 11 where an
+    /// acknowledgement is due, and 77 where the output has no room for it, 9
+    /// bytes or with a path 10.
     pub fn acknowledge(
         &mut self,
         received: &[u8],

@@ -48,8 +48,31 @@ impl Record {
         Some(pair.1)
     }
 
-    /// Opens the sealed PDU at the start of the bytes: writes its plain payload
-    /// and gives its length.
+    /// Opens the sealed PDU at the start of the bytes: writes its plain payload,
+    /// gives its length, and notes its message number.
+    ///
+    /// Refusals, the first that applies: 1 to 6 where there is no PDU, 80 where
+    /// its encrypted bit is clear, 81 where its payload has fewer than 7 bytes,
+    /// 82 where its number is not greater than the last accepted from its
+    /// source, 83 where its hash differs, 84 where its source is new and the
+    /// record full, 87 where the output is shorter than the plain payload. With
+    /// each of them output and record stay as they were, so that after 87 the
+    /// PDU can be opened with more room. 82 is found before the hash is looked
+    /// at: it proves nothing about who sent the PDU, nor that it was opened
+    /// before. Once a later number is accepted an earlier one never opens.
+    ///
+    /// ```
+    /// use mant::{seal, Key, Record, Refusal};
+    ///
+    /// let key = Key { bytes: *b"keep me secret!!" };
+    /// let pdu = [0x02, 0x00, 0x10, 0x01, 0x03, 0xE8, 0x00, 0x2A];
+    /// let (mut sealed, mut plain, mut record) = ([0; 15], [0; 1], Record::new());
+    /// assert_eq!(seal(&key, 850, &pdu, &mut sealed), Ok(15));
+    /// assert_eq!(record.open(&key, &sealed, &mut []), Err(Refusal::NoRoomForPayload));
+    /// assert_eq!(record.open(&key, &sealed, &mut plain), Ok(1));
+    /// assert_eq!((plain, record.get(1000)), ([0x2A], Some(850)));
+    /// assert_eq!(record.open(&key, &sealed, &mut plain), Err(Refusal::NumberNotGreater));
+    /// ```
     pub fn open(&mut self, key: &Key, pdu: &[u8], output: &mut [u8]) -> Result<usize, Refusal> {
         length(raw::open(*key, &mut self.words, pdu, output))
     }
@@ -68,8 +91,12 @@ impl fmt::Debug for Record {
 }
 
 /// Seals the PDU at the start of the bytes under a message number, 16,777,215
-/// at most, and gives its length. Under one key no source may use a number
-/// twice.
+/// at most, and gives its length, 7 bytes more than the PDU's. Under one key no
+/// source may use a number twice: the caller counts them up, over a restart too.
+/// The number lies in clear in the first three bytes of the sealed payload.
+/// Refusals: 1 to 6, 88 where the encrypted bit is set already, 85 where the
+/// payload would have more than 4,095 bytes, 86 for a greater number, and 87
+/// where the output is shorter than the sealed PDU.
 pub fn seal(key: &Key, number: u64, pdu: &[u8], output: &mut [u8]) -> Result<usize, Refusal> {
     length(raw::seal(*key, number, pdu, output))
 }

@@ -109,14 +109,16 @@ impl Stations {
 
     /// Counts the PDU at the start of the received bytes by what a node
     /// answered for it, as after a step of a walk. Where no PDU was read
-    /// nothing is counted.
+    /// nothing is counted. Hand on only what the node answered for these bytes.
+    /// Refusal: 55 where the source is new and the table full.
     pub fn count_answer(&mut self, received: &[u8], answer: &Answer) -> Result<(), Refusal> {
         let answer = answer.raw();
         Refusal::check(raw::count_answer(&mut self.words, received, answer))
     }
 
     /// What [`crate::hear`] answers and writes, and the PDU counted if it could
-    /// be read, also where a list then stops it.
+    /// be read, also where a list then stops it. A full table, 55, changes
+    /// nothing in the node's answer.
     pub fn hear(
         &mut self,
         edition: u64,
