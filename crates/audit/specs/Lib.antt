@@ -1,14 +1,1 @@
-pub mod Promise
-pub mod Demands
-pub mod StationsHeard
-pub mod SerialExchange
-pub mod OwnReport
-pub mod TransmitQueue
-pub mod QueueLevel
-pub mod LeastReach
-pub mod Examples
-pub mod LastSender
-pub mod TwoEditions
-pub mod ReliableMessages
-pub mod TwoLists
-pub mod EncryptedPayloads
+pub mod Audited

@@ -1,1 +1,1 @@
-// No code: what is proved of every public function, and the worked examples.
+// No code: the demands, the requests' records and the worked examples, named in one place.

@@ -1,9 +1,0 @@
--- The public function of `opening`: its promise asks nothing of the caller and determines what the caller sees.
-use mathlib.Core.Path.{sym, _∙_}
-use denote.Ref.{now}
-use Rattle.audit.specs.Promise.{both, PromisedWithOutput}
-use Rattle.opening.proofs.open.Reads as open-reads
-use Rattle.opening.proofs.open.Kinds as open-kinds
-
-pub opened : PromisedWithOutput 3 open-kinds.ps open-kinds.r open-reads.Asked open-reads.Post (λ κs s. both (now (s .1 .0)) (now (s .1 .1 .1 .0)))
-opened = (λ κs a. tt, λ κs a x y s t p q. (p .0 ∙ sym (q .0), λ i. ((p .2 ∙ sym (q .2)) i, (p .1 ∙ sym (q .1)) i)))

@@ -1,0 +1,35 @@
+-- Where an auditor begins: all that is claimed, by name. Each record is a file of its own, in the crate of that name, to be read beside its place in
+-- documents 01 and 02. W-204 claims nothing that is new: no answer, byte or promise changed. What every public function's promise must be, and that it
+-- is so, is crate `promises`.
+use Rattle.checked_by_hand.specs.Examples.{CheckedByHand}
+use Rattle.demands.specs.Demands.{Demand1, Demand2, Demand3}
+use Rattle.stations_heard.specs.StationsHeard.{StationsHeard}
+use Rattle.serial_exchange.specs.SerialExchange.{SerialExchange}
+use Rattle.own_report.specs.OwnReport.{OwnReport}
+use Rattle.last_sender.specs.LastSender.{LastSender}
+use Rattle.transmit_queue.specs.TransmitQueue.{TransmitQueue}
+use Rattle.queue_level.specs.QueueLevel.{QueueLevel}
+use Rattle.least_reach.specs.LeastReach.{LeastReach}
+use Rattle.two_editions.specs.TwoEditions.{TwoEditions}
+use Rattle.reliable_messages.specs.ReliableMessages.{ReliableMessages}
+use Rattle.two_lists.specs.TwoLists.{TwoLists}
+use Rattle.encrypted_payloads.specs.EncryptedPayloads.{EncryptedPayloads}
+
+pub record Audited : Type 0 where
+  -- the three demands, and 01's cases checked by hand
+  pub total : Demand1
+  pub exactly : Demand2
+  pub bounded : Demand3
+  pub by-hand : CheckedByHand
+  -- 02's requests
+  pub w201 : StationsHeard
+  pub w202 : SerialExchange
+  pub w203 : OwnReport
+  pub w205 : LastSender
+  pub w206 : TransmitQueue
+  pub w207 : QueueLevel
+  pub w208 : LeastReach
+  pub w209 : TwoEditions
+  pub w210 : ReliableMessages
+  pub w211 : TwoLists
+  pub w212 : EncryptedPayloads

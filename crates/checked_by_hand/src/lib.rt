@@ -1,0 +1,1 @@
+// No code: document 01, "Checked by hand", the cases marked P.

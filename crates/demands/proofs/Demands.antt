@@ -1,0 +1,172 @@
+-- The three demands, each from its parts.
+use Prim.Native.Nat.{ℕ, _≤_}
+use native.Mathlib.Omega.{arith}
+use mathlib.Core.Bool.{Bool, true, false, cond, _||_}
+use mathlib.Core.List.{List, [], _∷_, _++_, map}
+use mathlib.Core.Logic.{_⊎_}
+use mathlib.Core.Path.{_≡_, refl, ap, sym, _∙_}
+use lib.Dec.{ltb}
+use lib.ListN.{length, take, drop}
+use borrow.Author.Tests.{ne-eqb, eqb-true, eqb-false, le-ltb}
+use Rattle.octets.specs.Octets.{AllBytes, over}
+use Rattle.pdu.specs.declared.Header.{Header}
+use Rattle.pdu.specs.declared.Reading.{Reading}
+use Rattle.pdu.specs.declared.Reading.the-variants.{Pdu, Refused}
+use Rattle.pdu.specs.declared.Written.{Written}
+use Rattle.pdu.specs.Sizes.{pduLimit, pduLength}
+use Rattle.pdu.specs.Reading.{readOf}
+use Rattle.pdu.specs.Parts.{pathIn, payloadIn}
+use Rattle.writing.specs.Writing.{encode, writtenOf, outputOf, writeAgain, writtenAgain}
+use Rattle.origin.specs.Origination.{originationNumber, originated, originatedOutput}
+use Rattle.decision.specs.Decision.{Node, repeatFault}
+use Rattle.node.specs.Repeat.{repeatedHeader, repeated}
+use Rattle.node.specs.declared.Answer.{Answer}
+use Rattle.node.specs.Answers.{listOrReadingFault, repeatNumber, answerOf, outputAfter}
+use Rattle.batch.specs.declared.Cursor.{Cursor}
+use Rattle.batch.specs.declared.Stepped.the-variants.{TooLong, Ended, Answered}
+use Rattle.batch.specs.declared.Stepped.{Stepped}
+use Rattle.batch.specs.Walk.{batchLimit, isTooLong, isDone, nextCursor, stepOf, stepOutput, endingAt, walkFrom, walk}
+use Rattle.origin.proofs.ReadBack.{fresh-back}
+use Rattle.origin.proofs.Deciding.{hop-refused, refused-early}
+use Rattle.writing.proofs.Same.{written-same, shown-well-formed}
+use Rattle.writing.proofs.Back.{read-encode, path-encode, payload-encode}
+use Rattle.node.proofs.Heard.{repeats, delivered-part}
+use Rattle.node.proofs.Repeating.{ready}
+use Rattle.node.proofs.Encoded.{alone-reads, alone-path, alone-payload, repeat-short}
+use Rattle.batch.proofs.Walking as walking
+use Rattle.flood.specs.Air.{address}
+use Rattle.flood.proofs.Demand.{demand-3, demand-3-bytes}
+use Rattle.flood.proofs.Demand as demand
+use Rattle.flood.proofs.Exact as exact
+use Rattle.flood.proofs.Fresh.{originated-begins, fresh-source, fresh-hop}
+use Rattle.flood.proofs.Sent.{sent-written, none-written}
+use Rattle.demands.specs.Demands.{Demand1, Demand2, Demand3}
+
+written-as-was : (reading : Reading) (bytes output : List ℕ) → (writtenOf reading (length output) .number ≡ 0 → ⊥)
+    → outputOf reading bytes output ≡ output
+written-as-was (Refused refusal) bytes output ne = refl
+written-as-was (Pdu header) bytes output ne = go (ltb (length output) (pduLength header)) ne
+  where
+    go : (t : Bool) → (_≡_ {A = ℕ}
+        (cond {A = Written} t (record { number = 14; length = 0 }) (record { number = 0; length = pduLength header }) .number) 0 → ⊥)
+        → cond t output (over (encode header (pathIn header bytes) (payloadIn header bytes)) output) ≡ output
+    go true n = refl
+    go false n = absurd (n refl)
+
+writing-as-was : (bytes output : List ℕ) → (writeAgain bytes (length output) .number ≡ 0 → ⊥) → writtenAgain bytes output ≡ output
+unfolding writeAgain writtenAgain
+writing-as-was bytes output ne = written-as-was (readOf bytes) bytes output ne
+
+node-as-was : (node : Node) (received output : List ℕ) → (repeatNumber node (length output) received ≡ 0 → ⊥)
+    → outputAfter node received output ≡ output
+unfolding outputAfter
+node-as-was node received output ne = rw (ne-eqb (repeatNumber node (length output) received) 0 ne)
+
+step-as-was : (node : Node) (batch : List ℕ) (cursor : Cursor) (output : List ℕ)
+    → ((answer : Answer) (next : Cursor) → stepOf node (length output) batch cursor ≡ Answered answer next → answer .repeat ≡ 0 → ⊥)
+    → stepOutput node batch cursor output ≡ output
+unfolding stepOf stepOutput answerOf
+step-as-was node batch cursor output ne = go (isTooLong batch) (isDone batch cursor) ne
+  where
+    go : (long done : Bool)
+        → ((answer : Answer) (next : Cursor)
+        → cond long TooLong (cond done Ended
+        (Answered (answerOf node (length output) (drop (cursor .place) batch)) (nextCursor node batch (cursor .place))))
+        ≡ Answered answer next → answer .repeat ≡ 0 → ⊥)
+        → cond (long || done) output (outputAfter node (drop (cursor .place) batch) output) ≡ output
+    go true done n = refl
+    go false true n = refl
+    go false false n = node-as-was node (drop (cursor .place) batch) output (n _ _ refl)
+
+pub total : Demand1
+unfolding originated originatedOutput
+total =
+    record {
+      hop-refused = λ settings payload output named h.
+          rw (refused-early settings payload (length output) 10 (hop-refused settings payload named h) (omega arith)) (refl, refl);
+      origination-untouched = λ settings payload output ne. rw (ne-eqb (originationNumber settings payload (length output)) 0 ne);
+      writing-untouched = λ bytes output ne. writing-as-was bytes output ne;
+      node-untouched = λ node received output ne. node-as-was node received output ne;
+      step-untouched = λ node batch cursor output ne. step-as-was node batch cursor output ne;
+    }
+
+again-same : (bytes output : List ℕ) (header : Header) → AllBytes bytes → readOf bytes ≡ Pdu header → pduLength header ≤ length output
+    → (writeAgain bytes (length output) ≡ record { number = 0; length = pduLength header })
+    × (writtenAgain bytes output ≡ over (take (pduLength header) bytes) output)
+unfolding writeAgain writtenAgain
+again-same bytes output header small e fits =
+    let room = le-ltb (length output) (pduLength header) fits in
+    (rw (e, room), rw (e, room) (ap (λ (front : List ℕ). over front output) (written-same bytes header small e)))
+
+same-header : (a b : Header) → Pdu a ≡ Pdu b → a ≡ b
+same-header a b e = cc
+
+repeat-back : (node : Node) (room : ℕ) (received : List ℕ) (header : Header) → AllBytes received → readOf received ≡ Pdu header
+    → repeatNumber node room received ≡ 0
+    → (readOf (repeated (node .settings .own) received) ≡ Pdu (repeatedHeader header))
+    × (pathIn (repeatedHeader header) (repeated (node .settings .own) received)
+    ≡ pathIn header received ++ cond (header .«path_bit») (node .settings .own ∷ []) [])
+    × (payloadIn (repeatedHeader header) (repeated (node .settings .own) received) ≡ payloadIn header received)
+    × (length (repeated (node .settings .own) received) ≤ pduLimit)
+repeat-back node room received header small e z =
+    let r = repeats node room received z in
+    let same : r .header ≡ header = same-header (r .header) header (sym (r .read) ∙ e) in
+    let ok = ready (node .settings) received header e (ap (repeatFault (node .settings)) (sym same) ∙ r .repeats) in (
+      alone-reads received header small e ok (node .settings .own),
+      alone-path received header small e ok (node .settings .own),
+      alone-payload received header small e ok (node .settings .own),
+      repeat-short received header small e ok (node .settings .own),
+    )
+
+walk-answers : (node : Node) (room : ℕ) (batch : List ℕ)
+    → walk node room batch .answers ≡ map (λ (offset : ℕ). answerOf node room (drop offset batch)) (walk node room batch .offsets)
+unfolding walk
+walk-answers node room batch = go (isTooLong batch)
+  where
+    go : (long : Bool)
+        → cond long (endingAt 54 0) (walkFrom (length batch) node room batch 0) .answers
+        ≡ map (λ (offset : ℕ). answerOf node room (drop offset batch)) (cond long (endingAt 54 0) (walkFrom (length batch) node room batch 0) .offsets)
+    go true = refl
+    go false = walking.answers-at node room batch (length batch) 0
+
+walk-ends : (node : Node) (room : ℕ) (batch : List ℕ) → length batch ≤ batchLimit
+    → (length batch ≤ walk node room batch .end) ⊎ (listOrReadingFault node (drop (walk node room batch .end) batch) ≡ 0 → ⊥)
+unfolding walk
+walk-ends node room batch short = rw (le-ltb batchLimit (length batch) short) (walking.walk-complete node room batch (length batch) 0 (omega arith))
+
+pub exactly : Demand2
+exactly =
+    record {
+      written-again = λ bytes output header small e fits. again-same bytes output header small e fits;
+      reads-back = λ header path payload rest ok. (read-encode ok rest, path-encode ok rest, payload-encode ok rest);
+      fresh-reads-back = λ settings payload rest room e.
+          let back = fresh-back settings payload room e rest in
+          (back .reads, back .no-path, back .carries);
+      read-well-formed = λ bytes header small e. shown-well-formed bytes header small e;
+      repeat-reads-back = λ node room received header small e z. repeat-back node room received header small e z;
+      delivered-part = λ node room received. delivered-part node room received;
+      stepping-walks = λ node room batch. walking.stepping-walks node room batch;
+      walk-answers = λ node room batch. walk-answers node room batch;
+      walk-ends = λ node room batch short. walk-ends node room batch short;
+    }
+
+pub bounded : Demand3
+bounded =
+    record {
+      bounded = λ nodes all settings payload room message receptions once. demand-3 nodes all settings payload room message receptions once;
+      bytes-bounded =
+          λ nodes all settings payload room message receptions once. demand-3-bytes nodes all settings payload room message receptions once;
+      reached = λ nodes all settings payload room message free roomy everyone fits receptions once complete. (
+        exact.reached nodes all settings payload room message free roomy
+            (λ n m. exact.for-everyone (address n) (settings .destination) everyone) fits receptions once complete,
+        exact.reached-bytes nodes all settings payload room message free roomy
+            (λ n m. exact.for-everyone (address n) (settings .destination) everyone) fits receptions once complete,
+      );
+      schedule = λ nodes all settings payload room message. demand.schedule nodes all settings payload room message;
+      begun-bounded = λ nodes all first begins receptions once.
+          (demand.begun-bounded nodes all first begins receptions once, demand.begun-bytes nodes all first begins receptions once);
+      originated-begins = λ settings payload room message.
+          (originated-begins settings payload room message, fresh-source settings payload room message, fresh-hop settings payload room message);
+      sent-is-left = λ n received output sent long e. sent-written n received output long sent e;
+      silent-is-left = λ n received output long e. none-written n received output long e;
+    }

@@ -1,0 +1,126 @@
+-- The three demands, each as one record; `proofs/Demands.antt` gives each of them and cites its parts.
+use Prim.Native.Nat.{ℕ, _+_, _*_, _<_, _≤_}
+use mathlib.Core.Bool.{true, false, cond}
+use mathlib.Core.List.{List, [], _∷_, _++_, map, List·Memᴰ, List·Nodup}
+use mathlib.Core.Logic.{_⊎_}
+use mathlib.Core.Option.{none, some}
+use mathlib.Core.Path.{_≡_}
+use lib.ListN.{length, take, drop}
+use Rattle.octets.specs.Octets.{AllBytes, over}
+use Rattle.pdu.specs.declared.Destination.the-variants.{Everyone}
+use Rattle.pdu.specs.declared.Header.{Header}
+use Rattle.pdu.specs.declared.Reading.the-variants.{Pdu}
+use Rattle.pdu.specs.Sizes.{pathLimit, pduLimit, pduLength}
+use Rattle.pdu.specs.Reading.{readOf}
+use Rattle.pdu.specs.Parts.{pathIn, payloadIn}
+use Rattle.writing.specs.Writing.{encode, writeAgain, writtenAgain, WellFormed}
+use Rattle.editions.specs.Editions.{known}
+use Rattle.origin.specs.declared.Settings as asked
+use Rattle.origin.specs.Origination.{freshHeader, fresh, originationNumber, originated, originatedOutput}
+use Rattle.node.specs.declared.Answer.{Answer}
+use Rattle.decision.specs.Decision.{Node}
+use Rattle.node.specs.Repeat.{repeatedHeader, repeated}
+use Rattle.node.specs.Answers.{listOrReadingFault, repeatNumber, delivered, answerOf, outputAfter}
+use Rattle.batch.specs.declared.Cursor.{Cursor}
+use Rattle.batch.specs.declared.Stepped.the-variants.{Answered}
+use Rattle.batch.specs.Walk.{batchLimit, stepOf, stepOutput, walk, steps}
+use Rattle.bound.specs.Bound.{terms, bound, bytesBound}
+use Rattle.flood.specs.Flood.{Reception, others, Bounded}
+use Rattle.flood.specs.Complete.{Complete}
+use Rattle.flood.specs.Air.{Repeater, Nodes, Open, Originated, address, sends, sourceOf, pathOf, onTheAir, bytesOnTheAir, Begins, hopOf}
+
+-- Demand 1, total. That every public function answers any input, and how, are its contract and the theorems of crate `promises`, one for each function,
+-- in the files named by the crates. Here: a hop setting above 7 is refused, whatever else is set, with nothing written; with 10 under
+-- the editions that there are, else with 17 (document 02, W-209).
+pub record Demand1 : Type 0 where
+  pub hop-refused : (settings : asked.Settings) (payload output : List ℕ) → known (settings .edition) ≡ true → 7 < settings .«hop_limit»
+      → (originated settings payload (length output) ≡ record { number = 10; length = 0 }) × (originatedOutput settings payload output ≡ output)
+  -- with a number other than 0 no output is touched: at origination, in writing again, at a node, in a step of the walk
+  pub origination-untouched : (settings : asked.Settings) (payload output : List ℕ) → (originationNumber settings payload (length output) ≡ 0 → ⊥)
+      → originatedOutput settings payload output ≡ output
+  pub writing-untouched : (bytes output : List ℕ) → (writeAgain bytes (length output) .number ≡ 0 → ⊥) → writtenAgain bytes output ≡ output
+  pub node-untouched : (node : Node) (received output : List ℕ) → (repeatNumber node (length output) received ≡ 0 → ⊥)
+      → outputAfter node received output ≡ output
+  pub step-untouched : (node : Node) (batch : List ℕ) (cursor : Cursor) (output : List ℕ)
+      → ((answer : Answer) (next : Cursor) → stepOf node (length output) batch cursor ≡ Answered answer next → answer .repeat ≡ 0 → ⊥)
+      → stepOutput node batch cursor output ≡ output
+
+-- Demand 2, exact. The contracts say that reading, writing and the node's decision are the definitions; these say that the definitions fit together.
+pub record Demand2 : Type 0 where
+  -- what is read and written again is the same bytes, at the start of an output that has room for them
+  pub written-again : (bytes output : List ℕ) (header : Header) → AllBytes bytes → readOf bytes ≡ Pdu header → pduLength header ≤ length output
+      → (writeAgain bytes (length output) ≡ record { number = 0; length = pduLength header })
+      × (writtenAgain bytes output ≡ over (take (pduLength header) bytes) output)
+  -- what is written reads back, whatever follows it
+  pub reads-back : (header : Header) (path payload rest : List ℕ) → WellFormed header path payload
+      → (readOf (encode header path payload ++ rest) ≡ Pdu header) × (pathIn header (encode header path payload ++ rest) ≡ path)
+      × (payloadIn header (encode header path payload ++ rest) ≡ payload)
+  -- and so does what was originated, as it was set
+  pub fresh-reads-back : (settings : asked.Settings) (payload rest : List ℕ) (room : ℕ) → originationNumber settings payload room ≡ 0
+      → (readOf (fresh settings payload ++ rest) ≡ Pdu (freshHeader settings (length payload)))
+      × (pathIn (freshHeader settings (length payload)) (fresh settings payload ++ rest) ≡ [])
+      × (payloadIn (freshHeader settings (length payload)) (fresh settings payload ++ rest) ≡ payload)
+  -- what was read is well-formed, so that the law above is about all of it
+  pub read-well-formed : (bytes : List ℕ) (header : Header) → AllBytes bytes → readOf bytes ≡ Pdu header
+      → WellFormed header (pathIn header bytes) (payloadIn header bytes)
+  -- a repeat reads back as the received header with hop limit, count and path changed as said, the own address after the last path entry, and the
+  -- same payload; it is never longer than a PDU may be
+  pub repeat-reads-back : (node : Node) (room : ℕ) (received : List ℕ) (header : Header) → AllBytes received
+      → readOf received ≡ Pdu header → repeatNumber node room received ≡ 0
+      → (readOf (repeated (node .settings .own) received) ≡ Pdu (repeatedHeader header))
+      × (pathIn (repeatedHeader header) (repeated (node .settings .own) received)
+      ≡ pathIn header received ++ cond (header .«path_bit») (node .settings .own ∷ []) [])
+      × (payloadIn (repeatedHeader header) (repeated (node .settings .own) received) ≡ payloadIn header received)
+      × (length (repeated (node .settings .own) received) ≤ pduLimit)
+  -- the delivered payload is the part of the received bytes that the node's answer names
+  pub delivered-part : (node : Node) (room : ℕ) (received : List ℕ)
+      → take (answerOf node room received .«delivered_length») (drop (answerOf node room received .«delivered_place») received)
+      ≡ delivered node room received
+  -- stepping over a batch gives exactly its walk
+  pub stepping-walks : (node : Node) (room : ℕ) (batch : List ℕ)
+      → steps node room batch (length batch) (record { place = 0; ended = false }) ≡ walk node room batch
+  -- each answer of a walk is the node's for the bytes at its offset, and it ends where no bytes are left or at a PDU that can't be read
+  pub walk-answers : (node : Node) (room : ℕ) (batch : List ℕ)
+      → walk node room batch .answers ≡ map (λ (offset : ℕ). answerOf node room (drop offset batch)) (walk node room batch .offsets)
+  pub walk-ends : (node : Node) (room : ℕ) (batch : List ℕ) → length batch ≤ batchLimit
+      → (length batch ≤ walk node room batch .end) ⊎ (listOrReadingFault node (drop (walk node room batch .end) batch) ≡ 0 → ⊥)
+
+-- Demand 3, bounded, over demand 2's rules, as document 02, W-203 has it: any nodes of different addresses with echo on, whatever their lists, settings
+-- and room, the originator among them or not; any message that origination wrote with a path; any receptions of transmissions already made, by the
+-- originator too, none twice. N is the number of the others, the nodes whose address is not the source.
+pub record Demand3 : Type 0 where
+  pub bounded : (nodes : List Repeater) → Nodes nodes → (settings : asked.Settings) (payload : List ℕ) (room : ℕ) → Originated settings payload room
+      → (receptions : List Reception) → List·Nodup receptions
+      → Bounded address pathOf (others address (settings .source) nodes) (settings .«hop_limit») (onTheAir nodes (fresh settings payload) receptions)
+  -- the bytes on the air
+  pub bytes-bounded : (nodes : List Repeater) → Nodes nodes → (settings : asked.Settings) (payload : List ℕ) (room : ℕ)
+      → Originated settings payload room
+      → (receptions : List Reception) → List·Nodup receptions
+      → bytesOnTheAir nodes (fresh settings payload) receptions
+      ≤ bytesBound (length (others address (settings .source) nodes)) (settings .«hop_limit») (length (fresh settings payload))
+  -- both are exact where each of the others repeats what it may and has room, every node hears every transmission, and the message is for everyone
+  pub reached : (nodes : List Repeater) → Nodes nodes → (settings : asked.Settings) (payload : List ℕ) (room : ℕ) → Originated settings payload room
+      → let counted = others address (settings .source) nodes in
+      ((n : Repeater) → List·Memᴰ n counted → Open (n .node))
+      → ((n : Repeater) → List·Memᴰ n counted → length (fresh settings payload) + 2 * terms (length counted) (settings .«hop_limit») ≤ n .room)
+      → settings .destination ≡ Everyone → (length counted ≤ pathLimit) ⊎ (settings .«hop_limit» < 7)
+      → (receptions : List Reception) → List·Nodup receptions → Complete sends nodes (fresh settings payload ∷ []) receptions
+      → (length (onTheAir nodes (fresh settings payload) receptions) ≡ bound (length counted) (settings .«hop_limit»))
+      × (bytesOnTheAir nodes (fresh settings payload) receptions
+      ≡ bytesBound (length counted) (settings .«hop_limit») (length (fresh settings payload)))
+  -- and such receptions exist
+  pub schedule : (nodes : List Repeater) → Nodes nodes → (settings : asked.Settings) (payload : List ℕ) (room : ℕ)
+      → Originated settings payload room
+      → (receptions : List Reception) × List·Nodup receptions × Complete sends nodes (fresh settings payload ∷ []) receptions
+  -- and of whatever else begins a flood, as an originated message does
+  pub begun-bounded : (nodes : List Repeater) → Nodes nodes → (first : List ℕ) → Begins first
+      → (receptions : List Reception) → List·Nodup receptions
+      → Bounded address pathOf (others address (sourceOf first) nodes) (hopOf first) (onTheAir nodes first receptions)
+      × (bytesOnTheAir nodes first receptions ≤ bytesBound (length (others address (sourceOf first) nodes)) (hopOf first) (length first))
+  pub originated-begins : (settings : asked.Settings) (payload : List ℕ) (room : ℕ) → Originated settings payload room
+      → Begins (fresh settings payload) × (sourceOf (fresh settings payload) ≡ settings .source) × (hopOf (fresh settings payload) ≡ settings .«hop_limit»)
+  -- what a node of the model sends is what `hear` leaves at the start of its output; where it sends nothing, `hear` repeats nothing
+  pub sent-is-left : (n : Repeater) (received output sent : List ℕ) → length output ≡ n .room → sends n received ≡ some sent
+      → take (answerOf (n .node) (length output) received .«repeated_length») (outputAfter (n .node) received output) ≡ sent
+  pub silent-is-left : (n : Repeater) (received output : List ℕ) → length output ≡ n .room → sends n received ≡ none
+      → (answerOf (n .node) (length output) received .«repeated_length» ≡ 0) × (outputAfter (n .node) received output ≡ output)

@@ -1,0 +1,1 @@
+// No code: the three demands, each as one record.

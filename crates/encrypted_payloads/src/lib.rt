@@ -1,0 +1,1 @@
+// No code: document 02, W-212, as one record.

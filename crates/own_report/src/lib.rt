@@ -1,0 +1,1 @@
+// No code: document 02, W-203, as one record.

@@ -1,0 +1,180 @@
+-- Every public function of `mant`: its promise asks nothing of the caller and determines what the caller sees.
+use mathlib.Core.Path.{refl, sym, _∙_}
+use denote.Ref.{now}
+use Rattle.promises.specs.Promise.{both, Promised, PromisedWithOutput}
+use Rattle.mant.proofs.mant_read.Reads as mant-read-reads
+use Rattle.mant.proofs.mant_read.Kinds as mant-read-kinds
+use Rattle.mant.proofs.mant_path_address.Reads as mant-path-address-reads
+use Rattle.mant.proofs.mant_path_address.Kinds as mant-path-address-kinds
+use Rattle.mant.proofs.mant_path_has.Reads as mant-path-has-reads
+use Rattle.mant.proofs.mant_path_has.Kinds as mant-path-has-kinds
+use Rattle.mant.proofs.mant_write_again.Reads as mant-write-again-reads
+use Rattle.mant.proofs.mant_write_again.Kinds as mant-write-again-kinds
+use Rattle.mant.proofs.mant_originate.Reads as mant-originate-reads
+use Rattle.mant.proofs.mant_originate.Kinds as mant-originate-kinds
+use Rattle.mant.proofs.mant_list_fault_eight.Reads as mant-list-fault-eight-reads
+use Rattle.mant.proofs.mant_list_fault_eight.Kinds as mant-list-fault-eight-kinds
+use Rattle.mant.proofs.mant_list_holds.Reads as mant-list-holds-reads
+use Rattle.mant.proofs.mant_list_holds.Kinds as mant-list-holds-kinds
+use Rattle.mant.proofs.mant_hear_eight.Reads as mant-hear-eight-reads
+use Rattle.mant.proofs.mant_hear_eight.Kinds as mant-hear-eight-kinds
+use Rattle.mant.proofs.mant_step_eight.Reads as mant-step-eight-reads
+use Rattle.mant.proofs.mant_step_eight.Kinds as mant-step-eight-kinds
+use Rattle.mant.proofs.mant_most_transmissions.Reads as mant-most-transmissions-reads
+use Rattle.mant.proofs.mant_most_transmissions.Kinds as mant-most-transmissions-kinds
+use Rattle.mant.proofs.mant_most_bytes.Reads as mant-most-bytes-reads
+use Rattle.mant.proofs.mant_most_bytes.Kinds as mant-most-bytes-kinds
+use Rattle.mant.proofs.mant_limits.Reads as mant-limits-reads
+use Rattle.mant.proofs.mant_limits.Kinds as mant-limits-kinds
+use Rattle.mant.proofs.mant_stations_capacity.Reads as mant-stations-capacity-reads
+use Rattle.mant.proofs.mant_stations_capacity.Kinds as mant-stations-capacity-kinds
+use Rattle.mant.proofs.mant_stations_held.Reads as mant-stations-held-reads
+use Rattle.mant.proofs.mant_stations_held.Kinds as mant-stations-held-kinds
+use Rattle.mant.proofs.mant_station_at.Reads as mant-station-at-reads
+use Rattle.mant.proofs.mant_station_at.Kinds as mant-station-at-kinds
+use Rattle.mant.proofs.mant_station_of.Reads as mant-station-of-reads
+use Rattle.mant.proofs.mant_station_of.Kinds as mant-station-of-kinds
+use Rattle.mant.proofs.mant_remove_station.Reads as mant-remove-station-reads
+use Rattle.mant.proofs.mant_remove_station.Kinds as mant-remove-station-kinds
+use Rattle.mant.proofs.mant_count_heard.Reads as mant-count-heard-reads
+use Rattle.mant.proofs.mant_count_heard.Kinds as mant-count-heard-kinds
+use Rattle.mant.proofs.mant_count_answer.Reads as mant-count-answer-reads
+use Rattle.mant.proofs.mant_count_answer.Kinds as mant-count-answer-kinds
+use Rattle.mant.proofs.mant_hear_and_count_eight.Reads as mant-hear-and-count-eight-reads
+use Rattle.mant.proofs.mant_hear_and_count_eight.Kinds as mant-hear-and-count-eight-kinds
+use Rattle.mant.proofs.mant_read_exchange.Reads as mant-read-exchange-reads
+use Rattle.mant.proofs.mant_read_exchange.Kinds as mant-read-exchange-kinds
+use Rattle.mant.proofs.mant_write_exchange.Reads as mant-write-exchange-reads
+use Rattle.mant.proofs.mant_write_exchange.Kinds as mant-write-exchange-kinds
+use Rattle.mant.proofs.mant_queue_level.Reads as mant-queue-level-reads
+use Rattle.mant.proofs.mant_queue_level.Kinds as mant-queue-level-kinds
+use Rattle.mant.proofs.mant_queue_clear.Reads as mant-queue-clear-reads
+use Rattle.mant.proofs.mant_queue_clear.Kinds as mant-queue-clear-kinds
+use Rattle.mant.proofs.mant_queue_add.Reads as mant-queue-add-reads
+use Rattle.mant.proofs.mant_queue_add.Kinds as mant-queue-add-kinds
+use Rattle.mant.proofs.mant_queue_take.Reads as mant-queue-take-reads
+use Rattle.mant.proofs.mant_queue_take.Kinds as mant-queue-take-kinds
+use Rattle.mant.proofs.mant_seal.Reads as mant-seal-reads
+use Rattle.mant.proofs.mant_seal.Kinds as mant-seal-kinds
+use Rattle.mant.proofs.mant_open.Reads as mant-open-reads
+use Rattle.mant.proofs.mant_open.Kinds as mant-open-kinds
+
+pub mant-read : Promised 1 mant-read-kinds.ps mant-read-kinds.r mant-read-reads.Asked mant-read-reads.Post (λ κs x. x)
+mant-read = (λ κs a. tt, λ κs a x y s t p q. p ∙ sym q)
+
+pub mant-path-address : Promised 1 mant-path-address-kinds.ps mant-path-address-kinds.r mant-path-address-reads.Asked
+    mant-path-address-reads.Post (λ κs x. x)
+mant-path-address = (λ κs a. tt, λ κs a x y s t p q. p ∙ sym q)
+
+pub mant-path-has : Promised 1 mant-path-has-kinds.ps mant-path-has-kinds.r mant-path-has-reads.Asked mant-path-has-reads.Post (λ κs x. x)
+mant-path-has = (λ κs a. tt, λ κs a x y s t p q. p ∙ sym q)
+
+pub mant-write-again : PromisedWithOutput 2 mant-write-again-kinds.ps mant-write-again-kinds.r mant-write-again-reads.Asked
+    mant-write-again-reads.Post (λ κs s. now (s .1 .1 .0))
+mant-write-again = (λ κs a. tt, λ κs a x y s t p q. (p .0 ∙ sym (q .0), p .1 ∙ sym (q .1)))
+
+pub mant-originate : PromisedWithOutput 2 mant-originate-kinds.ps mant-originate-kinds.r mant-originate-reads.Asked
+    mant-originate-reads.Post (λ κs s. now (s .1 .1 .0))
+mant-originate = (λ κs a. tt, λ κs a x y s t p q. (p .0 ∙ sym (q .0), p .1 ∙ sym (q .1)))
+
+pub mant-list-fault-eight : Promised 1 mant-list-fault-eight-kinds.ps mant-list-fault-eight-kinds.r mant-list-fault-eight-reads.Asked
+    mant-list-fault-eight-reads.Post (λ κs x. x)
+mant-list-fault-eight = (λ κs a. tt, λ κs a x y s t p q. p ∙ sym q)
+
+pub mant-list-holds : Promised 1 mant-list-holds-kinds.ps mant-list-holds-kinds.r mant-list-holds-reads.Asked mant-list-holds-reads.Post (λ κs x. x)
+mant-list-holds = (λ κs a. tt, λ κs a x y s t p q. p ∙ sym q)
+
+pub mant-hear-eight : PromisedWithOutput 3 mant-hear-eight-kinds.ps mant-hear-eight-kinds.r mant-hear-eight-reads.Asked
+    mant-hear-eight-reads.Post
+    (λ κs s. now (s .1 .1 .1 .1 .1 .1 .1 .1 .1 .1 .1 .0))
+mant-hear-eight = (λ κs a. tt, λ κs a x y s t p q. (p .0 ∙ sym (q .0), p .1 ∙ sym (q .1)))
+
+pub mant-step-eight : PromisedWithOutput 3 mant-step-eight-kinds.ps mant-step-eight-kinds.r mant-step-eight-reads.Asked
+    mant-step-eight-reads.Post
+    (λ κs s. now (s .1 .1 .1 .1 .1 .1 .1 .1 .1 .1 .1 .1 .0))
+mant-step-eight = (λ κs a. tt, λ κs a x y s t p q. (p .0 ∙ sym (q .0), p .1 ∙ sym (q .1)))
+
+pub mant-most-transmissions : Promised 0 mant-most-transmissions-kinds.ps mant-most-transmissions-kinds.r
+    mant-most-transmissions-reads.Asked mant-most-transmissions-reads.Post (λ κs x. x)
+mant-most-transmissions = (λ κs a. tt, λ κs a x y s t p q. p ∙ sym q)
+
+pub mant-most-bytes : Promised 0 mant-most-bytes-kinds.ps mant-most-bytes-kinds.r mant-most-bytes-reads.Asked mant-most-bytes-reads.Post (λ κs x. x)
+mant-most-bytes = (λ κs a. tt, λ κs a x y s t p q. p ∙ sym q)
+
+pub mant-limits : Promised 0 mant-limits-kinds.ps mant-limits-kinds.r mant-limits-reads.Asked mant-limits-reads.Post (λ κs x. x)
+mant-limits = (λ κs a. tt, λ κs a x y s t p q. p ∙ sym q)
+
+pub mant-stations-capacity : Promised 1 mant-stations-capacity-kinds.ps mant-stations-capacity-kinds.r mant-stations-capacity-reads.Asked
+    mant-stations-capacity-reads.Post (λ κs x. x)
+mant-stations-capacity = (λ κs a. tt, λ κs a x y s t p q. p ∙ sym q)
+
+pub mant-stations-held : Promised 1 mant-stations-held-kinds.ps mant-stations-held-kinds.r mant-stations-held-reads.Asked
+    mant-stations-held-reads.Post (λ κs x. x)
+mant-stations-held = (λ κs a. tt, λ κs a x y s t p q. p ∙ sym q)
+
+pub mant-station-at : Promised 1 mant-station-at-kinds.ps mant-station-at-kinds.r mant-station-at-reads.Asked
+    mant-station-at-reads.Post (λ κs x. x)
+mant-station-at = (λ κs a. tt, λ κs a x y s t p q. p ∙ sym q)
+
+pub mant-station-of : Promised 1 mant-station-of-kinds.ps mant-station-of-kinds.r mant-station-of-reads.Asked
+    mant-station-of-reads.Post (λ κs x. x)
+mant-station-of = (λ κs a. tt, λ κs a x y s t p q. p ∙ sym q)
+
+pub mant-remove-station : PromisedWithOutput 1 mant-remove-station-kinds.ps mant-remove-station-kinds.r mant-remove-station-reads.Asked
+    mant-remove-station-reads.Post
+    (λ κs s. now (s .0))
+mant-remove-station = (λ κs a. tt, λ κs a x y s t p q. (p .0 ∙ sym (q .0), p .1 ∙ sym (q .1)))
+
+pub mant-count-heard : PromisedWithOutput 1 mant-count-heard-kinds.ps mant-count-heard-kinds.r mant-count-heard-reads.Asked
+    mant-count-heard-reads.Post
+    (λ κs s. now (s .0))
+mant-count-heard = (λ κs a. tt, λ κs a x y s t p q. (p .0 ∙ sym (q .0), p .1 ∙ sym (q .1)))
+
+pub mant-count-answer : PromisedWithOutput 2 mant-count-answer-kinds.ps mant-count-answer-kinds.r mant-count-answer-reads.Asked
+    mant-count-answer-reads.Post
+    (λ κs s. now (s .0))
+mant-count-answer = (λ κs a. tt, λ κs a x y s t p q. (p .0 ∙ sym (q .0), p .1 ∙ sym (q .1)))
+
+pub mant-hear-and-count-eight : PromisedWithOutput 4 mant-hear-and-count-eight-kinds.ps mant-hear-and-count-eight-kinds.r
+    mant-hear-and-count-eight-reads.Asked
+    mant-hear-and-count-eight-reads.Post
+    (λ κs s. both (now (s .1 .1 .1 .1 .1 .1 .1 .1 .1 .1 .1 .0)) (now (s .1 .1 .1 .1 .1 .1 .1 .1 .1 .1 .1 .1 .0)))
+mant-hear-and-count-eight = (
+  λ κs a. tt,
+  λ κs a x y s t p q. (
+    λ i. record { answer = (p .0 .0 ∙ sym (q .0 .0)) i; «table_number» = (p .1 ∙ sym (q .1)) i },
+    λ i. ((p .0 .1 ∙ sym (q .0 .1)) i, (p .2 ∙ sym (q .2)) i),
+  ),
+)
+
+pub mant-read-exchange : Promised 1 mant-read-exchange-kinds.ps mant-read-exchange-kinds.r mant-read-exchange-reads.Asked
+    mant-read-exchange-reads.Post (λ κs x. x)
+mant-read-exchange = (λ κs a. tt, λ κs a x y s t p q. p ∙ sym q)
+
+pub mant-write-exchange : PromisedWithOutput 2 mant-write-exchange-kinds.ps mant-write-exchange-kinds.r mant-write-exchange-reads.Asked
+    mant-write-exchange-reads.Post (λ κs s. now (s .1 .0))
+mant-write-exchange = (λ κs a. tt, λ κs a x y s t p q. (p .0 ∙ sym (q .0), p .1 ∙ sym (q .1)))
+
+pub mant-queue-level : Promised 1 mant-queue-level-kinds.ps mant-queue-level-kinds.r mant-queue-level-reads.Asked
+    mant-queue-level-reads.Post (λ κs x. x)
+mant-queue-level = (λ κs a. tt, λ κs a x y s t p q. p ∙ sym q)
+
+pub mant-queue-clear : PromisedWithOutput 1 mant-queue-clear-kinds.ps mant-queue-clear-kinds.r mant-queue-clear-reads.Asked
+    mant-queue-clear-reads.Post (λ κs s. now (s .0))
+mant-queue-clear = (λ κs a. tt, λ κs a x y s t p q. (refl, p ∙ sym q))
+
+pub mant-queue-add : PromisedWithOutput 2 mant-queue-add-kinds.ps mant-queue-add-kinds.r mant-queue-add-reads.Asked
+    mant-queue-add-reads.Post (λ κs s. now (s .0))
+mant-queue-add = (λ κs a. tt, λ κs a x y s t p q. (p .0 ∙ sym (q .0), p .1 ∙ sym (q .1)))
+
+pub mant-queue-take : PromisedWithOutput 2 mant-queue-take-kinds.ps mant-queue-take-kinds.r mant-queue-take-reads.Asked
+    mant-queue-take-reads.Post (λ κs s. both (now (s .0)) (now (s .1 .0)))
+mant-queue-take = (λ κs a. tt, λ κs a x y s t p q. (p .0 ∙ sym (q .0), λ i. ((p .1 ∙ sym (q .1)) i, (p .2 ∙ sym (q .2)) i)))
+
+pub mant-seal : PromisedWithOutput 2 mant-seal-kinds.ps mant-seal-kinds.r mant-seal-reads.Asked
+    mant-seal-reads.Post (λ κs s. now (s .1 .1 .1 .0))
+mant-seal = (λ κs a. tt, λ κs a x y s t p q. (p .0 ∙ sym (q .0), p .1 ∙ sym (q .1)))
+
+pub mant-open : PromisedWithOutput 3 mant-open-kinds.ps mant-open-kinds.r mant-open-reads.Asked
+    mant-open-reads.Post (λ κs s. both (now (s .1 .0)) (now (s .1 .1 .1 .0)))
+mant-open = (λ κs a. tt, λ κs a x y s t p q. (p .0 ∙ sym (q .0), λ i. ((p .2 ∙ sym (q .2)) i, (p .1 ∙ sym (q .1)) i)))

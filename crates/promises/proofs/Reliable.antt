@@ -1,0 +1,45 @@
+-- Every public function that is lent records, of `reliable` and of `mant`: its promise asks nothing of the caller and determines what the caller sees.
+use mathlib.Core.Path.{_≡_, sym, _∙_, ap}
+use base.Logic.{emp, id⊢}
+use denote.Ref.{now}
+use lib.ListN.{set}
+use Rattle.retained.specs.declared.Effect.{Effect}
+use Rattle.promises.specs.Promise.{both, PromisedInLogicWithOutput}
+use Rattle.promises.proofs.View.{both as both-facts}
+use Rattle.reliable.proofs.operate as operate-contract
+use Rattle.mant.proofs.mant_retain as mant-retain-contract
+use Rattle.mant.proofs.mant_retry as mant-retry-contract
+use Rattle.mant.proofs.mant_acknowledge as mant-acknowledge-contract
+
+pub operate : PromisedInLogicWithOutput operate-contract.ended (λ M 𝓤. operate-contract.clauses 𝓤) (λ κs s. now (s .0))
+operate =
+    record {
+      unconditional = λ M 𝓤 H A mem run κs a g. id⊢ 𝓤 (emp 𝓤);
+      determined = λ M 𝓤 H A mem run κs a g h x y s t. both-facts 𝓤
+          (λ p q. (p .0 ∙ sym (q .0), p .1 ∙ ap (λ (e : Effect). set (now (a .0)) (e .place) (e .keep)) (p .0 ∙ sym (q .0)) ∙ sym (q .1)));
+    }
+
+pub mant-retain : PromisedInLogicWithOutput mant-retain-contract.ended (λ M 𝓤. mant-retain-contract.clauses 𝓤) (λ κs s. now (s .0))
+mant-retain =
+    record {
+      unconditional = λ M 𝓤 H A mem run κs a g. id⊢ 𝓤 (emp 𝓤);
+      determined = λ M 𝓤 H A mem run κs a g h x y s t. both-facts 𝓤 (λ p q. (p .0 ∙ sym (q .0), p .1 ∙ sym (q .1)));
+    }
+
+pub mant-retry : PromisedInLogicWithOutput mant-retry-contract.ended (λ M 𝓤. mant-retry-contract.clauses 𝓤)
+    (λ κs s. both (now (s .0)) (now (s .1 .1 .1 .1 .1 .0)))
+mant-retry =
+    record {
+      unconditional = λ M 𝓤 H A mem run κs a g. id⊢ 𝓤 (emp 𝓤);
+      determined = λ M 𝓤 H A mem run κs a g h x y s t. both-facts 𝓤
+          (λ p q. (p .0 ∙ sym (q .0), λ i. ((p .1 ∙ sym (q .1)) i, (p .2 ∙ sym (q .2)) i)));
+    }
+
+pub mant-acknowledge : PromisedInLogicWithOutput mant-acknowledge-contract.ended (λ M 𝓤. mant-acknowledge-contract.clauses 𝓤)
+    (λ κs s. both (now (s .0)) (now (s .1 .1 .1 .1 .1 .0)))
+mant-acknowledge =
+    record {
+      unconditional = λ M 𝓤 H A mem run κs a g. id⊢ 𝓤 (emp 𝓤);
+      determined = λ M 𝓤 H A mem run κs a g h x y s t. both-facts 𝓤
+          (λ p q. (p .0 ∙ sym (q .0), λ i. ((p .1 ∙ sym (q .1)) i, (p .2 ∙ sym (q .2)) i)));
+    }

@@ -1,0 +1,1 @@
+// No code: what the promise of a public function must be, and the proof that each is so.

@@ -1,0 +1,261 @@
+-- Document 02, W-210, as one record; `proofs/ReliableMessages.antt` gives it from its parts. "Any table" is any records, put together by hand or not.
+use Prim.Native.Nat.{ℕ, _+_, _*_, _<_, _≤_}
+use mathlib.Core.Bool.{Bool, true, false}
+use mathlib.Core.Logic.{_⊎_}
+use mathlib.Core.List.{List, [], _∷_, _++_, List·Nodup}
+use mathlib.Core.Path.{_≡_}
+use lib.ListN.{length, set, replicate}
+use Rattle.octets.specs.Octets.{AllBytes, over}
+use Rattle.pdu.specs.declared.Destination.the-variants.{Address}
+use Rattle.pdu.specs.declared.Reading.the-variants.{Pdu}
+use Rattle.pdu.specs.Header.{headerOf}
+use Rattle.pdu.specs.Sizes.{pathEntries, pduLength}
+use Rattle.pdu.specs.Reading.{readOf, exactlyOne}
+use Rattle.origin.specs.declared.Settings as origin
+use Rattle.origin.specs.Origination.{fresh}
+use Rattle.decision.specs.Decision.{Node}
+use Rattle.node.specs.Repeat.{repeated}
+use Rattle.node.specs.Answers.{deliveryNumber, repeatNumber}
+use Rattle.retained.specs.declared.Names.{Names}
+use Rattle.retained.specs.declared.Retained.{Retained}
+use Rattle.retained.specs.declared.Outcome.{Outcome}
+use Rattle.retained.specs.Records.{isRetainable, unfit, pduOf, isUsed, isFree, namesOf, exchanged, isNamed, isDue}
+use Rattle.retained.specs.Records.{retainedRecord, sentRecord, freedRecord}
+use Rattle.retained.specs.Table.{recordAt, noNames, answers, did, kept, sent, failed, freed}
+use Rattle.retained.specs.Table.{retain, tableRetained, step, tableStepped, outputStepped}
+use Rattle.answering.specs.declared.Sending.{Sending}
+use Rattle.answering.specs.Delivered.{isAnswered, isAcknowledgement, ackHeader, acknowledgement, answered}
+use Rattle.answering.specs.Delivered.{acknowledge, tableAcknowledged, outputAcknowledged}
+use Rattle.ending.specs.First.{FirstAt, Nowhere}
+use Rattle.ending.specs.History.{Settings, Retains, Hears, Steps, Waiting, Lost, Arrived, history, start}
+use Rattle.ending.specs.Ending.{Statement, enough, Settling}
+use Rattle.flood.specs.Flood.{Reception, others, Bounded}
+use Rattle.flood.specs.Air.{Repeater, Nodes, Begins, Originated, address, sourceOf, pathOf, hopOf, onTheAir}
+use Rattle.checked_by_hand.specs.Examples.{nodeAt}
+
+-- what retaining, a step and a PDU heard answer, and what they leave in the table and in the output
+abbrev pub Keeps : List Retained → ℕ → ℕ → List ℕ → Outcome → List Retained → Type 0
+Keeps table last now bytes outcome after = (retain table last now bytes ≡ outcome) × (tableRetained table last now bytes ≡ after)
+
+abbrev pub Tries : List Retained → ℕ → ℕ → ℕ → ℕ → List ℕ → Outcome → List Retained → List ℕ → Type 0
+Tries table last now delay tries output outcome after left =
+    (step table last now delay tries (length output) ≡ outcome) × (tableStepped table last now delay tries (length output) ≡ after)
+    × (outputStepped table last now delay tries output ≡ left)
+
+abbrev pub Answers : List Retained → ℕ → ℕ → Sending → List ℕ → List ℕ → Outcome → List Retained → List ℕ → Type 0
+Answers table last delivery sending received output outcome after left =
+    (acknowledge table last delivery sending (length output) received ≡ outcome)
+    × (tableAcknowledged table delivery sending (length output) received ≡ after)
+    × (outputAcknowledged table delivery sending received output ≡ left)
+
+-- the same PDU, as far as this table goes: source, destination and ID, protocol and ACK
+abbrev pub SamePdu : List ℕ → List ℕ → Type 0
+SamePdu copy bytes =
+    (namesOf copy ≡ namesOf bytes) × (headerOf copy .protocol ≡ headerOf bytes .protocol) × (headerOf copy .ack ≡ headerOf bytes .ack)
+
+-- a command from 2000 to 1000 with hop limit 3 and an ID, and with ID 7; that with the path bit, a count and a path; and with 256 or 257 bytes
+abbrev pub commandOf : ℕ → List ℕ
+commandOf id = 0x09 ∷ 0x40 ∷ 0x30 ∷ 0x00 ∷ 0x07 ∷ 0xD0 ∷ 0x03 ∷ 0xE8 ∷ id ∷ []
+
+abbrev pub command : List ℕ
+command = commandOf 7
+
+abbrev pub withPath : ℕ → List ℕ → List ℕ
+withPath count path = 0x0B ∷ 0x40 ∷ 0x30 ∷ 0x00 ∷ 0x07 ∷ 0xD0 ∷ 0x03 ∷ 0xE8 ∷ 0x07 ∷ count ∷ path
+
+abbrev pub of256 : List ℕ
+of256 = 0x09 ∷ 0x40 ∷ 0x30 ∷ 0xF7 ∷ 0x07 ∷ 0xD0 ∷ 0x03 ∷ 0xE8 ∷ 0x07 ∷ replicate 247 0
+
+abbrev pub of257 : List ℕ
+of257 = 0x09 ∷ 0x40 ∷ 0x30 ∷ 0xF8 ∷ 0x07 ∷ 0xD0 ∷ 0x03 ∷ 0xE8 ∷ 0x07 ∷ replicate 248 0
+
+-- its acknowledgement, hop limit 7, port 15, time stamp requested, with the path bit
+abbrev pub reply : List ℕ
+reply = 0x0F ∷ 0xF1 ∷ 0x70 ∷ 0x00 ∷ 0x03 ∷ 0xE8 ∷ 0x07 ∷ 0xD0 ∷ 0x07 ∷ 0x00 ∷ []
+
+abbrev pub sendingMost : Sending
+sendingMost = record { «hop_limit» = 7; port = 15; «time_stamp_request» = true; «with_path» = true }
+
+-- the settings of origination that an acknowledgement is sent with
+abbrev pub sendingOf : origin.Settings → Sending
+sendingOf s =
+    record { «hop_limit» = s .«hop_limit»; port = s .port; «time_stamp_request» = s .«time_stamp_request»; «with_path» = s .«with_path» }
+
+abbrev pub commandNames : Names
+commandNames = record { source = 2000; destination = 1000; «pdu_id» = 7 }
+
+-- tables of 16: all free, and all holding the command as retained at second 10
+abbrev pub empty : List Retained
+empty = replicate 16 freedRecord
+
+abbrev pub full : List Retained
+full = replicate 16 (retainedRecord 10 command)
+
+-- delay 5, two more sendings
+abbrev pub twice : Settings
+twice = record { delay = 5; tries = 2; room = 256 }
+
+pub record ReliableMessages : Type 0 where
+  -- a record is free exactly where 75 or 72 would refuse its PDU; what was dropped or freed is
+  pub used : (r : Retained) → isUsed r ≡ true → (r .length ≤ 256) × (unfit (pduOf r) ≡ 0)
+  pub used-only : (r : Retained) → r .length ≤ 256 → unfit (pduOf r) ≡ 0 → isUsed r ≡ true
+  pub freed-is-free : isFree freedRecord ≡ true
+  -- what 75 asks: exactly one PDU, of protocol 1, with ACK clear and no path address
+  pub retainable : (bytes : List ℕ) → isRetainable bytes ≡ true
+      → (exactlyOne bytes ≡ true) × (headerOf bytes .protocol ≡ 1) × (headerOf bytes .ack ≡ false) × (pathEntries (headerOf bytes) ≡ 0)
+  pub retainable-only : (bytes : List ℕ) → exactlyOne bytes ≡ true → headerOf bytes .protocol ≡ 1 → headerOf bytes .ack ≡ false
+      → pathEntries (headerOf bytes) ≡ 0 → isRetainable bytes ≡ true
+  -- a PDU's names are its source, destination and ID; a record has them where it is in use and its PDU has
+  pub names-are : (bytes : List ℕ) (to : ℕ) → headerOf bytes .destination ≡ Address to
+      → namesOf bytes ≡ record { source = headerOf bytes .source; destination = to; «pdu_id» = headerOf bytes .«pdu_id» }
+  pub named : (names : Names) (r : Retained) → isNamed names r ≡ true → (isUsed r ≡ true) × (namesOf (pduOf r) ≡ names)
+  pub named-only : (names : Names) (r : Retained) → isUsed r ≡ true → namesOf (pduOf r) ≡ names → isNamed names r ≡ true
+  -- due: in use, and its time, not after now, lies the delay or more back
+  pub due : (now delay : ℕ) (r : Retained) → isDue now delay r ≡ true → (isUsed r ≡ true) × (r .«sent_at» + delay ≤ now)
+  pub due-only : (now delay : ℕ) (r : Retained) → isUsed r ≡ true → r .«sent_at» + delay ≤ now → isDue now delay r ≡ true
+  -- what was retained, and what is sent again, is the PDU
+  pub held-bytes : (now : ℕ) (bytes : List ℕ) → unfit bytes ≡ 0 → pduOf (retainedRecord now bytes) ≡ bytes
+  pub same-bytes : (now : ℕ) (r : Retained) → pduOf (sentRecord now r) ≡ pduOf r
+  -- with the time and count 0, then with the time and its count one higher
+  pub noted : (now : ℕ) (bytes : List ℕ) → (retainedRecord now bytes .«sent_at» ≡ now) × (retainedRecord now bytes .count ≡ 0)
+  pub noted-again : (now : ℕ) (r : Retained) → (sentRecord now r .«sent_at» ≡ now) × (sentRecord now r .count ≡ r .count + 1)
+  -- what an answer says: of a refusal, or where nothing was done; and of what was done, its number, record, names and bytes written
+  pub refusal-says : (n last : ℕ) → let a = answers n last in
+      (a .number ≡ n) × (a .last ≡ last) × (a .deed ≡ 0) × (a .place ≡ 0) × (a .names ≡ noNames) × (a .length ≡ 0)
+  pub deed-says : (deed last place : ℕ) (names : Names) (written : ℕ) → let a = did deed last place names written in
+      (a .number ≡ 0) × (a .last ≡ last) × (a .deed ≡ deed) × (a .place ≡ place) × (a .names ≡ names) × (a .length ≡ written)
+  pub deeds : (kept ≡ 1) × (sent ≡ 2) × (failed ≡ 3) × (freed ≡ 4) × (answered ≡ 5)
+  -- a table has a first record that passes a test, or none does
+  pub first-or-none : (test : Retained → Bool) (table : List Retained) → ((place : ℕ) × FirstAt test table place) ⊎ Nowhere test table
+  -- retaining, of any table: 74, 73, 75, 72, 71, 70 in that order, each leaving table and time; else the first free record holds it
+  pub retain-74 : (table : List Retained) (last now : ℕ) (bytes : List ℕ) → (length table ≡ 16 → ⊥)
+      → Keeps table last now bytes (answers 74 last) table
+  pub retain-73 : (table : List Retained) (last now : ℕ) (bytes : List ℕ) → length table ≡ 16 → now < last
+      → Keeps table last now bytes (answers 73 last) table
+  pub retain-75 : (table : List Retained) (last now : ℕ) (bytes : List ℕ) → length table ≡ 16 → last ≤ now → isRetainable bytes ≡ false
+      → Keeps table last now bytes (answers 75 last) table
+  pub retain-72 : (table : List Retained) (last now : ℕ) (bytes : List ℕ) → length table ≡ 16 → last ≤ now → isRetainable bytes ≡ true
+      → 256 < length bytes → Keeps table last now bytes (answers 72 last) table
+  pub retain-71 : (table : List Retained) (last now : ℕ) (bytes : List ℕ) → length table ≡ 16 → last ≤ now → isRetainable bytes ≡ true
+      → length bytes ≤ 256 → (place : ℕ) → place < length table → isNamed (namesOf bytes) (recordAt table place) ≡ true
+      → Keeps table last now bytes (answers 71 last) table
+  pub retain-70 : (table : List Retained) (last now : ℕ) (bytes : List ℕ) → length table ≡ 16 → last ≤ now → isRetainable bytes ≡ true
+      → length bytes ≤ 256 → Nowhere (isNamed (namesOf bytes)) table → Nowhere isFree table → Keeps table last now bytes (answers 70 last) table
+  pub retained : (table : List Retained) (last now : ℕ) (bytes : List ℕ) → length table ≡ 16 → last ≤ now → isRetainable bytes ≡ true
+      → length bytes ≤ 256 → Nowhere (isNamed (namesOf bytes)) table → (place : ℕ) → FirstAt isFree table place
+      → Keeps table last now bytes (did kept now place (namesOf bytes) 0) (set table place (retainedRecord now bytes))
+  -- a step, of any table: 74, then 73; none due, and the time is accepted; the first that is due dropped, refused with 77, or sent again
+  pub step-74 : (table : List Retained) (last now delay tries : ℕ) (output : List ℕ) → (length table ≡ 16 → ⊥)
+      → Tries table last now delay tries output (answers 74 last) table output
+  pub step-73 : (table : List Retained) (last now delay tries : ℕ) (output : List ℕ) → length table ≡ 16 → now < last
+      → Tries table last now delay tries output (answers 73 last) table output
+  pub none-due : (table : List Retained) (last now delay tries : ℕ) (output : List ℕ) → length table ≡ 16 → last ≤ now
+      → Nowhere (isDue now delay) table → Tries table last now delay tries output (answers 0 now) table output
+  pub dropped : (table : List Retained) (last now delay tries : ℕ) (output : List ℕ) → length table ≡ 16 → last ≤ now
+      → (place : ℕ) → FirstAt (isDue now delay) table place → tries ≤ recordAt table place .count
+      → Tries table last now delay tries output (did failed now place (namesOf (pduOf (recordAt table place))) 0) (set table place freedRecord) output
+  pub step-77 : (table : List Retained) (last now delay tries : ℕ) (output : List ℕ) → length table ≡ 16 → last ≤ now
+      → (place : ℕ) → FirstAt (isDue now delay) table place → recordAt table place .count < tries → length output < recordAt table place .length
+      → Tries table last now delay tries output (answers 77 last) table output
+  pub sent-again : (table : List Retained) (last now delay tries : ℕ) (output : List ℕ) → length table ≡ 16 → last ≤ now
+      → (place : ℕ) → FirstAt (isDue now delay) table place → recordAt table place .count < tries → recordAt table place .length ≤ length output
+      → let r = recordAt table place in
+      Tries table last now delay tries output (did sent now place (namesOf (pduOf r)) (r .length)) (set table place (sentRecord now r))
+      (over (pduOf r) output)
+  -- a PDU heard, of any table, with the node's number for delivery. Answered: delivered, of protocol 1, ACK clear; then 10, 11, 74 and 77 in that order
+  pub answers-it : (delivery : ℕ) (received : List ℕ) → isAnswered delivery (headerOf received) ≡ true
+      → (delivery ≡ 0) × (headerOf received .protocol ≡ 1) × (headerOf received .ack ≡ false)
+  pub answers-it-only : (delivery : ℕ) (received : List ℕ) → delivery ≡ 0 → headerOf received .protocol ≡ 1 → headerOf received .ack ≡ false
+      → isAnswered delivery (headerOf received) ≡ true
+  pub hear-10 : (table : List Retained) (last delivery : ℕ) (sending : Sending) (received output : List ℕ)
+      → isAnswered delivery (headerOf received) ≡ true → 7 < sending .«hop_limit»
+      → Answers table last delivery sending received output (answers 10 last) table output
+  pub hear-11 : (table : List Retained) (last delivery : ℕ) (sending : Sending) (received output : List ℕ)
+      → isAnswered delivery (headerOf received) ≡ true → sending .«hop_limit» ≤ 7 → 15 < sending .port
+      → Answers table last delivery sending received output (answers 11 last) table output
+  pub hear-74 : (table : List Retained) (last delivery : ℕ) (sending : Sending) (received output : List ℕ)
+      → isAnswered delivery (headerOf received) ≡ true → sending .«hop_limit» ≤ 7 → sending .port ≤ 15 → (length table ≡ 16 → ⊥)
+      → Answers table last delivery sending received output (answers 74 last) table output
+  pub hear-77 : (table : List Retained) (last delivery : ℕ) (sending : Sending) (received output : List ℕ)
+      → isAnswered delivery (headerOf received) ≡ true → sending .«hop_limit» ≤ 7 → sending .port ≤ 15 → length table ≡ 16
+      → length output < pduLength (ackHeader sending (namesOf received))
+      → Answers table last delivery sending received output (answers 77 last) table output
+  pub acknowledges : (table : List Retained) (last delivery : ℕ) (sending : Sending) (received output : List ℕ)
+      → isAnswered delivery (headerOf received) ≡ true → sending .«hop_limit» ≤ 7 → sending .port ≤ 15 → length table ≡ 16
+      → pduLength (ackHeader sending (namesOf received)) ≤ length output
+      → Answers table last delivery sending received output (did answered last 0 (namesOf received) (pduLength (ackHeader sending (namesOf received)))) table
+      (over (acknowledgement sending (namesOf received)) output)
+  -- not answered: only 74; an acknowledgement frees the first record with its ID and its addresses exchanged, or is ignored, and so is any other PDU
+  pub frees-it : (delivery : ℕ) (received : List ℕ) → isAcknowledgement delivery (headerOf received) ≡ true
+      → (delivery ≡ 0) × (headerOf received .protocol ≡ 1) × (headerOf received .ack ≡ true)
+  pub frees-it-only : (delivery : ℕ) (received : List ℕ) → delivery ≡ 0 → headerOf received .protocol ≡ 1 → headerOf received .ack ≡ true
+      → isAcknowledgement delivery (headerOf received) ≡ true
+  pub other-74 : (table : List Retained) (last delivery : ℕ) (sending : Sending) (received output : List ℕ)
+      → isAnswered delivery (headerOf received) ≡ false → (length table ≡ 16 → ⊥)
+      → Answers table last delivery sending received output (answers 74 last) table output
+  pub frees : (table : List Retained) (last delivery : ℕ) (sending : Sending) (received output : List ℕ) → length table ≡ 16
+      → isAcknowledgement delivery (headerOf received) ≡ true → (place : ℕ) → FirstAt (isNamed (exchanged (namesOf received))) table place
+      → Answers table last delivery sending received output (did freed last place (exchanged (namesOf received)) 0) (set table place freedRecord) output
+  pub matches-nothing : (table : List Retained) (last delivery : ℕ) (sending : Sending) (received output : List ℕ)
+      → isAnswered delivery (headerOf received) ≡ false → length table ≡ 16 → Nowhere (isNamed (exchanged (namesOf received))) table
+      → Answers table last delivery sending received output (answers 0 last) table output
+  pub ignores : (table : List Retained) (last delivery : ℕ) (sending : Sending) (received output : List ℕ)
+      → isAnswered delivery (headerOf received) ≡ false → length table ≡ 16 → isAcknowledgement delivery (headerOf received) ≡ false
+      → Answers table last delivery sending received output (answers 0 last) table output
+  -- an acknowledgement reads back as it was made, whatever bytes follow
+  pub reads-back : (sending : Sending) (names : Names) → sending .«hop_limit» ≤ 7 → sending .port ≤ 15 → (rest : List ℕ)
+      → (readOf (acknowledgement sending names ++ rest) ≡ Pdu (ackHeader sending names))
+      × (namesOf (acknowledgement sending names ++ rest) ≡ exchanged names)
+  -- its bytes: those of a fresh reliable PDU, empty, not encrypted, back to the source with the same ID, but for ACK, the lowest bit of byte 1
+  pub reply-is : (s : origin.Settings) (names : Names) → s .reliable ≡ true → s .encrypted ≡ false → s .source ≡ names .destination
+      → s .destination ≡ Address (names .source) → s .«pdu_id» ≡ names .«pdu_id»
+      → acknowledgement (sendingOf s) names ≡ set (fresh s []) 1 (s .port * 16 + 1)
+  -- a PDU is the same PDU where a node repeats it
+  pub same-repeated : (node : Node) (room : ℕ) (received rest : List ℕ) → AllBytes received → repeatNumber node room received ≡ 0
+      → SamePdu (repeated (node .settings .own) received ++ rest) received
+  -- two nodes: what is retained at one, delivered at the other and there acknowledged, is freed once the acknowledgement is delivered at the first; the
+  -- other may hear a copy, and so may the first, as repeaters between them leave it
+  pub exchange : (near far : Node) (table : List Retained) (last now : ℕ) (bytes : List ℕ) (place : ℕ) → length table ≡ 16 → last ≤ now
+      → unfit bytes ≡ 0 → Nowhere (isNamed (namesOf bytes)) table → FirstAt isFree table place
+      → (copy : List ℕ) (farRoom : ℕ) → SamePdu copy bytes → deliveryNumber far farRoom copy ≡ 0
+      → (theirs : List Retained) (sending : Sending) (output : List ℕ) → length theirs ≡ 16 → sending .«hop_limit» ≤ 7 → sending .port ≤ 15
+      → pduLength (ackHeader sending (namesOf copy)) ≤ length output
+      → (back : List ℕ) (nearRoom : ℕ) → SamePdu back (outputAcknowledged theirs (deliveryNumber far farRoom copy) sending copy output)
+      → deliveryNumber near nearRoom back ≡ 0 → (own : Sending) (second : List ℕ)
+      → let waiting = tableRetained table last now bytes in
+      Answers waiting now (deliveryNumber near nearRoom back) own back second (did freed now place (namesOf bytes) 0) (set waiting place freedRecord) second
+  -- the theorem: at most so many sendings, and so many moments and one more end it; and the steps at one moment end
+  pub ending : Statement
+  pub settling : Settling
+  -- 16 steps with a delay, and with none 16 for each sending and the drop
+  pub enough-is : (enough twice ≡ 16) × (enough (record { delay = 0; tries = 2; room = 256 }) ≡ 48)
+  -- demand 3 counts each sending as a fresh message: a fresh PDU, a retained one, an acknowledgement, each with the path bit, begins a flood
+  pub fresh-begins : (settings : origin.Settings) (payload : List ℕ) (room : ℕ) → Originated settings payload room → Begins (fresh settings payload)
+  pub retained-begins : (bytes : List ℕ) → AllBytes bytes → unfit bytes ≡ 0 → headerOf bytes .«path_bit» ≡ true → Begins bytes
+  pub reply-begins : (sending : Sending) (names : Names) → sending .«hop_limit» ≤ 7 → sending .port ≤ 15 → sending .«with_path» ≡ true
+      → names .source < 65536 → names .destination < 65536 → names .«pdu_id» < 256
+      → Begins (acknowledgement sending names) × (hopOf (acknowledgement sending names) ≡ sending .«hop_limit»)
+      × (sourceOf (acknowledgement sending names) ≡ names .destination)
+  pub counted : (nodes : List Repeater) → Nodes nodes → (first : List ℕ) → Begins first → (receptions : List Reception) → List·Nodup receptions
+      → Bounded address pathOf (others address (sourceOf first) nodes) (hopOf first) (onTheAir nodes first receptions)
+  -- at the limits: a path bit with count 0 is taken, count 1 is 75; 256 bytes, 257, and 75 before 72; of a full table 75 before 71, and 71 before 70
+  pub path-count : (unfit (withPath 0 []) ≡ 0) × (unfit (withPath 1 (0x03 ∷ 0xE9 ∷ [])) ≡ 75)
+  pub longest : (unfit of256 ≡ 0) × (unfit of257 ≡ 72) × (unfit (of257 ++ (0 ∷ [])) ≡ 75)
+  pub in-order : (retain (freedRecord ∷ full) 11 10 reply .number ≡ 74) × (retain full 11 10 reply .number ≡ 73) × (retain full 10 10 reply .number ≡ 75)
+      × (retain full 10 10 command .number ≡ 71) × (retain full 10 10 (commandOf 8) .number ≡ 70)
+  -- due at the delay's second and not a second early; never before it was sent
+  pub due-at : (isDue 14 5 (retainedRecord 10 command) ≡ false) × (isDue 15 5 (retainedRecord 10 command) ≡ true)
+      × (isDue 9 0 (retainedRecord 10 command) ≡ false)
+  -- the acknowledgement's bytes
+  pub reply-bytes : acknowledgement sendingMost commandNames ≡ reply
+  -- node 1000 delivers the command, and 2000 its acknowledgement; node 3000 does not
+  pub delivered-there : (deliveryNumber (nodeAt 1000 true false) 100 command ≡ 0) × (deliveryNumber (nodeAt 2000 true false) 100 reply ≡ 0)
+      × (deliveryNumber (nodeAt 3000 true false) 100 command ≡ 39)
+  -- a command never acknowledged is sent twice and reported failed at the third moment; one acknowledged after a sending is freed
+  pub lost : history twice commandNames
+      (Retains 10 command ∷ Steps 14 ∷ Steps 15 ∷ Steps 15 ∷ Steps 20 ∷ Steps 20 ∷ Steps 25 ∷ Steps 25 ∷ []) (start empty 0) .life
+      ≡ record { fate = Lost; sent = 2; moments = 3; mark = 25 }
+  pub waiting : history twice commandNames (Retains 10 command ∷ Steps 14 ∷ Steps 15 ∷ Steps 15 ∷ Steps 20 ∷ Steps 20 ∷ []) (start empty 0) .life
+      ≡ record { fate = Waiting; sent = 2; moments = 2; mark = 20 }
+  pub arrived : history twice commandNames (Retains 10 command ∷ Steps 15 ∷ Hears 0 sendingMost 0 reply ∷ Steps 20 ∷ []) (start empty 0) .life
+      ≡ record { fate = Arrived; sent = 1; moments = 1; mark = 20 }

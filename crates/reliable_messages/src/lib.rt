@@ -1,0 +1,1 @@
+// No code: document 02, W-210, as one record.

@@ -1,0 +1,59 @@
+-- W-201 from its parts.
+use Prim.Native.Nat.{ℕ, _<_}
+use native.Mathlib.Omega.{arith}
+use mathlib.Core.Bool.{Bool, true, false, cond}
+use mathlib.Core.List.{List}
+use mathlib.Core.Path.{_≡_, refl}
+use lib.ListN.{length}
+use borrow.Author.Tests.{lt-ltb, ne-eqb}
+use Rattle.node.specs.declared.Answer.{Answer}
+use Rattle.stations.specs.Table.{tableIn, stationAt}
+use Rattle.stations.specs.Asking.{foundAt}
+use Rattle.stations.proofs.Memory.{table-fits}
+use Rattle.counting.specs.Counting.{countNumber, memoryAfterCount}
+use Rattle.counting.proofs.Answers.{held-counts, room-counts, full-refuses, held-removed, absent-refused}
+use Rattle.listening.specs.Listening.{wasRead, heardOf, answerNumber, memoryAfterAnswer}
+use Rattle.listening.specs.History.{memoryAfter}
+use Rattle.listening.proofs.Judging.{read-judged, unread-judged, echo-judged}
+use Rattle.listening.proofs.Rising.{place-within, found-where, not-held}
+use Rattle.listening.proofs.Told.{history-told}
+use Rattle.stations_heard.specs.StationsHeard.{StationsHeard}
+
+unchanged : (answer : Answer) (received memory : List ℕ) → answerNumber answer received memory ≡ 55
+    → memoryAfterAnswer answer received memory ≡ memory
+unfolding answerNumber memoryAfterAnswer memoryAfterCount
+unchanged answer received memory e = go (wasRead answer) refl e
+  where
+    number : ℕ
+    number = countNumber (heardOf answer received) memory
+
+    go : (t : Bool) → wasRead answer ≡ t → _≡_ {A = ℕ} (cond t number 0) 55 → cond t (memoryAfterCount (heardOf answer received) memory) memory ≡ memory
+    go true f n = rw (ne-eqb number 0 (λ z. omega (arith, n, z)))
+    go false f n = absurd (omega arith)
+
+listed-so : (memory : List ℕ) (i : ℕ) → i < length (tableIn memory)
+    → foundAt i (tableIn memory) ≡ record { number = 0; station = stationAt (tableIn memory) i }
+unfolding foundAt
+listed-so memory i h = rw (lt-ltb _ _ h)
+
+pub stations-heard : StationsHeard
+stations-heard =
+    record {
+      room-for-128 = λ memory h. omega arith;
+      read = λ node room received e. (read-judged node room received e, echo-judged node room received e);
+      read-only = unread-judged;
+      counted-held = held-counts;
+      counted-new = room-counts;
+      full = full-refuses;
+      full-unchanged = unchanged;
+      removed = held-removed;
+      not-removed = absent-refused;
+      limit = λ memory e deeds.
+          let t = history-told memory e deeds in (t .says, omega (arith, t .says, table-fits (memoryAfter memory deeds) .0));
+      rises = λ memory e deeds. history-told memory e deeds .rises;
+      shows = λ memory e deeds. history-told memory e deeds .told;
+      place = λ address known rises short. let w = place-within address known rises (omega arith) in (w .lower, λ i h l. w .upper i (omega arith) l);
+      held = λ address known rises short. found-where address known rises (omega arith);
+      not-held = λ address known rises short. not-held address known rises (omega arith);
+      listed = listed-so;
+    }

@@ -1,0 +1,1 @@
+// No code: document 02, W-209, as one record.

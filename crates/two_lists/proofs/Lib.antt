@@ -1,0 +1,2 @@
+pub mod SeasonAir
+pub mod TwoLists

@@ -1,0 +1,1 @@
+// No code: document 02, W-211, as one record.
