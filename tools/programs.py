@@ -3,8 +3,11 @@
 An edit file holds one or more wrong programs. Each begins with `# ` lines that say what goes wrong, has a line `fact: FUNCTION NEED` for each fact that
 the prover must miss, and then the `file:`, `old:` and `new:` lines of its change. `rt` applies the whole file and passes over every other line."""
 import dataclasses
+import functools
 import pathlib
 import re
+
+import definitions
 
 FUNCTION = re.compile(r'^( *)(?:#\[\w+\] *)?(?:pub(?:\(\w+\))? )?(?:extern "C" )?fn (\w+)')
 CONSTANT = re.compile(r'^ *(?:pub(?:\(\w+\))? )?const (\w+)')
@@ -94,14 +97,17 @@ def functions_by_line(file, text):
 
 
 class Crate:
-    """The source of a crate as the rules for wrong programs side by side need it: which functions it has, and which call which."""
+    """A crate as the rules for wrong programs side by side need it: which functions it has, which call which, and what rests on which definition."""
 
     def __init__(self, folder):
-        bodies = {}
+        bodies, self.contracts, self.files = {}, {}, {}
         for path in sorted((folder / 'src').rglob('*.rt')):
             for line, function, body in functions_by_line(path, path.read_text()):
                 if function and body:
                     bodies[function] = bodies.get(function, '') + line + '\n'
+                if function and (not body or FUNCTION.match(line)):
+                    self.contracts[function] = self.contracts.get(function, '') + line + '\n'
+                    self.files[function] = path
         named = {}
         for function in bodies:
             named.setdefault(function.split('/')[-1], set()).add(function)
@@ -109,6 +115,7 @@ class Crate:
         for function, text in bodies.items():
             names = set(re.findall(r'\b(\w+)\b *[(<]', text)) & set(named)
             self.calls[function] = set().union(*(named[name] for name in names)) - {function}
+        self.folder, self.bodies, self.definitions = folder, bodies, definitions.Definitions(folder)
 
     def reached(self, function):
         """All functions that it calls, by others too."""
@@ -124,8 +131,57 @@ class Crate:
         """The functions that are proved in one piece with it: those that it calls and that call it. Often only itself."""
         return {function} | {other for other in self.reached(function) if function in self.reached(other)}
 
+    def functions(self, place):
+        """The functions that the place of a fact stands for: itself, or those of a circle of calls, `+one+other`."""
+        return {one for one in self.bodies if one == place or place.startswith('+') and one.split('/')[-1] in place.split('+')} or {place}
+
+    @functools.cache
+    def promised(self, function, more=''):
+        """The definitions that a function's promise names, and those that more text in its file does."""
+        return self.definitions.names(self.contracts[function] + more, self.definitions.known(self.files[function].read_text()))
+
+    @functools.cache
+    def told(self, file):
+        """The functions whose promise a file of laws is about: it uses what is made of them."""
+        return {one for one in self.bodies for _, module, _ in definitions.USE.findall(file.read_text()) if module.startswith(one.replace('/', '.') + '.')}
+
+    def told_of(self, function, fact):
+        """Whether a fact rests on a function's promise: it is of a function that calls it, or of a law about it."""
+        place, _ = fact
+        file = self.folder / f'proofs/{place}.antt'
+        callers = {one for one in self.bodies if function in self.calls[one]}
+        return callers & self.functions(place) or file.is_file() and function in self.told(file)
+
+    def resting(self, fact, more):
+        """The definitions and laws that a fact rests on, by others too: of a function those that its promise, its body, its proof and the promises of what it
+        calls name; of a law those that it names itself. What its program writes instead, `more`, names some as well."""
+        place, need = fact
+        file = f'proofs/{place}.antt'
+        files = [self.folder / file] if (self.folder / file).is_file() else sorted((self.folder / 'proofs' / place).glob('*.antt'))
+        functions = self.functions(place)
+        found = {(file, need)} if (file, need) in self.definitions.under else set()
+        for path in [] if found else files:
+            found |= self.definitions.names(path.read_text(), self.definitions.known(path.read_text(), file))
+        for one in functions & set(self.bodies):
+            found |= self.promised(one, self.bodies[one]).union(*(self.promised(callee) for callee in self.calls[one]))
+        for one in set().union(*(self.told(path) for path in files)):
+            found |= self.promised(one)
+        found |= self.definitions.anywhere(more)
+        found |= set().union(*(self.promised(one) for one in self.bodies if (False, one.split('/')[-1]) in definitions.words(more)))
+        return self.definitions.below(found)
+
     def uncalled(self, function):
         return not any(function in callees for callees in self.calls.values())
+
+
+def redefined(change):
+    """The definition or law that a change outside the code alters, as (file, name), or ('use', '') for a `use` line; None where it is neither."""
+    return None if change.file.startswith('src/') else definitions.at(change.file, change.text, change.text.index(change.old))
+
+
+def altered_by(program):
+    """The definitions and laws that a program alters."""
+    return {redefined(change) for change in program.changes} - {None, ('use', '')}
 
 
 def places(crate, change):
@@ -133,7 +189,7 @@ def places(crate, change):
     function that none of its crate calls; a constant, over as many lines as end in `\\`, which stands in the body of each function of
     its file that names it."""
     if not change.file.startswith('src/'):
-        return {(change.file, False)}
+        return set() if redefined(change) else {(change.file, False)}
     at, end = change.text.index(change.old), 0
     lines = list(functions_by_line(change.file, change.text))
     first, continued = '', False
@@ -162,19 +218,38 @@ def side_by_side(crate, programs):
     faults, taken = [], {}
     for program in programs:
         altered = changed(crate, program)
+        beside = [fact for other in programs if other is not program for fact in other.facts]
         for place, apart in sorted(altered):
-            if not apart:
+            if not apart and (place not in crate.bodies or any(crate.told_of(place, fact) for fact in beside)):
                 faults.append(f'a changed definition or promise, on which others rest, stands alone: {program.says}')
             for one in crate.cycle(place):
                 if taken.setdefault(one, program) is not program:
                     faults.append(f'two wrong programs in {one}: {program.says}')
-        if any(function not in {place for place, _ in altered} for function, _ in program.facts):
+        if not altered_by(program) and not all(crate.functions(place) & {one for one, _ in altered} for place, _ in program.facts):
             faults.append(f'a fact of a function that it does not change: {program.says}')
     for program in programs:
         for function, need in program.facts:
-            hidden = crate.reached(function) & {one for one, other in taken.items() if other is not program}
-            if need.endswith('-spec') and hidden:
+            others = {one for one, other in taken.items() if other is not program}
+            if need.endswith('-spec') and (hidden := set().union(*map(crate.reached, crate.functions(function))) & others):
                 faults.append(f'the proof of {function} is one piece, and it calls {min(hidden)}, changed beside it: {program.says}')
+            if crate.functions(function) & others:
+                faults.append(f'two wrong programs in {function}: {program.says}')
+    return faults + rests_beside(crate, programs)
+
+
+def rests_beside(crate, programs):
+    """The facts that rest on a definition changed beside them, or not on what their own program changes, where any changes one."""
+    faults, altered = [], [altered_by(program) for program in programs]
+    if not any(altered):
+        return []
+    for program, own in zip(programs, altered):
+        for fact in program.facts:
+            resting = crate.resting(fact, '\n'.join(change.new for change in program.changes))
+            if own and not own & resting:
+                faults.append(f'{" ".join(fact)} does not rest on what it changes: {program.says}')
+            for other, theirs in zip(programs, altered):
+                if other is not program and (beside := theirs & resting):
+                    faults.append(f'{" ".join(fact)} rests on {min(beside)[1]}, changed beside it: {program.says}')
     return faults
 
 
