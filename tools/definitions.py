@@ -24,15 +24,20 @@ def spelled(name):
 
 @dataclasses.dataclass
 class Declaration:
-    """A definition or law: its place in the file's lines, its names, with those of a data type's cases, a record's fields, whether its clauses are shut, and
-    its text, with the heads of the modules that it stands in, over whose parameters it is."""
+    """A definition or law: its place in the file's lines, its names, with those of a data type's cases, the lines of each field that it declares or gives,
+    whether its clauses are shut, the heads of the modules that it stands in, over whose parameters it is, and its text with these."""
     name: str
     lines: range
     indent: int
     names: set
-    fields: set
+    fields: dict
     shut: bool
+    over: str
     text: str
+
+    def field_at(self, number):
+        """The name of the field that a line of the file stands in; None where it stands in none."""
+        return next((name for name, lines in self.fields.items() if number in lines), None)
 
 
 @functools.cache
@@ -57,9 +62,26 @@ def declarations(text):
             if current:
                 current.lines, current.text = range(current.lines.start, number + 1), current.text + line + '\n'
     for one in found:
-        if kind := re.search(rf'^ {{{one.indent}}}(?:pub )?(record|data) ', one.text, re.M):
-            (one.fields if kind.group(1) == 'record' else one.names).update(FIELD.findall(one.text[kind.end():]))
+        if re.search(rf'^ {{{one.indent}}}(?:pub )?data ', one.text, re.M):
+            one.names.update(FIELD.findall(one.text.partition('data ')[2]))
+        one.fields.update(fields(text.split('\n'), one.lines))
     return found
+
+
+def is_record(line):
+    return re.match(r' *(?:pub )?record ', line)
+
+
+def fields(lines, place):
+    """The lines of each field of a record that is declared or given, in the layout of `rt fmt`, among the lines of one declaration."""
+    begins, declared = {}, is_record(lines[place.start])
+    first = next((at + 1 for at in place if re.search(r' where$' if declared else r'^ *record \{$', lines[at])), place.stop)
+    depth = len(lines[first]) - len(lines[first].lstrip()) if first < place.stop else 0
+    for at in range(first, place.stop):
+        if named := re.match(rf' {{{depth}}}(?:pub )?(\S+) (?:=|:)(?: |$)', lines[at]):
+            begins[at] = named.group(1)
+    ends = [*begins, place.stop][1:]
+    return {name: range(at, end) for (at, name), end in zip(begins.items(), ends)}
 
 
 def begun(line, number, indent, modules, current):
@@ -69,15 +91,20 @@ def begun(line, number, indent, modules, current):
     if named := DECLARED.match(line):
         name = named.group(1) or named.group(2)
         shut = bool(named.group(2)) and 'abbrev' not in line.split()
-        return Declaration(name, range(number, number), indent, {name}, set(), shut, ''.join(module for _, module in modules))
+        over = ''.join(module for _, module in modules)
+        return Declaration(name, range(number, number), indent, {name}, {}, shut, over, over)
     return current
 
 
 def at(file, text, place):
     """The definition or law whose clauses or fields stand at a place of a file, as (file, name), or ('use', '') for a `use` line; None where it is neither,
-    as a signature, which is open to all that name it."""
+    as a signature or a record's head, which are open to all that name it."""
     number, lines = text[:place].count('\n'), text.split('\n')
     for one in declarations(text):
+        if number in one.lines and not one.shut and (field := one.field_at(number)):
+            return file, f'{one.name}.{field}'
+        if number in one.lines and is_record(lines[one.lines.start]):
+            return None
         if number in one.lines:
             clauses = (line for line in one.lines[1:] if lines[line].startswith(' ' * one.indent + one.name + ' '))
             return (file, one.name) if not one.shut or number >= next(clauses, one.lines.stop) else None
@@ -89,20 +116,32 @@ class Definitions:
     the laws in `proofs/` all that it names."""
 
     def __init__(self, folder):
-        texts = {f'{part}/{path.name}': path.read_text() for part in ('specs', 'proofs') for path in sorted((folder / part).glob('*.antt'))}
-        declared = {file: declarations(text) for file, text in texts.items()}
+        self.texts = {f'{part}/{path.name}': path.read_text() for part in ('specs', 'proofs') for path in sorted((folder / part).glob('*.antt'))}
+        declared = {file: declarations(text) for file, text in self.texts.items()}
         self.own = {file: {name: (file, one.name) for one in ones for name in one.names} for file, ones in declared.items()}
         self.shut = {(file, one.name) for file, ones in declared.items() for one in ones if one.shut and file.startswith('specs/')}
-        self.fields, self.under = {}, {}
+        self.asked, self.under = {}, {}
         for file, ones in declared.items():
             for one in ones:
-                for name in one.fields:
-                    self.fields.setdefault(name, set()).add((file, one.name))
+                for name in {} if one.shut else one.fields:
+                    self.asked.setdefault(name, set()).add((file, f'{one.name}.{name}'))
         for file, ones in declared.items():
-            known = self.known(texts[file], file)
+            known = self.known(self.texts[file], file)
             for one in ones:
-                opened = self.names(' '.join(UNFOLDS.findall(one.text)), known)
-                self.under.setdefault((file, one.name), set()).update(self.names(one.text, known) - self.shut | opened)
+                self.note(file, one, known)
+
+    def note(self, file, one, known):
+        """What a declaration rests on, and each field by itself: a record that is declared on all its fields, a field that is given on what it is to be."""
+        opened = self.names(' '.join(UNFOLDS.findall(one.text)), known) - {(file, one.name)}
+        self.under.setdefault((file, one.name), set()).update(self.names(one.text, known) - self.shut | opened)
+        lines = self.texts[file].split('\n')
+        for name, place in one.fields.items():
+            text = one.over + '\n'.join(lines[place.start:place.stop])
+            beside = {other: (file, f'{one.name}.{other}') for other in one.fields}
+            found = self.names(text, known if one.shut else {**known, **beside}) - self.shut | opened
+            self.under[file, f'{one.name}.{name}'] = found | (self.asked.get(name, set()) if one.shut else set())
+            if not one.shut:
+                self.under[file, one.name].add((file, f'{one.name}.{name}'))
 
     def known(self, text, file=None):
         """What each name means in a file: its own definitions, and those of the crate that its `use` lines bring in."""
@@ -118,7 +157,7 @@ class Definitions:
     def names(self, text, known):
         """The definitions that a text names, and the records that have a field it asks for."""
         found = {known[word] for _, word in words(text) if word in known}
-        return found.union(*(self.fields.get(word, ()) for dot, word in words(text) if dot))
+        return found.union(*(self.asked.get(word, ()) for dot, word in words(text) if dot))
 
     def anywhere(self, text):
         """The same of a text whose file is not known: every definition of a name in it."""

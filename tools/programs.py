@@ -1,7 +1,8 @@
 """The wrong programs of crates/*/must-fail, as tools/edits, tools/refusals and tools/wrong read them.
 
 An edit file holds one or more wrong programs. Each begins with `# ` lines that say what goes wrong, has a line `fact: FUNCTION NEED` for each fact that
-the prover must miss, and then the `file:`, `old:` and `new:` lines of its change. `rt` applies the whole file and passes over every other line."""
+the prover must miss (`fact: FILE LAW` of a law, `fact: FILE LAW.FIELD` of one that gives a record), and then the `file:`, `old:` and `new:` lines of its
+change. `rt` applies the whole file and passes over every other line."""
 import dataclasses
 import functools
 import pathlib
@@ -152,9 +153,9 @@ class Crate:
         callers = {one for one in self.bodies if function in self.calls[one]}
         return callers & self.functions(place) or file.is_file() and function in self.told(file)
 
-    def resting(self, fact, more):
+    def resting(self, fact, changes):
         """The definitions and laws that a fact rests on, by others too: of a function those that its promise, its body, its proof and the promises of what it
-        calls name; of a law those that it names itself. What its program writes instead, `more`, names some as well."""
+        calls name; of a law those that it opens or cites itself. What its program writes instead names some as well."""
         place, need = fact
         file = f'proofs/{place}.antt'
         files = [self.folder / file] if (self.folder / file).is_file() else sorted((self.folder / 'proofs' / place).glob('*.antt'))
@@ -166,8 +167,10 @@ class Crate:
             found |= self.promised(one, self.bodies[one]).union(*(self.promised(callee) for callee in self.calls[one]))
         for one in set().union(*(self.told(path) for path in files)):
             found |= self.promised(one)
-        found |= self.definitions.anywhere(more)
-        found |= set().union(*(self.promised(one) for one in self.bodies if (False, one.split('/')[-1]) in definitions.words(more)))
+        code = '\n'.join(change.new for change in changes if change.file.startswith('src/'))
+        other = '\n'.join(change.new for change in changes if not change.file.startswith('src/'))
+        found |= self.definitions.anywhere(code) | self.definitions.anywhere(other) - self.definitions.shut
+        found |= set().union(*(self.promised(one) for one in self.bodies if (False, one.split('/')[-1]) in definitions.words(code)))
         return self.definitions.below(found)
 
     def uncalled(self, function):
@@ -244,7 +247,7 @@ def rests_beside(crate, programs):
         return []
     for program, own in zip(programs, altered):
         for fact in program.facts:
-            resting = crate.resting(fact, '\n'.join(change.new for change in program.changes))
+            resting = crate.resting(fact, program.changes)
             if own and not own & resting:
                 faults.append(f'{" ".join(fact)} does not rest on what it changes: {program.says}')
             for other, theirs in zip(programs, altered):
@@ -258,16 +261,24 @@ def shape_of(line):
 
 
 def missed(log):
-    """The facts that a log shows as missed, as (function or file of laws, need), and the places where a proof has another shape."""
+    """The facts that a log shows as missed, as (function or file of laws, need), and the places where a proof has another shape. A law that gives a record is
+    missed field by field, as `law.field`, by the copy that the log stands in."""
     facts, shapes = set(), set()
-    for line in log.splitlines():
-        if found := re.match(r'^\S*?/?proofs/(\S+?)\.antt:\d+:\d+: error: (?:`([^`]+)`: )?(.*)', line):
-            place, need, what = found.groups()
-            place = place.removesuffix('/Proof')
+    for line in log.read_text(errors='replace').splitlines():
+        if found := re.match(r'^\S*?/?proofs/(\S+?)\.antt:(\d+):\d+: error: (?:`([^`]+)`: )?(.*)', line):
+            place, number, need, what = found.groups()
+            file, place = log.parent / f'proofs/{place}.antt', place.removesuffix('/Proof')
             if shape_of(what):
                 shapes.add(f'{place} {need}')
             elif 'was not admitted' not in what:
                 facts.add((place, need))
+                facts.update((place, f'{need}.{field}') for field in [given_at(file, need, int(number) - 1)] if field)
         elif found := re.match(r'^fn \w+::(\S+): no proof: .*?`search` does not close ((?:`[^`]+`(?:, )?)+)', line):
             facts.update((found.group(1).replace('::', '/'), need) for need in re.findall(r'`([^`]+)`', found.group(2)))
     return facts, shapes
+
+
+def given_at(file, law, number):
+    """The field of a record that a law gives at a line of its file; None where it gives none."""
+    ones = definitions.declarations(file.read_text()) if file.is_file() else []
+    return next((one.field_at(number) for one in ones if one.name == law and number in one.lines), None)
