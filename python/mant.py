@@ -12,15 +12,24 @@ in MANT_LIB. Bytes go in as anything like bytes, and come out as bytes.
 (<Number.FOR_ANOTHER: 39>, <Number.DONE: 0>, '0300000b03e806400107d07001081212032413220276')
 
 It can read a PDU (`read`, `path`), make one (`originate`), be a node (`hear`, `walk`, `list_fault`, `list_holds`), plan (`most_transmissions`, `most_bytes`,
-`reach`), exchange with a decoder (`read_exchange`, `write_exchange`), and seal and open payloads (`seal`, and `mant.open` with a `Record`).
+`reach`), exchange with a decoder (`read_exchange`, `write_exchange`), seal a payload (`seal`) and open it once, against a `Record` (`mant.open`, not below,
+since `from mant import *` leaves Python's own `open` in its place; see `help(mant.open)`).
+
+>>> import mant
+>>> key, record = b'sixteen  letters', mant.Record()
+>>> sealed = mant.seal(mant.originate(b'open gate 3', source=1000, hop_limit=3, with_path=True), key, number=1)
+>>> mant.open(sealed, key, record)
+b'open gate 3'
 
 What is refused raises Refused, with its `number` and its `meaning`. A setting reaches the library as it is, or is no number that C can hold, and then raises
-ValueError; none is trimmed. There is always room for what is written, so that the numbers for want of room are never answered.
+ValueError; none is trimmed. So does a network that `reach` refuses, and a choice of list that is not 0, 1 or 2. A bound that 64 bits do not hold raises
+OverflowError, and what is no number, no bytes or no Node where one is asked for TypeError. There is always room for what is written, so that the numbers for
+want of room are never answered.
 
 >>> originate(b'rain', source=1000, hop_limit=263)
 Traceback (most recent call last):
     ...
-mant_numbers.Refused: 10: the hop limit asked for is above 7
+mant.Refused: 10: the hop limit asked for is above 7
 >>> originate(b'rain', source=70000, hop_limit=3)
 Traceback (most recent call last):
     ...
@@ -35,20 +44,25 @@ import mant_c
 from mant_c import LibraryMissing, library
 from mant_numbers import Number, Refused
 from mant_reach import Reach, Reached, reach
-from mant_types import (ADDRESS, BYTE, EDITION_1_1, EDITION_1_2, FIRST_LIST, NO_LIST, SECOND_LIST, WORD_32, WORD_64, Answer, Exchange, Header, Limits, Lists,
-                        Node, Step, flag, whole)
+from mant_types import (ADDRESS, BYTE, CHOICES, EDITION_1_1, EDITION_1_2, FIRST_LIST, NO_LIST, SECOND_LIST, WORD_32, WORD_64, Answer, Exchange, Header, Limits,
+                        Lists, Node, Step, flag, whole)
 
 # `open` is left out, so that `from mant import *` does not take the place of Python's own
 __all__ = ['Answer', 'EDITION_1_1', 'EDITION_1_2', 'Exchange', 'FIRST_LIST', 'Header', 'LibraryMissing', 'Limits', 'Lists', 'NO_LIST', 'Node',
            'Number', 'Reach', 'Reached', 'Record', 'Refused', 'SECOND_LIST', 'Step', 'hear', 'limits', 'list_fault', 'list_holds', 'most_bytes',
            'most_transmissions', 'originate', 'path', 'reach', 'read', 'read_exchange', 'seal', 'walk', 'write_exchange']
 
+# known by this module's name, whichever file they stand in
+for _known in (Answer, Exchange, Header, LibraryMissing, Limits, Lists, Node, Number, Reach, Reached, Refused, Step, reach):
+    _known.__module__ = 'mant'
+
 MOST_EXCHANGE = 4626  # MANT_EXCHANGE_LIMIT
 RECORD_WORDS = 129  # MANT_SOURCE_WORDS
 
 
 class Record:
-    """The last message number accepted from each of up to 64 sources, for `open`. `words` can be kept over a restart, and given to a new one.
+    """The last message number accepted from each of up to 64 sources, for `open`. `words` can be kept over a restart, and all
+    129 given to a new one; without them it is empty.
 
     >>> Record().words[:3]
     (0, 0, 0)
@@ -56,8 +70,8 @@ class Record:
 
     def __init__(self, words=()):
         words = [whole('a word of the record', word, WORD_32) for word in words]
-        if len(words) > RECORD_WORDS:
-            raise ValueError(f'a record has {RECORD_WORDS} words, not {len(words)}')
+        if len(words) not in (0, RECORD_WORDS):
+            raise ValueError(f'a record has {RECORD_WORDS} words, not {len(words)}; a new one is made without words')
         self._words = (ctypes.c_uint32 * RECORD_WORDS)(*words)
 
     @property
@@ -65,14 +79,28 @@ class Record:
         return tuple(self._words)
 
 
-def _bytes(value):
-    return memoryview(value).tobytes()
+def _bytes(name, value):
+    try:
+        return memoryview(value).tobytes()
+    except TypeError:
+        hint = '; for hex digits bytes.fromhex(..)' if isinstance(value, str) else ''
+        raise TypeError(f'{name} is {_kind(value)}; give bytes{hint}') from None
 
 
-def _slice(value):
+def _kind(value):
+    return f'of type {type(value).__name__}'
+
+
+def _slice(name, value):
     """Bytes as the library takes them, with their length."""
-    value = _bytes(value)
+    value = _bytes(name, value)
     return value, len(value)
+
+
+def _a(kind, name, value):
+    if not isinstance(value, kind):
+        raise TypeError(f'{name} is {_kind(value)}; give a mant.{kind.__name__}')
+    return value
 
 
 def _list(name, values):
@@ -82,16 +110,18 @@ def _list(name, values):
 
 
 def _eight(lists):
+    _a(Lists, 'lists', lists)
     return [part for field in dataclasses.fields(lists) for part in _list(field.name, getattr(lists, field.name))]
 
 
 def _node(node):
-    choices = {name: whole(name, getattr(node, name), BYTE) for name in ('source_pass', 'source_reject', 'destination_pass', 'destination_reject')}
+    _a(Node, 'node', node)
+    choices = {name: getattr(node, name) for name in CHOICES}
     return mant_c.Node(own=whole('own', node.own, ADDRESS), echo=flag('echo', node.echo), repeating=flag('repeating', node.repeating), **choices)
 
 
 def _key(key):
-    key = _bytes(key)
+    key = _bytes('key', key)
     if len(key) != 16:
         raise ValueError(f'a key has 16 bytes, not {len(key)}')
     return mant_c.Key((ctypes.c_uint8 * 16)(*key))
@@ -132,9 +162,9 @@ def read(pdu, edition=EDITION_1_2):
     >>> read(b'short')
     Traceback (most recent call last):
         ...
-    mant_numbers.Refused: 1: too short: every PDU has 6 bytes or more
+    mant.Refused: 1: too short: every PDU has 6 bytes or more
     """
-    pdu = _bytes(pdu)
+    pdu = _bytes('pdu', pdu)
     found = library().mant_read(whole('edition', edition, WORD_64), pdu, len(pdu))
     _checked(found.number)
     return Header(
@@ -173,7 +203,7 @@ def originate(payload, *, source, hop_limit, destination=None, port=0, time_stam
         port=whole('port', port, WORD_64), time_stamp_request=flag('time_stamp_request', time_stamp_request), with_path=flag('with_path', with_path),
         reliable=flag('reliable', reliable), pdu_id=whole('pdu_id', pdu_id, BYTE), encrypted=flag('encrypted', encrypted))
     output = _room()
-    return _written(library().mant_originate(fresh, *_slice(payload), *output), output)
+    return _written(library().mant_originate(fresh, *_slice('payload', payload), *output), output)
 
 
 def list_fault(lists):
@@ -213,14 +243,14 @@ def hear(received, node, lists=Lists(), edition=EDITION_1_2):
     >>> hear(b'short', Node(own=2000)).delivery
     <Number.TOO_SHORT: 1>
     """
-    received, output = _bytes(received), _room()
+    received, output = _bytes('received', received), _room()
     found = library().mant_hear_eight(whole('edition', edition, WORD_64), _node(node), *_eight(lists), received, len(received), *output)
     return _answer(found, received, output)
 
 
 def walk(batch, node, lists=Lists(), edition=EDITION_1_2) -> Iterator[Step]:
-    """A node's answer for each PDU of a batch, in order. The walk ends after one that cannot be read, whose `taken` is 0. A batch of more than 16,384 bytes
-    is refused with 54 before the first.
+    """A node's answer for each PDU of a batch, in order. The walk ends after the first whose `taken` is 0: one that cannot be read, or the first of all
+    where a list has a fault or there is no such edition. A batch of more than 16,384 bytes is refused with 54 before the first.
 
     >>> batch = originate(b'rain', source=1000, hop_limit=3) + originate(b'wind', source=1001, hop_limit=0) + b'noise'
     >>> for step in walk(batch, Node(own=2000)):
@@ -229,7 +259,7 @@ def walk(batch, node, lists=Lists(), edition=EDITION_1_2) -> Iterator[Step]:
     10 b'wind' 0 37
     20 None 1 1
     """
-    return _steps(_bytes(batch), (whole('edition', edition, WORD_64), _node(node), *_eight(lists)))
+    return _steps(_bytes('batch', batch), (whole('edition', edition, WORD_64), _node(node), *_eight(lists)))
 
 
 def _steps(batch, settings):
@@ -253,7 +283,8 @@ def _bound(found):
 
 def most_transmissions(nodes, hop_limit):
     """The most times that one report goes out on the air, its first sending counted, for so many repeating nodes besides the originator. It holds if the
-    report has a path, every node has echo suppression on and an address of its own. Raises OverflowError where 64 bits do not hold it.
+    report has a path, every node has echo suppression on and an address of its own. Raises OverflowError where 64 bits do not hold it. It takes
+    any number of nodes; `./plan` refuses more than 65,536, since there are no more addresses.
 
     >>> most_transmissions(8, 3)
     401
@@ -262,7 +293,8 @@ def most_transmissions(nodes, hop_limit):
 
 
 def most_bytes(nodes, hop_limit, size):
-    """The most bytes that those transmissions have together, where the fresh PDU has this size, header included.
+    """The most bytes that those transmissions have together, where the fresh PDU has this size, header included. It takes any size;
+    a fresh PDU with a path has 7 to 4,105 bytes, and `./plan` refuses others.
 
     >>> most_bytes(8, 3, 20)
     10276
@@ -276,7 +308,7 @@ def read_exchange(exchange):
     >>> read_exchange(write_exchange(bytes.fromhex('0000000203E8AABB')))
     Exchange(header=b'\\x00\\x00\\x00\\x02\\x03\\xe8', payload=b'\\xaa\\xbb', header_place=5, payload_place=14)
     """
-    exchange = _bytes(exchange)
+    exchange = _bytes('exchange', exchange)
     found = library().mant_read_exchange(exchange, len(exchange))
     _checked(found.number)
     header, payload = (exchange[place:place + length] for place, length in (
@@ -291,7 +323,7 @@ def write_exchange(pdu):
     '140e8400060000000203e8840102aabb'
     """
     output = _room(MOST_EXCHANGE)
-    return _written(library().mant_write_exchange(*_slice(pdu), *output), output)
+    return _written(library().mant_write_exchange(*_slice('pdu', pdu), *output), output)
 
 
 def seal(pdu, key, number):
@@ -302,7 +334,7 @@ def seal(pdu, key, number):
     (True, 18)
     """
     output = _room()
-    return _written(library().mant_seal(_key(key), whole('number', number, WORD_64), *_slice(pdu), *output), output)
+    return _written(library().mant_seal(_key(key), whole('number', number, WORD_64), *_slice('pdu', pdu), *output), output)
 
 
 def open(pdu, key, record):
@@ -315,7 +347,7 @@ def open(pdu, key, record):
     >>> open(sealed, b'sixteen  letters', record)
     Traceback (most recent call last):
         ...
-    mant_numbers.Refused: 82: its message number is not greater than the last accepted from its source
+    mant.Refused: 82: its message number is not greater than the last accepted from its source
     """
     output = _room()
-    return _written(library().mant_open(_key(key), record._words, RECORD_WORDS, *_slice(pdu), *output), output)
+    return _written(library().mant_open(_key(key), _a(Record, 'record', record)._words, RECORD_WORDS, *_slice('pdu', pdu), *output), output)

@@ -8,19 +8,26 @@ import sys
 from dataclasses import dataclass
 from typing import Optional, Tuple
 
-from mant_types import WORD_64, whole
+from mant_types import ADDRESS, whole
 
 TOP = pathlib.Path(__file__).resolve().parent.parent
 NODE = re.compile(r'^node (\d+): (?:(the originator)|chain of (\d+) hearings?, (?:delivered with path count (\d+)|out of reach)|no chain, out of reach)$', re.M)
+REFUSAL = re.compile(r'^reach: (?:line \d+: )?')  # the lines are those of a text that the caller never saw
+MOST_HOPS = 6  # 7 is never lowered, and what reaches whom is proved of the others
 LEAST = re.compile(r'^the least hop limit that reaches all is (\d)$', re.M)
 
 
 @dataclass(frozen=True)
 class Reached:
-    """A node of a network."""
+    """A node of a network.
+
+    address     its address
+    chain       how many hearings its shortest chain has: 0 for the originator, None where there is no chain
+    path_count  of the transmission in which the report is delivered; None where it is not
+    """
     address: int
-    chain: Optional[int]  # how many hearings its shortest chain has: 0 for the originator, None where there is no chain
-    path_count: Optional[int]  # of the transmission in which the report is delivered; None where it is not
+    chain: Optional[int]
+    path_count: Optional[int]
 
     @property
     def is_out_of_reach(self):
@@ -50,8 +57,8 @@ def program():
 
 
 def reach(hop_limit, heard_by):
-    """Who is delivered a report with this hop limit, 0 to 6, where `heard_by` has for each node the nodes that hear it; the first is the originator. What
-    the program refuses raises ValueError. It holds on the conditions that `./reach` prints.
+    """Who is delivered a report with this hop limit, 0 to 6, where `heard_by` has for each node the nodes that hear it; the first is the originator. A
+    network that is refused raises ValueError. It holds on the conditions that `./reach` prints. The first call proves and builds the program `reach`.
 
     >>> found = reach(1, {1200: [2001, 2002], 2001: [2003], 2003: [2004]})
     >>> found.out_of_reach, found.least_hop_limit
@@ -59,13 +66,16 @@ def reach(hop_limit, heard_by):
     >>> found.nodes[3]
     Reached(address=2003, chain=2, path_count=1)
     """
-    lines = [[whole('hop_limit', hop_limit, WORD_64)], *([node, *hearing] for node, hearing in dict(heard_by).items())]
-    text = ''.join(' '.join(str(whole('a number of the network', number, WORD_64)) for number in line) + '\n' for line in lines)
+    lines = [[node, *hearing] for node, hearing in dict(heard_by).items()]
+    if not lines:
+        raise ValueError('heard_by names no node; the first is the originator')
+    text = f'{whole("hop_limit", hop_limit, MOST_HOPS)}\n'
+    text += ''.join(' '.join(str(whole('an address', address, ADDRESS)) for address in line) + '\n' for line in lines)
     run = subprocess.run([program()], input=text, capture_output=True, text=True)
     if run.returncode != 0:
         raise RuntimeError(f'the program reach ended with status {run.returncode}: {run.stderr}')
     if run.stderr:
-        raise ValueError(run.stderr.strip())
+        raise ValueError(REFUSAL.sub('', run.stderr.strip()).replace('the text', 'the network as a text'))
     least = LEAST.search(run.stdout)
     return Reach(tuple(map(_reached, NODE.findall(run.stdout))), int(least.group(1)) if least else None)
 

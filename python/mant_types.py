@@ -7,33 +7,62 @@ from mant_numbers import Number
 
 EDITION_1_1, EDITION_1_2 = 11, 12
 NO_LIST, FIRST_LIST, SECOND_LIST = 0, 1, 2
+CHOICES = ('source_pass', 'source_reject', 'destination_pass', 'destination_reject')
 BYTE, ADDRESS, WORD_32, WORD_64 = 2**8 - 1, 2**16 - 1, 2**32 - 1, 2**64 - 1  # the most that a C type holds
 
 
 @dataclass(frozen=True)
 class Header:
-    """What reading shows of a PDU, in the order of its bits."""
-    protocol: int  # 0 best efforts, 1 reliable
+    """What reading shows of a PDU, in the order of its bits.
+
+    protocol            0 best efforts, 1 reliable
+    time_stamp_request  whether a time stamp is asked for
+    port                0 to 15
+    encrypted           whether the payload is; None under edition 1.1, which has no encrypted flag
+    reserved            the reserved bits, 0 to 3; under edition 1.1 with the encrypted flag above them, 0 to 7
+    ack                 whether it is an acknowledgement
+    added_header        whether another header follows
+    hop_limit           how often it may still be repeated; 7 is never lowered
+    source              the address of the originator
+    destination         an address, or None: for everyone
+    pdu_id              0 to 255, or None for best efforts
+    path                the nodes that repeated it, in order; None without the path bit
+    last_sender         who it was heard from: the last of its path, or the source where that is empty; None without the path bit
+    payload             its bytes
+    header_length       where the payload begins
+    pdu_length          where the next PDU of a batch begins
+    """
+    protocol: int
     time_stamp_request: bool
     port: int
-    encrypted: Optional[bool]  # None under edition 1.1, which has no encrypted flag
+    encrypted: Optional[bool]
     reserved: int
     ack: bool
     added_header: bool
     hop_limit: int
     source: int
-    destination: Optional[int]  # None: for everyone
-    pdu_id: Optional[int]  # None for best efforts
-    path: Optional[Tuple[int, ...]]  # the nodes that repeated it, in order; None without the path bit
-    last_sender: Optional[int]  # who it was heard from: the last of its path, or the source of an empty one; None without the path bit
+    destination: Optional[int]
+    pdu_id: Optional[int]
+    path: Optional[Tuple[int, ...]]
+    last_sender: Optional[int]
     payload: bytes
-    header_length: int  # the payload begins here
-    pdu_length: int  # the next PDU of a batch begins here
+    header_length: int
+    pdu_length: int
 
 
 @dataclass(frozen=True)
 class Node:
-    """What a node is set to. Each of the last four chooses one of the two lists of its kind, FIRST_LIST or SECOND_LIST, or none."""
+    """What a node is set to. Each of the last four chooses one of the two lists of its kind, FIRST_LIST or SECOND_LIST, or none.
+
+    own        its address
+    echo       whether it drops a PDU whose path or source is its own address
+    repeating  whether it repeats at all
+
+    >>> Node(own=2000, source_pass=3)
+    Traceback (most recent call last):
+        ...
+    ValueError: source_pass is 3; it can be 0 to 2
+    """
     own: int
     echo: bool = True
     repeating: bool = True
@@ -41,6 +70,10 @@ class Node:
     source_reject: int = NO_LIST
     destination_pass: int = NO_LIST
     destination_reject: int = NO_LIST
+
+    def __post_init__(self):
+        for name in CHOICES:
+            whole(name, getattr(self, name), SECOND_LIST)
 
 
 @dataclass(frozen=True)
@@ -58,13 +91,21 @@ class Lists:
 
 @dataclass(frozen=True)
 class Answer:
-    """What a node answers for one PDU: a number for delivery and one for repeating, each 0 for yes."""
+    """What a node answers for one PDU.
+
+    delivery     0 if it is delivered, or the number that says why not
+    repeat       0 if it is repeated, or the number that says why not
+    payload      what is delivered, or None
+    repeated     the PDU to be sent, or None
+    last_sender  who the PDU was heard from; None where that is unknown
+    taken        how many bytes the PDU has; 0 where it was not read
+    """
     delivery: Number
     repeat: Number
-    payload: Optional[bytes]  # what is delivered, or None
-    repeated: Optional[bytes]  # the repeated PDU, or None
-    last_sender: Optional[int]  # who the PDU was heard from; None where that is unknown
-    taken: int  # how many bytes the PDU has; 0 where it was not read
+    payload: Optional[bytes]
+    repeated: Optional[bytes]
+    last_sender: Optional[int]
+    taken: int
 
 
 @dataclass(frozen=True)
