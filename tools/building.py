@@ -130,14 +130,21 @@ def emulated(program):
     return [emulator, tools / 'lib/ld-linux-x86-64.so.2', '--library-path', tools / 'lib', program]
 
 
-def runnable(program):
-    """A program as a file that this machine runs: itself, or for another processor's a script that runs it."""
+def words_for(program):
+    """The words that run a program on this machine: its own name, or those of the emulator before it."""
     program = pathlib.Path(program).resolve()
     with open(program, 'rb') as file:
         head = file.read(20)
-    if platform.machine() == 'x86_64' or head[:4] != b'\x7fELF' or head[18:20] != X86_64:
+    is_own = platform.machine() == 'x86_64' or head[:4] != b'\x7fELF' or head[18:20] != X86_64
+    return [program] if is_own else emulated(program)
+
+
+def runnable(program):
+    """A program as a file that this machine runs: itself, or for another processor's a script that runs it."""
+    program, words = pathlib.Path(program).resolve(), words_for(program)
+    if words == [program]:
         return program
-    words = ' '.join(shlex.quote(str(word)) for word in emulated(program))
+    words = ' '.join(shlex.quote(str(word)) for word in words)
     script = program.with_name(f'{program.name}.emulated')
     made = script.with_name(f'{script.name}.{os.getpid()}')
     made.write_text(f'#!/bin/sh\nexec {words} "$@"\n')

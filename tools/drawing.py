@@ -6,7 +6,7 @@ import re
 TITLE = re.compile(r'hop limit (\d), originator (\d+)')
 NODE = re.compile(r'node (\d+): (?:(the originator)|chain of (\d+) hearings?, (?:delivered with path count \d+|out of reach)|no chain, out of reach)')
 KINDS = ('originator', 'delivered', 'out of reach', 'no chain')
-SPACE, DISC, MARGIN, LEGEND, LEAST, ROOM = 76, 21, 24, 64, 500, 52
+SPACE, DISC, MARGIN, LEGEND, LEAST, ROOM = 76, 21, 24, 86, 560, 52
 STYLE = ('<style>text{font-family:sans-serif;font-size:12px;fill:#222}.name{text-anchor:middle}.light{fill:#fff;font-weight:bold}.strong{font-weight:bold}'
          '.originator{fill:#111;stroke:#111}.delivered{fill:#2a7f74;stroke:#2a7f74}.out-of-reach,.no-chain{fill:#fff;stroke:#c2410c;stroke-width:3}'
          '.no-chain{stroke-dasharray:5 3}.chain{stroke:#333;stroke-width:2;fill:none}.other{stroke:#888;stroke-width:1;fill:none}'
@@ -28,11 +28,15 @@ def lengths_of(answer):
     return int(TITLE.match(answer).group(1)), lengths
 
 
+def lines_of(text):
+    """The addresses of each line that has some, after that of the hop limit."""
+    lines = [line.split('#')[0].replace(':', ' ').replace(',', ' ').split() for line in text.split('\n')]
+    return [[int(word) for word in line] for line in lines if line][1:]
+
+
 def hearings_of(text):
     """Each pair of a sender and a node that hears it, once, without those of a node with itself."""
-    lines = [line.split('#')[0].replace(':', ' ').replace(',', ' ').split() for line in text.split('\n')]
-    lines = [[int(word) for word in line] for line in lines if line][1:]
-    return list(dict.fromkeys((sender, node) for sender, *nodes in lines for node in nodes if node != sender))
+    return list(dict.fromkeys((sender, node) for sender, *nodes in lines_of(text) for node in nodes if node != sender))
 
 
 def branches(lengths, hearings):
@@ -137,6 +141,17 @@ def legend(hop_limit, lengths, left, top):
             left += 44 + 7 * len(kind)
 
 
+def line_legend(has_last, left, y):
+    """What the two kinds of arrows and the dashed ring mean."""
+    for look, head, words in (('chain', 'strong', 'a step of a shortest chain'), ('other', 'weak', 'any other hearing')):
+        yield f'<line class="{look}" x1="{left:.1f}" y1="{y - 4:.1f}" x2="{left + 26:.1f}" y2="{y - 4:.1f}" marker-end="url(#{head})"/>'
+        yield f'<text x="{left + 34:.1f}" y="{y:.1f}">{words}</text>'
+        left += 58 + 6 * len(words)
+    if has_last:
+        yield f'<line class="last" x1="{left:.1f}" y1="{y - 4:.1f}" x2="{left + 28:.1f}" y2="{y - 4:.1f}"/>'
+        yield f'<text x="{left + 34:.1f}" y="{y:.1f}">the last ring that is reached</text>'
+
+
 def off_line(point, start, end):
     """How far a point is from the line between two others."""
     (x, y), (u, v), (a, b) = start, end, point
@@ -206,5 +221,6 @@ def svg(text, answer):
     parts = [f'<svg xmlns="http://www.w3.org/2000/svg" {size} viewBox="{left:.1f} {top:.1f} {width:.1f} {height + LEGEND:.1f}">', STYLE,
              f'<defs>{tip("strong", "#333")}{tip("weak", "#888")}</defs>', f'<rect x="{left:.1f}" y="{top:.1f}" {size} fill="#fff"/>',
              *rings, *hearing_lines(hearings, below, at), *length_names(hop_limit, names), *discs(hop_limit, lengths, at),
-             f'<rect x="{left:.1f}" y="{top + height:.1f}" {size} fill="#fff"/>', *legend(hop_limit, lengths, left + 16, top + height + 22), '</svg>', '']
+             f'<rect x="{left:.1f}" y="{top + height:.1f}" {size} fill="#fff"/>', *legend(hop_limit, lengths, left + 16, top + height + 22),
+             *line_legend(hop_limit + 1 in radii, left + 16, top + height + 69), '</svg>', '']
     return '\n'.join(parts)

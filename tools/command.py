@@ -1,0 +1,64 @@
+"""What ./relay, ./reach, ./plan and ./show share: the ways in which a command ends, its text written, and a program that it asks."""
+import os
+import subprocess
+import sys
+
+import building
+
+
+class End(Exception):
+    """An exit status, and why, in words; without words it ends silently."""
+
+
+def write_out(text):
+    """Writes a text. Where its reader has gone, as `head` does, nothing is said."""
+    try:
+        sys.stdout.buffer.write(text.encode())
+        sys.stdout.buffer.flush()
+    except OSError as error:
+        os.dup2(os.open(os.devnull, os.O_WRONLY), sys.stdout.fileno())
+        raise End(5, '' if isinstance(error, BrokenPipeError) else f'the text could not be written: {error.strerror}') from error
+
+
+def asked(name, words, given=b''):
+    """What the program of this name, proved and built first, prints for these words and this standard input. What it refuses, by a line on standard error
+    with nothing printed, ends the command with those words."""
+    program = building.TARGET / 'bin' / name
+    with building.alone(name):
+        building.programs(name, name)
+        try:
+            with building.started([*building.words_for(program), *words], stdin=subprocess.PIPE, stdout=subprocess.PIPE, stderr=subprocess.PIPE) as child:
+                printed, said = child.communicate(given)
+        except OSError as error:
+            raise End(4, f'{program} cannot be run: {error.strerror}') from error
+    if child.returncode != 0:
+        raise End(4, f'the program ended with status {child.returncode}')
+    if said.startswith(f'{name}: '.encode()) and not printed:
+        raise End(1, said.decode().removeprefix(f'{name}: ').rstrip('\n'))
+    if said or not printed.endswith(b'\n'):
+        raise End(4, f'the text of the program, {len(printed)} bytes, is not whole')
+    return printed.decode()
+
+
+def run(name, about, do, unproved):
+    """The exit status of a command that does what its words say, or prints with --help what it is about."""
+    words = sys.argv[1:]
+    building.stop_by_signals()
+    try:
+        if sys.stdout is None:
+            raise End(5, 'the text could not be written: standard output is closed')
+        if '--help' in words or '-h' in words:
+            write_out(f'{about}\n')
+        else:
+            do(words)
+    except End as end:
+        if end.args[1]:
+            building.say(f'{name}: {end.args[1]}')
+        return end.args[0]
+    except building.Failed as failed:
+        building.say(f'{name}: {failed}\n{name}: {unproved}')
+        return 3
+    except building.Stopped as stopped:
+        building.say(f'{name}: stopped')
+        return 128 + stopped.args[0]
+    return 0
