@@ -101,7 +101,18 @@ def rt(name, *words, **settings):
     except OSError as error:
         raise Failed(f'`rt`, of the Rattle kit, cannot be run: {error.strerror}') from error
     if status != 0:
+        fail_where_read_only()
         raise Failed(f'{said[-2000:]}`rt {" ".join(words)}` failed')
+
+
+def fail_where_read_only():
+    """What is built lies in target/; one line where that cannot be written."""
+    try:
+        TARGET.mkdir(exist_ok=True)
+    except OSError as error:
+        raise Failed(f'{TARGET} cannot be written: {error.strerror}') from error
+    if not os.access(TARGET, os.W_OK):
+        raise Failed(f'{TARGET} cannot be written, and what is there is not built from the present sources')
 
 
 def programs(name, *crates):
@@ -182,11 +193,14 @@ def library(name, crate):
     sources."""
     archive, own = TARGET / 'staticlib' / f'lib{crate}.a', TARGET / 'native' / f'lib{crate}.a'
     made_from = archive.with_suffix('.from')
+    if not shutil.which('rt'):
+        raise Failed('`rt`, of the Rattle kit, cannot be run: No such file or directory')
     try:
         if archive.is_file() and own.is_file() and made_from.is_file() and made_from.read_text() == state_of(crate, archive):
             return
     except OSError as error:
         raise Failed(f'{error.filename}: {error.strerror}') from error
+    fail_where_read_only()
     made_from.unlink(missing_ok=True)
     own.parent.mkdir(parents=True, exist_ok=True)
     if platform.machine() == 'x86_64':
@@ -209,6 +223,7 @@ def shared(name, crate):
 
     if loaded.is_file() and made_from.is_file() and made_from.read_text() == state():
         return
+    fail_where_read_only()
     loaded.parent.mkdir(parents=True, exist_ok=True)
     try:
         linked = subprocess.run([toolchain() / 'bin/ld.lld', '-shared', '--whole-archive', archive, '-o', made], capture_output=True, text=True)

@@ -1,6 +1,8 @@
-"""Hex digits in a text, for ./relay and ./show: white space and comments from `#` to the line's end are passed over."""
+"""Hex digits in a text, for ./relay and ./show: white space, `:`, `,`, `-` and `0x` between bytes and comments from `#` to the line's end are passed over.
+./reach reads its texts by `text_of` too."""
 import re
 
+BETWEEN = re.compile(r'[:,-]|(?<![0-9A-Za-z])0[xX](?=[0-9A-Fa-f])')
 UTF_16 = {b'\xff\xfe': 'utf-16-le', b'\xfe\xff': 'utf-16-be'}
 
 
@@ -16,14 +18,24 @@ def text_of(content):
         return (content[3:] if content[:3] == b'\xef\xbb\xbf' else content).decode('latin-1')
 
 
-def bytes_of(text):
-    digits = ''
+def words_of(text):
+    """Each word of digits, with its line."""
     for number, line in enumerate(re.split('\r\n|\r|\n', text), 1):
-        line = line.split('#')[0]
+        line = BETWEEN.sub(lambda found: ' ' * len(found.group()), line.split('#')[0])
         other = re.search(r'[^0-9A-Fa-f\s]', line)
         if other:
             raise NotHex(f'line {number}, character {other.start() + 1}: {other.group()!r} is not a hex digit')
-        digits += ''.join(line.split())
+        yield from ((number, word) for word in line.split())
+
+
+def bytes_of(text):
+    """The bytes of a text. A digit alone among words can be a byte without its 0 as well as half of one, and is refused."""
+    words = list(words_of(text))
+    digits = ''.join(word for _, word in words)
+    for number, word in words if len(words) > 1 else ():
+        if len(word) == 1:
+            raise NotHex(f'line {number}: the digit {word} stands alone; a byte has two, as 0{word}')
     if len(digits) % 2:
-        raise NotHex(f'{len(digits)} hex digits; a byte has two')
+        odd = next(number for number, _ in words if sum(len(word) for line, word in words if line == number) % 2)
+        raise NotHex(f'{len(digits)} hex digits; a byte has two, and line {odd} has an odd number')
     return bytes.fromhex(digits)

@@ -13,11 +13,12 @@ FIRST_BYTE = (mant.Number.WRONG_VERSION, mant.Number.UNKNOWN_PROTOCOL, mant.Numb
 OBSERVER = mant.Node(own=0, echo=False, repeating=False)  # walks a batch and drops nothing
 
 
+LENGTHS_ALONE = '\n      PDUs are found by their lengths alone: where an earlier one was cut, none need begin here'
 Element = collections.namedtuple('Element', 'place level kind start end')  # its value lies from start to end
 
 
 class Fault(Exception):
-    """The place of an element that does not end in its run, or stands too deep."""
+    """The place of an element that does not end in what it stands in, or stands too deep, and what is wrong with it."""
 
 
 def counted(number, what):
@@ -77,7 +78,7 @@ def bit_fields(header):
         field('port', header.port),
         *([] if header.encrypted is None else [field('encrypted', yes(header.encrypted))]),
         field('reserved', f'{header.reserved}' + (': three bits, as edition 1.1 has no encrypted flag' if header.encrypted is None else '')),
-        field('ACK', yes(header.ack, 'it is an acknowledgement')),
+        field('ACK', yes(header.ack, 'it is an acknowledgement' if header.protocol == 1 else 'without a meaning, since only reliable service has it')),
         field('added header', yes(header.added_header, 'nodes repeat it and do not deliver it')),
         field('hop limit', hop_words(header.hop_limit)),
         field('payload length', counted(len(header.payload), 'byte')),
@@ -104,11 +105,15 @@ def payload_fields(payload):
     return [field('payload', rows), *([] if text is None else [field('payload as text', [text[at:at + 100] for at in range(0, len(text), 100)])])]
 
 
-def pdu_lines(what, header, edition):
-    """A PDU that was read: who it is from and for, then every field."""
+def nodes_of(header):
     to = 'everyone' if header.destination is None else header.destination
     heard = 'heard from an unknown node' if header.last_sender is None else f'heard from {header.last_sender}'
-    yield f'{what}{counted(header.pdu_length, "byte")}, edition {edition_name(edition)}: from {header.source} to {to}, {heard}'
+    return f'from {header.source} to {to}, {heard}'
+
+
+def pdu_lines(what, header, edition):
+    """A PDU that was read: who it is from and for, then every field."""
+    yield f'{what}{counted(header.pdu_length, "byte")}, edition {edition_name(edition)}: {nodes_of(header)}'
     for lines in bit_fields(header) + address_fields(header) + payload_fields(header.payload):
         yield from lines
 
@@ -136,7 +141,7 @@ def cut_place(content, start):
         at += length
     missing = whole.pdu_length - len(content)
     there = f'its payload has {counted(len(whole.payload), "byte")}, and {missing:,} {"is" if missing == 1 else "are"} missing'
-    return f'at byte {start + len(content)}, where they end: {there}'
+    return f'at byte {start + len(content)}, where they end: {there}\n      its header is whole: {nodes_of(whole)}'
 
 
 def place_of(number, content, start=0):
@@ -145,7 +150,17 @@ def place_of(number, content, start=0):
         return f'at byte {start + len(content)}, where they end'
     if number in (mant.Number.HEADER_CUT, mant.Number.PAYLOAD_CUT):
         return cut_place(content, start)
-    return f'at byte {start}, which is {content[0]:02X}' if number in FIRST_BYTE else ''
+    if number in FIRST_BYTE:
+        return f'at byte {start}, which is {content[0]:02X}{first_byte_words(number, content[0])}'
+    return ''
+
+
+def first_byte_words(number, byte):
+    if number == mant.Number.WRONG_VERSION:
+        return f': its version, the highest two bits, is {byte >> 6}'
+    if number == mant.Number.UNKNOWN_PROTOCOL:
+        return f': its protocol, the three bits after the highest two, is {byte >> 3 & 7}'
+    return ': its destination bit, the lowest, is clear'
 
 
 def number_at(content, at, end):
@@ -164,21 +179,24 @@ def elements(content, at, end, level=1):
             kind, at = number_at(content, at, end)
             length, at = number_at(content, at, end)
         except IndexError:
-            raise Fault(begin) from None
-        if level > LEVELS or at + length > end:
-            raise Fault(begin)
+            raise Fault(begin, ': its type or its length is cut') from None
+        if level > LEVELS:
+            raise Fault(begin, '')
+        if at + length > end:
+            around = 'bytes end' if level == 1 else 'element around it ends'
+            raise Fault(begin, f': its type is {kind}, its length {counted(length, "byte")}, and the {around} {counted(at + length - end, "byte")} too early')
         yield Element(begin, level, kind, at, at + length)
         if kind in RUNS:
             yield from elements(content, at, at + length, level + 1)
         at += length
 
 
-def fault_place(content):
-    """The place of the first element that is at fault, or None."""
+def first_fault(content):
+    """The place of the first element that is at fault, and what is wrong with it, or None."""
     try:
         list(elements(content, 0, len(content)))
     except Fault as fault:
-        return fault.args[0]
+        return fault.args
     return None
 
 
@@ -214,13 +232,15 @@ def split_place(content, header, payload):
     read, length = mant.read(joined(content, header, payload)), header.end - header.start
     if length != read.header_length:
         return f'at byte {header.place}, where the element of the header begins: it has {counted(length, "byte")}, the header {read.header_length}'
-    return f'at byte {payload.start + len(read.payload)}, where the payload ends, in the element that begins at byte {payload.place}'
+    said, there = counted(len(read.payload), 'byte'), payload.end - payload.start
+    return f'at byte {payload.start + len(read.payload)}: the header says {said} of payload, and the element at byte {payload.place} has {there:,}'
 
 
 def exchange_place(number, content):
     """Where the reading of an exchange was refused."""
     if number in (mant.Number.ELEMENT_CUT, mant.Number.ELEMENT_TOO_DEEP):
-        return f'at byte {fault_place(content)}, where the element begins'
+        place, words = first_fault(content)
+        return f'at byte {place}, where the element begins{words}'
     found = list(elements(content, 0, len(content)))
     if number == mant.Number.NOT_AN_EXCHANGE:
         return not_exchange_place(found)
@@ -273,7 +293,8 @@ def batch(content, edition):
         for count, step in enumerate(mant.walk(content, OBSERVER, edition=edition), 1):
             rest, number = content[step.offset:], step.answer.delivery
             if not step.answer.taken:
-                raise refusal(number, place_of(number, rest, step.offset), f'PDU {count}, from byte {step.offset} on: ')
+                found = place_of(number, rest, step.offset) + (LENGTHS_ALONE if step.offset else '')
+                raise refusal(number, found, f'PDU {count}, from byte {step.offset} on: ')
             yield from pdu_lines(f'PDU {count}, at byte {step.offset}, of ', mant.read(rest, edition), edition)
     except mant.Refused as refused:
         raise refusal(refused.number, f'at byte {mant.limits().batch}; it has {len(content):,} bytes') from refused
