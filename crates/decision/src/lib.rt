@@ -2,10 +2,12 @@
 ghost use mathlib.Core.Path.{_≡_};
 ghost use mathlib.Core.Bool.{not, _&&_};
 ghost use lib.Dec.{eqb};
+ghost use Rattle.pdu.specs.declared.Header.{Header};
+ghost use Rattle.pdu.specs.Header.{destinationIn, headerOf};
 ghost use Rattle.pdu.specs.Sizes.{pathLimit};
 ghost use Rattle.lists.specs.Lists.{listsOf, holds};
 ghost use Rattle.decision.specs.Decision.{nodeOf, destinationIsIn, destinationIsOutside, isForOwn, isForAnother};
-ghost use Rattle.decision.specs.Decision.{isEcho, isOwnReport, passFault, dropFault, deliveryFault, repeatFault};
+ghost use Rattle.decision.specs.Decision.{isEcho, isOwnReport, echoFault, passFault, dropFault, deliveryFault, repeatFault};
 use pdu::Destination;
 use pdu::Header;
 
@@ -95,23 +97,24 @@ fn is_for_another(own: u16, destination: Destination) -> bool
     }
 }
 
-// The numbers 31 to 34, or 0. The source that is looked up is the PDU's.
+// The numbers 31 to 34, or 0, of a PDU with that source and destination.
 fn pass_fault<'a>(
     settings: Settings,
     source_pass: &'a [u16],
     source_reject: &'a [u16],
     destination_pass: &'a [u16],
     destination_reject: &'a [u16],
-    header: Header,
+    source: u16,
+    destination: Destination,
 ) -> u8
-    ensures { λ r. ⌜ r ≡ passFault (nodeOf settings (listsOf (now («source_pass» .entry)) (now («source_reject» .entry))
-        (now («destination_pass» .entry)) (now («destination_reject» .entry)))) header ⌝ }
+    ensures { λ r. ⌜ ((header : Header) → header .source ≡ source → header .destination ≡ destination
+        → r ≡ passFault (nodeOf settings (listsOf (now («source_pass» .entry)) (now («source_reject» .entry))
+        (now («destination_pass» .entry)) (now («destination_reject» .entry)))) header) ⌝ }
 {
-    let destination = header.destination;
-    if is_outside(settings.source_pass, source_pass, header.source) {
+    if is_outside(settings.source_pass, source_pass, source) {
         return 31;
     }
-    if is_in(settings.source_reject, source_reject, header.source) {
+    if is_in(settings.source_reject, source_reject, source) {
         return 32;
     }
     if destination_is_outside(settings.destination_pass, destination_pass, destination) {
@@ -119,6 +122,56 @@ fn pass_fault<'a>(
     }
     if destination_is_in(settings.destination_reject, destination_reject, destination) {
         return 34;
+    }
+    0
+}
+
+// The number that the lists give, 31 to 34, for the source and the destination that bytes show, whether or not they can be read, and 0 where they let them
+// pass. A byte that is not there counts as 0. Document 01, "One PDU at one node", 4.
+pub fn listed_fault<'a>(
+    settings: Settings,
+    source_pass: &'a [u16],
+    source_reject: &'a [u16],
+    destination_pass: &'a [u16],
+    destination_reject: &'a [u16],
+    received: &[u8],
+) -> u8
+    ensures { λ r. ⌜ r ≡ passFault (nodeOf settings (listsOf (now («source_pass» .entry)) (now («source_reject» .entry))
+        (now («destination_pass» .entry)) (now («destination_reject» .entry)))) (headerOf (now (received .entry))) ⌝ }
+{
+    pass_fault(
+        settings,
+        source_pass,
+        source_reject,
+        destination_pass,
+        destination_reject,
+        octets::word(received, 4),
+        destination_in(received),
+    )
+}
+
+fn destination_in(received: &[u8]) -> Destination
+    ensures { λ r. ⌜ r ≡ destinationIn (now (received .entry)) ⌝ }
+{
+    let byte0 = octets::byte(received, 0);
+    if byte0 % 2 == 1 {
+        Destination::Address(octets::word(received, 6))
+    } else {
+        Destination::Everyone
+    }
+}
+
+// The number that echo suppression gives a PDU that was read: 30 where its path has the own address, then 42 where it is the node's own report, and 0 where
+// neither is so or echo is off. Any header and bytes get a number; what lies past the bytes' end reads as 0. Document 01, "One PDU at one node", 3;
+// document 02, W-203.
+pub fn echo_fault(settings: Settings, header: Header, received: &[u8]) -> u8
+    ensures { λ r. ⌜ r ≡ echoFault settings header (now (received .entry)) ⌝ }
+{
+    if is_echo(settings, header, received) {
+        return 30;
+    }
+    if is_own_report(settings, header) {
+        return 42;
     }
     0
 }
@@ -138,19 +191,19 @@ pub fn drop_fault<'a>(
     ensures { λ r. ⌜ r ≡ dropFault (nodeOf settings (listsOf (now («source_pass» .entry)) (now («source_reject» .entry))
         (now («destination_pass» .entry)) (now («destination_reject» .entry)))) header (now (received .entry)) ⌝ }
 {
-    if is_echo(settings, header, received) {
-        return 30;
+    let echo = echo_fault(settings, header, received);
+    if echo != 0 {
+        return echo;
     }
-    if is_own_report(settings, header) {
-        return 42;
-    }
+    let destination = header.destination;
     pass_fault(
         settings,
         source_pass,
         source_reject,
         destination_pass,
         destination_reject,
-        header,
+        header.source,
+        destination,
     )
 }
 

@@ -40,6 +40,10 @@ pub fn fault<'a>(
     ensures { λ r. ⌜ r ≡ listFault (listsOf (now («source_pass» .entry)) (now («source_reject» .entry))
         (now («destination_pass» .entry)) (now («destination_reject» .entry))) ⌝ }
 {
+    let source_pass = &source_pass[..];
+    let source_reject = &source_reject[..];
+    let destination_pass = &destination_pass[..];
+    let destination_reject = &destination_reject[..];
     let mut number: u8 = 0;
     'lists: for k in 0..4 {
         let list = nth(

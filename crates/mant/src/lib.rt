@@ -1,10 +1,12 @@
 // The functions exported to C, each a thin call of a proved function. Numbers, slices and structs by value; include/mant.h declares them.
 ghost use mathlib.Core.Path.{_≡_};
+ghost use mathlib.Core.Bool.{_&&_};
 ghost use lib.ListN.{length};
 ghost use Rattle.pdu.specs.Reading.{readOf};
-ghost use Rattle.editions.specs.Editions.{readUnder, writeAgainUnder, writtenAgainUnder};
+ghost use Rattle.editions.specs.Editions.{known, readUnder, writeAgainUnder, writtenAgainUnder};
 ghost use Rattle.origin.specs.Origination.{originated, originatedOutput};
 ghost use Rattle.lists.specs.Lists.{holds};
+ghost use Rattle.batch.specs.Walk.{isTooLong};
 ghost use Rattle.seasons.specs.Choosing.{two, eightOf, eightFault, seasonNodeOf};
 ghost use Rattle.bound.specs.Bound.{bound, bytesBound};
 ghost use Rattle.bound.specs.Answer.{answer};
@@ -26,6 +28,7 @@ ghost use Rattle.boundary.specs.Boundary.{headerInC, pathAddressIn, pathHas, fr
 ghost use Rattle.boundary.specs.Boundary.{nodeFromC, HearsInC, StepsInC, answerFromC, ListensInC};
 use answering::Sending;
 use batch::Cursor;
+use batch::Stepped;
 use boundary::MantAnswer;
 use boundary::MantBound;
 use boundary::MantFresh;
@@ -177,15 +180,15 @@ pub extern "C" fn mant_hear_eight<'a>(
     let answer = seasons::hear(
         edition,
         boundary::node_from_c(settings),
-        source_pass_first,
-        source_pass_second,
-        source_reject_first,
-        source_reject_second,
-        destination_pass_first,
-        destination_pass_second,
-        destination_reject_first,
-        destination_reject_second,
-        received,
+        &source_pass_first[..],
+        &source_pass_second[..],
+        &source_reject_first[..],
+        &source_reject_second[..],
+        &destination_pass_first[..],
+        &destination_pass_second[..],
+        &destination_reject_first[..],
+        &destination_reject_second[..],
+        &received[..],
         output,
     );
     boundary::answer_in_c(answer)
@@ -218,9 +221,19 @@ pub extern "C" fn mant_step_eight<'a>(
         (two (now («destination_reject_first» .entry)) (now («destination_reject_second» .entry)))))
         (now (batch .entry)) cursor (now (output .entry)) r (now (output .exit)) ⌝ }
 {
-    let stepped = seasons::step(
+    let place = cursor.place;
+    if is_too_long(edition, batch) {
+        return boundary::step_in_c(cursor, Stepped::TooLong);
+    }
+    if cursor.ended {
+        return boundary::step_in_c(cursor, Stepped::Ended);
+    }
+    if batch.len() <= place {
+        return boundary::step_in_c(cursor, Stepped::Ended);
+    }
+    let answer = mant_hear_eight(
         edition,
-        boundary::node_from_c(settings),
+        settings,
         source_pass_first,
         source_pass_second,
         source_reject_first,
@@ -229,11 +242,30 @@ pub extern "C" fn mant_step_eight<'a>(
         destination_pass_second,
         destination_reject_first,
         destination_reject_second,
-        batch,
-        cursor,
+        &batch[place..],
         output,
     );
-    boundary::step_in_c(cursor, stepped)
+    let after = place + answer.taken;
+    let next = Cursor {
+        place: after,
+        ended: answer.taken == 0,
+    };
+    MantStep {
+        kind: 0,
+        answer,
+        next,
+    }
+}
+
+// Whether a batch is refused for its length: under an edition that is not known 17 comes before that.
+fn is_too_long(edition: u64, batch: &[u8]) -> bool
+    ensures { λ r. ⌜ r ≡ (known edition && isTooLong (now (batch .entry))) ⌝ }
+{
+    if editions::is_known(edition) {
+        Cursor::BATCH_LIMIT < batch.len()
+    } else {
+        false
+    }
 }
 
 // The most transmissions that one fresh message with that hop limit can cause among so many repeating nodes, its own counted. The node that originated

@@ -1,7 +1,7 @@
 -- Document 01, "One PDU at one node" and "Numbers answered": what a node answers, as one value, and what it leaves in its output. Document 02, W-205: the
 -- answer carries the last sender.
 use Prim.Native.Nat.{ℕ}
-use mathlib.Core.Bool.{cond, _&&_}
+use mathlib.Core.Bool.{false, cond, _&&_}
 use mathlib.Core.List.{List, []}
 use mathlib.Core.Path.{_≡_}
 use lib.Dec.{eqb, ltb}
@@ -15,9 +15,9 @@ use Rattle.pdu.specs.Header.{headerOf}
 use Rattle.pdu.specs.Sizes.{headerLength, pduLength}
 use Rattle.pdu.specs.Reading.{readOf, readingNumber}
 use Rattle.pdu.specs.Parts.{payloadIn, lastSender}
-use Rattle.lists.specs.Lists.{listFault}
+use Rattle.lists.specs.Lists.{listsOf, listFault}
 use Rattle.decision.specs.declared.Settings.{Settings}
-use Rattle.decision.specs.Decision.{Node, dropFault, deliveryFault, repeatFault}
+use Rattle.decision.specs.Decision.{Node, nodeOf, echoFault, dropFault, deliveryFault, repeatFault}
 use Rattle.node.specs.declared.Answer.{Answer}
 use Rattle.node.specs.Repeat.{repeated, repeatedLength}
 
@@ -91,3 +91,34 @@ outputAfter node received output =
 abbrev pub Hears : Node → List ℕ → List ℕ → Answer → List ℕ → Type 0
 Hears node received output answer left =
     (answer ≡ answerOf node (length output) received) × (left ≡ outputAfter node received output)
+
+-- a node that looks at no lists
+abbrev pub unlisted : Settings → Node
+unlisted settings =
+    nodeOf
+    (record {
+      own = settings .own;
+      echo = settings .echo;
+      repeating = settings .repeating;
+      «source_pass» = false;
+      «source_reject» = false;
+      «destination_pass» = false;
+      «destination_reject» = false;
+    })
+    (listsOf [] [] [] [])
+
+-- steps 2 to 6 of a node whose lists are looked at apart and give that number in step 4: with 0 it is a node that looks at none; another number is given
+-- twice, after 1 to 6, 30 and 42, and before 40
+unfoldable pub answerGiven : Settings → ℕ → ℕ → List ℕ → Answer
+answerGiven settings number room received =
+    cond (eqb number 0) (answerOf (unlisted settings) room received)
+    (twice (readingNumber (readOf received) orElse echoFault settings (headerOf received) received orElse number)
+    (taken (unlisted settings) received) (heardFrom (unlisted settings) received))
+
+-- and what it leaves in the output
+unfoldable pub outputGiven : Settings → ℕ → List ℕ → List ℕ → List ℕ
+outputGiven settings number received output = cond (eqb number 0) (outputAfter (unlisted settings) received output) output
+
+abbrev pub HearsGiven : Settings → ℕ → List ℕ → List ℕ → Answer → List ℕ → Type 0
+HearsGiven settings number received output answer left =
+    (answer ≡ answerGiven settings number (length output) received) × (left ≡ outputGiven settings number received output)

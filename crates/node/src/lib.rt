@@ -10,7 +10,7 @@ ghost use Rattle.pdu.specs.Reading.{readOf};
 ghost use Rattle.pdu.specs.Parts.{lastSender};
 ghost use Rattle.lists.specs.Lists.{Lists, listsOf, listFault};
 ghost use Rattle.decision.specs.Decision.{nodeOf, dropFault};
-ghost use Rattle.node.specs.Answers.{listOrReadingFault, twice, Hears};
+ghost use Rattle.node.specs.Answers.{listOrReadingFault, twice, unlisted, Hears, HearsGiven};
 use decision::Settings;
 use pdu::Header;
 use pdu::Reading;
@@ -108,6 +108,41 @@ fn are_empty<'a>(first: &'a [u16], second: &'a [u16]) -> bool
         second.len() == 0
     } else {
         false
+    }
+}
+
+// What the node answers where its lists are looked at apart: `number` is what they give, 31 to 34, or 0 where they let the PDU pass. As `hear`, without
+// a look at lists; that number is given in step 4. Document 01, "One PDU at one node", 2 to 6; document 02, W-205.
+pub fn hear_given(settings: Settings, number: u8, received: &[u8], output: &mut [u8]) -> Answer
+    ensures { λ r. ⌜ HearsGiven settings number (now (received .entry)) (now (output .entry)) r (now (output .exit)) ⌝ }
+{
+    let alone = without_lists(settings);
+    let reading = pdu::read(received);
+    let Reading::Pdu(header) = reading else {
+        return twice(pdu::reading_number(reading), 0, Sender::Unknown);
+    };
+    let sender = pdu::parts::last_sender(received, header);
+    let echo = decision::echo_fault(alone, header, received);
+    if echo != 0 {
+        return twice(echo, header.pdu_length(), sender);
+    }
+    if number != 0 {
+        return twice(number, header.pdu_length(), sender);
+    }
+    decide(alone, received, header, sender, output)
+}
+
+fn without_lists(settings: Settings) -> Settings
+    ensures { λ r. ⌜ r ≡ unlisted settings .settings ⌝ }
+{
+    Settings {
+        own: settings.own,
+        echo: settings.echo,
+        repeating: settings.repeating,
+        source_pass: false,
+        source_reject: false,
+        destination_pass: false,
+        destination_reject: false,
     }
 }
 

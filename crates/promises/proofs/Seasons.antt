@@ -6,8 +6,6 @@ use Rattle.seasons.proofs.fault.Reads as fault-reads
 use Rattle.seasons.proofs.fault.Kinds as fault-kinds
 use Rattle.seasons.proofs.hear.Reads as hear-reads
 use Rattle.seasons.proofs.hear.Kinds as hear-kinds
-use Rattle.seasons.proofs.step.Reads as step-reads
-use Rattle.seasons.proofs.step.Kinds as step-kinds
 
 pub fault : Promised 1 fault-kinds.ps fault-kinds.r fault-reads.Asked fault-reads.Post (λ κs x. x)
 fault = (λ κs a. tt, λ κs a x y s t p q. p ∙ sym q)
@@ -15,7 +13,3 @@ fault = (λ κs a. tt, λ κs a x y s t p q. p ∙ sym q)
 pub hear : PromisedWithOutput 3 hear-kinds.ps hear-kinds.r hear-reads.Asked hear-reads.Post
     (λ κs s. now (s .1 .1 .1 .1 .1 .1 .1 .1 .1 .1 .1 .0))
 hear = (λ κs a. tt, λ κs a x y s t p q. (p .0 ∙ sym (q .0), p .1 ∙ sym (q .1)))
-
-pub step : PromisedWithOutput 3 step-kinds.ps step-kinds.r step-reads.Asked step-reads.Post
-    (λ κs s. now (s .1 .1 .1 .1 .1 .1 .1 .1 .1 .1 .1 .1 .0))
-step = (λ κs a. tt, λ κs a x y s t p q. (p .0 ∙ sym (q .0), p .1 ∙ sym (q .1)))

@@ -1,25 +1,26 @@
 -- What the node answers, from the fault of its lists and from what the node with the lists chosen answers.
 use Prim.Native.Nat.{ℕ}
-use mathlib.Core.Bool.{Bool, true, false, not, cond, _&&_, false≢true}
+use native.Mathlib.Omega.{arith}
+use mathlib.Core.Bool.{Bool, true, false, cond}
 use mathlib.Core.List.{List}
-use mathlib.Core.Path.{_≡_, refl, subst}
-use lib.Dec.{eqb}
-use lib.ListN.{length}
-use borrow.Author.Tests.{ne-eqb, eqb-true, eqb-false, not-true, not-false}
+use mathlib.Core.Path.{_≡_, refl, ap, sym, subst, _∙_}
+use borrow.Author.Tests.{ne-eqb}
+use Rattle.octets.specs.Numbers.{_gives_, _orElse_}
 use Rattle.editions.specs.Editions.{known}
+use Rattle.pdu.specs.declared.Header.{Header}
 use Rattle.pdu.specs.declared.Sender.the-variants.{Unknown}
+use Rattle.pdu.specs.Header.{headerOf}
 use Rattle.lists.specs.Lists.{listsOf}
 use Rattle.decision.specs.declared.Settings.{Settings}
-use Rattle.decision.specs.Decision.{Node, nodeOf}
+use Rattle.decision.specs.Decision.{nodeOf, passFault}
 use Rattle.node.specs.declared.Answer.{Answer}
-use Rattle.node.specs.Answers.{answerOf, twice, outputAfter}
-use Rattle.batch.specs.declared.Cursor.{Cursor}
-use Rattle.batch.specs.declared.Stepped.{Stepped}
-use Rattle.hearing.specs.Hearing.{noEdition, HearsUnder, StepsUnder}
+use Rattle.node.specs.Answers.{twice, HearsGiven}
+use Rattle.node.proofs.Given.{given-heard}
 use Rattle.seasons.specs.declared.SeasonSettings.{SeasonSettings}
-use Rattle.seasons.specs.Choosing.{SeasonNode, eightFault, isChosen, chosenOf, chosenSettings, chosenNode}
-use Rattle.seasons.specs.Hearing.{seasonAnswer, seasonOutput, faultStep, seasonStep, seasonStepOutput}
-use Rattle.seasons.specs.Under.{SeasonHears, SeasonSteps}
+use Rattle.seasons.specs.Choosing.{SeasonNode, eightFault, isChosen, chosenOf, chosenSettings, chosenLists, chosenNode}
+use Rattle.seasons.specs.Hearing.{seasonAnswer, seasonOutput}
+use Rattle.seasons.specs.Under.{SeasonHears}
+use Rattle.seasons.proofs.Standing.{chosen-without-fault}
 
 -- what it is set to, put together from its parts
 pub settings-are : (settings : SeasonSettings) (a b c d : Bool) → a ≡ isChosen (settings .«source_pass») → b ≡ isChosen (settings .«source_reject»)
@@ -61,54 +62,46 @@ chosen-is node settings a b c d set first second third fourth =
       lists = record { sourcePass = first i; sourceReject = second i; destinationPass = third i; destinationReject = fourth i };
     }
 
--- a fault that is given: the edition is known, and the number is not 0
-given : (named : Bool) (number : ℕ) → (named && not (eqb number 0)) ≡ true → (named ≡ true) × (number ≡ 0 → ⊥)
-given true number e = (refl, eqb-false number 0 (not-true _ e))
-given false number e = absurd (false≢true e)
+-- the lists of kinds of which none is chosen give no number
+pub none-listed : (node : SeasonNode) (header : Header) → isChosen (node .settings .«source_pass») ≡ false
+    → isChosen (node .settings .«source_reject») ≡ false
+    → isChosen (node .settings .«destination_pass») ≡ false
+    → isChosen (node .settings .«destination_reject») ≡ false
+    → 0 ≡ passFault (chosenNode node) header
+unfolding passFault _gives_ _orElse_
+none-listed node header a b c d = rw (a, b, c, d) refl
 
-not-given : (number : ℕ) → (true && not (eqb number 0)) ≡ false → number ≡ 0
-not-given number e = eqb-true number 0 (not-false _ e)
+-- 17, or the first fault of the eight lists
+pub no-edition : (edition faults : ℕ) → known edition ≡ false → 17 ≡ cond (known edition) faults 17
+no-edition edition faults e = rw e refl
 
-module _ (edition : ℕ) (node : SeasonNode) (number : ℕ) (is : number ≡ eightFault (node .lists)) (output : List ℕ) where
-  abbrev pub isGiven : Bool
-  isGiven = known edition && not (eqb number 0)
+pub in-edition : (edition number faults : ℕ) → known edition ≡ true → number ≡ faults → number ≡ cond (known edition) faults 17
+in-edition edition number faults e is = rw e is
 
-  pub fault-heard : (received : List ℕ) (answer : Answer) → isGiven ≡ true → answer ≡ twice number 0 Unknown
-      → SeasonHears edition node received output answer output
+module _ (edition : ℕ) (node : SeasonNode) (stop : ℕ) (is : stop ≡ cond (known edition) (eightFault (node .lists)) 17) (received output : List ℕ) where
+  pub stop-heard : (answer : Answer) → (stop ≡ 0 → ⊥) → answer ≡ twice stop 0 Unknown → SeasonHears edition node received output answer output
   unfolding seasonAnswer seasonOutput
-  fault-heard received answer g ea =
-      let (named, some) = given (known edition) number g in rw (ea, named, ← is, ne-eqb number 0 some) (refl, refl)
+  stop-heard answer some ea = go (known edition) refl
+    where
+      go : (named : Bool) → known edition ≡ named → SeasonHears edition node received output answer output
+      go true e =
+          let is = rw e at is in rw (e, ← is, ne-eqb stop 0 some) (ea, refl)
+      go false e =
+          let is = rw e at is in rw e (ea ∙ ap (λ (n : ℕ). twice n 0 Unknown) is, refl)
 
-  pub chosen-heard : (received left : List ℕ) (answer : Answer) (other : Node) → isGiven ≡ false → other ≡ chosenNode node
-      → HearsUnder edition other received output answer left
+  pub chosen-heard : (settings : Settings) (number : ℕ) (answer : Answer) (left : List ℕ) → stop ≡ 0
+      → settings ≡ chosenSettings (node .settings)
+      → number ≡ passFault (chosenNode node) (headerOf received)
+      → HearsGiven settings number received output answer left
       → SeasonHears edition node received output answer left
   unfolding seasonAnswer seasonOutput
-  chosen-heard received left answer other g same hears =
-      go (known edition) g (subst (λ (n : Node). HearsUnder edition n received output answer left) same hears)
+  chosen-heard settings number answer left none set listed hears = go (known edition) refl
     where
-      go : (named : Bool) → (named && not (eqb number 0)) ≡ false
-          → (answer ≡ cond named (answerOf (chosenNode node) (length output) received) noEdition)
-          × (left ≡ cond named (outputAfter (chosenNode node) received output) output)
-          → (answer ≡ cond named (seasonAnswer node (length output) received) noEdition)
-          × (left ≡ cond named (seasonOutput node received output) output)
-      go true f h = rw (← is, not-given number f) h
-      go false f h = h
-
-  pub fault-stepped : (batch : List ℕ) (cursor : Cursor) (stepped : Stepped) → isGiven ≡ true → stepped ≡ faultStep number batch cursor
-      → SeasonSteps edition node batch cursor output stepped output
-  unfolding seasonStep seasonStepOutput
-  fault-stepped batch cursor stepped g es =
-      let (named, some) = given (known edition) number g in rw (es, named, ← is, ne-eqb number 0 some) (refl, refl)
-
-  pub chosen-stepped : (batch : List ℕ) (cursor : Cursor) (left : List ℕ) (stepped : Stepped) (other : Node) → isGiven ≡ false
-      → other ≡ chosenNode node → StepsUnder edition other batch cursor output stepped left
-      → SeasonSteps edition node batch cursor output stepped left
-  unfolding seasonStep seasonStepOutput
-  chosen-stepped batch cursor left stepped other g same steps =
-      go (known edition) refl g (subst (λ (n : Node). StepsUnder edition n batch cursor output stepped left) same steps)
-    where
-      go : (named : Bool) → known edition ≡ named → (named && not (eqb number 0)) ≡ false
-          → StepsUnder edition (chosenNode node) batch cursor output stepped left
-          → SeasonSteps edition node batch cursor output stepped left
-      go true e f h = let h = rw e at h in rw (e, ← is, not-given number f) h
-      go false e f h = rw e (rw e at h)
+      go : (named : Bool) → known edition ≡ named → SeasonHears edition node received output answer left
+      go true e =
+          let faults = sym (rw e at is) ∙ none in
+          let given = subst (λ (s : Settings). HearsGiven s number received output answer left) set hears in
+          rw (e, faults)
+          (given-heard (chosenSettings (node .settings)) (chosenLists (node .settings) (node .lists)) received output (chosen-without-fault node faults) number
+          listed answer left given)
+      go false e = absurd (omega (arith, rw e at is, none))

@@ -4,9 +4,9 @@ use native.Mathlib.Omega.{arith}
 use mathlib.Core.List.{List, [], _∷_, _++_}
 use mathlib.Core.Path.{_≡_, refl, ap, sym, _∙_}
 use lib.ListN.{length, getD}
-use Rattle.octets.specs.Numbers.{_orElse_}
+use Rattle.octets.specs.Numbers.{_gives_, _orElse_}
 use Rattle.octets.proofs.Numbering.{orElse-zero, orElse-first, orElse-later}
-use Rattle.lists.specs.Lists.{faultOf, firstFault, listsOf, listFault}
+use Rattle.lists.specs.Lists.{lowAboveHigh, faultOf, firstFault, listsOf, listFault}
 use Rattle.seasons.specs.Choosing.{two, eightOf, eightFault}
 
 orElse-assoc : (a b c : ℕ) → ((a orElse b) orElse c) ≡ (a orElse (b orElse c))
@@ -19,6 +19,14 @@ unfolding firstFault _orElse_
 first-of-joined [] after = refl
 first-of-joined (list ∷ before) after =
     ap (λ (n : ℕ). faultOf list orElse n) (first-of-joined before after) ∙ sym (orElse-assoc (faultOf list) (firstFault before) (firstFault after))
+
+four-empty : (a b c d : List ℕ) → (length a ≡ 0) × (length b ≡ 0) × (length c ≡ 0) × (length d ≡ 0) → 0 ≡ listFault (listsOf a b c d)
+unfolding lowAboveHigh faultOf firstFault _gives_ _orElse_
+four-empty [] [] [] [] e = refl
+four-empty (x ∷ a) b c d e = absurd (omega (arith, e .0))
+four-empty [] (x ∷ b) c d e = absurd (omega (arith, e .1))
+four-empty [] [] (x ∷ c) d e = absurd (omega (arith, e .2))
+four-empty [] [] [] (x ∷ d) e = absurd (omega (arith, e .3))
 
 module _ (a b c d e f g h : List ℕ) where
   eight-of-four : eightFault (eightOf (two a b) (two c d) (two e f) (two g h)) ≡ (listFault (listsOf a b c d) orElse listFault (listsOf e f g h))
@@ -33,6 +41,12 @@ module _ (a b c d e f g h : List ℕ) where
       → number ≡ eightFault (eightOf (two a b) (two c d) (two e f) (two g h))
   in-the-last first number none is last =
       last ∙ sym (eight-of-four ∙ orElse-later (listFault (listsOf a b c d)) (listFault (listsOf e f g h)) (sym is ∙ none))
+
+  -- eight lists without values have none
+  pub eight-empty : (length a ≡ 0) × (length b ≡ 0) × (length c ≡ 0) × (length d ≡ 0)
+      → (length e ≡ 0) × (length f ≡ 0) × (length g ≡ 0) × (length h ≡ 0)
+      → 0 ≡ eightFault (eightOf (two a b) (two c d) (two e f) (two g h))
+  eight-empty first last = in-the-last 0 0 refl (four-empty a b c d first) (four-empty e f g h last)
 
 -- the first fault of several lists, by their places
 pub none-at : (lists : List (List ℕ)) → firstFault lists ≡ 0 → (k : ℕ) → k < length lists → faultOf (getD lists k []) ≡ 0

@@ -1,15 +1,14 @@
 // A node whose settings hold two lists of each kind, one for each season, and for each kind a choice of first, second or none.
 ghost use mathlib.Core.Path.{_≡_};
-ghost use mathlib.Core.Bool.{not, _&&_};
-ghost use lib.Dec.{eqb};
+ghost use mathlib.Core.Bool.{true, false, cond};
+ghost use lib.ListN.{length};
 ghost use Rattle.editions.specs.Editions.{known};
+ghost use Rattle.pdu.specs.Header.{headerOf};
 ghost use Rattle.pdu.specs.declared.Sender.the-variants.{Unknown};
+ghost use Rattle.decision.specs.Decision.{passFault};
 ghost use Rattle.node.specs.Answers.{twice};
-ghost use Rattle.seasons.specs.Choosing.{two, eightOf, eightFault, isChosen, chosenOf, chosenSettings, seasonNodeOf};
-ghost use Rattle.seasons.specs.Hearing.{faultStep};
-ghost use Rattle.seasons.specs.Under.{SeasonHears, SeasonSteps};
-use batch::Cursor;
-use batch::Stepped;
+ghost use Rattle.seasons.specs.Choosing.{two, eightOf, eightFault, isChosen, chosenOf, chosenSettings, chosenNode, seasonNodeOf};
+ghost use Rattle.seasons.specs.Under.{SeasonHears};
 use decision::Settings;
 use node::Answer;
 use pdu::Sender;
@@ -107,15 +106,135 @@ pub fn fault<'a>(
     )
 }
 
-// Whether a fault of the lists is answered: under an edition that is not known, 17 comes before it.
-fn is_given(edition: u64, number: u8) -> bool
-    ensures { λ r. ⌜ r ≡ (known edition && not (eqb number 0)) ⌝ }
+// What stops every PDU: 17 for an edition that is not known, else the first fault of the eight lists, and 0 where there is neither. Where all are empty
+// none is handed on.
+fn stop_number<'a>(
+    edition: u64,
+    source_pass_first: &'a [u16],
+    source_pass_second: &'a [u16],
+    source_reject_first: &'a [u16],
+    source_reject_second: &'a [u16],
+    destination_pass_first: &'a [u16],
+    destination_pass_second: &'a [u16],
+    destination_reject_first: &'a [u16],
+    destination_reject_second: &'a [u16],
+) -> u8
+    ensures { λ r. ⌜ r ≡ cond (known edition) (eightFault (eightOf
+        (two (now («source_pass_first» .entry)) (now («source_pass_second» .entry)))
+        (two (now («source_reject_first» .entry)) (now («source_reject_second» .entry)))
+        (two (now («destination_pass_first» .entry)) (now («destination_pass_second» .entry)))
+        (two (now («destination_reject_first» .entry)) (now («destination_reject_second» .entry))))) 17 ⌝ }
 {
-    if editions::is_known(edition) {
-        number != 0
-    } else {
-        false
+    if !editions::is_known(edition) {
+        return 17;
     }
+    if are_empty(
+        source_pass_first,
+        source_pass_second,
+        source_reject_first,
+        source_reject_second,
+    ) {
+        if are_empty(
+            destination_pass_first,
+            destination_pass_second,
+            destination_reject_first,
+            destination_reject_second,
+        ) {
+            return 0;
+        }
+    }
+    let number = lists::fault(
+        source_pass_first,
+        source_pass_second,
+        source_reject_first,
+        source_reject_second,
+    );
+    if number != 0 {
+        return number;
+    }
+    lists::fault(
+        destination_pass_first,
+        destination_pass_second,
+        destination_reject_first,
+        destination_reject_second,
+    )
+}
+
+fn are_empty<'a>(first: &'a [u16], second: &'a [u16], third: &'a [u16], fourth: &'a [u16]) -> bool
+    ensures { λ r. ⌜ (r ≡ true → (length (now (first .entry)) ≡ 0) × (length (now (second .entry)) ≡ 0)
+        × (length (now (third .entry)) ≡ 0) × (length (now (fourth .entry)) ≡ 0)) ⌝ }
+{
+    if first.len() != 0 {
+        return false;
+    }
+    if second.len() != 0 {
+        return false;
+    }
+    if third.len() != 0 {
+        return false;
+    }
+    fourth.len() == 0
+}
+
+fn any_is_chosen(settings: SeasonSettings) -> bool
+    ensures { λ r. ⌜ (r ≡ false → (isChosen (settings .«source_pass») ≡ false) × (isChosen (settings .«source_reject») ≡ false)
+        × (isChosen (settings .«destination_pass») ≡ false) × (isChosen (settings .«destination_reject») ≡ false)) ⌝ }
+{
+    let chosen = chosen_settings(settings);
+    if chosen.source_pass {
+        return true;
+    }
+    if chosen.source_reject {
+        return true;
+    }
+    if chosen.destination_pass {
+        return true;
+    }
+    chosen.destination_reject
+}
+
+// What the lists chosen give the PDU at the start of `received`: 31 to 34, or 0. Where none is chosen, none is handed on.
+fn listed_number<'a>(
+    settings: SeasonSettings,
+    source_pass_first: &'a [u16],
+    source_pass_second: &'a [u16],
+    source_reject_first: &'a [u16],
+    source_reject_second: &'a [u16],
+    destination_pass_first: &'a [u16],
+    destination_pass_second: &'a [u16],
+    destination_reject_first: &'a [u16],
+    destination_reject_second: &'a [u16],
+    received: &[u8],
+) -> u8
+    ensures { λ r. ⌜ r ≡ passFault (chosenNode (seasonNodeOf settings (eightOf
+        (two (now («source_pass_first» .entry)) (now («source_pass_second» .entry)))
+        (two (now («source_reject_first» .entry)) (now («source_reject_second» .entry)))
+        (two (now («destination_pass_first» .entry)) (now («destination_pass_second» .entry)))
+        (two (now («destination_reject_first» .entry)) (now («destination_reject_second» .entry)))))) (headerOf (now (received .entry))) ⌝ }
+{
+    if !any_is_chosen(settings) {
+        return 0;
+    }
+    let source_pass = settings.source_pass;
+    let source_reject = settings.source_reject;
+    let destination_pass = settings.destination_pass;
+    let destination_reject = settings.destination_reject;
+    decision::listed_fault(
+        chosen_settings(settings),
+        chosen(source_pass, source_pass_first, source_pass_second),
+        chosen(source_reject, source_reject_first, source_reject_second),
+        chosen(
+            destination_pass,
+            destination_pass_first,
+            destination_pass_second,
+        ),
+        chosen(
+            destination_reject,
+            destination_reject_first,
+            destination_reject_second,
+        ),
+        received,
+    )
 }
 
 fn twice(number: u8) -> Answer
@@ -133,7 +252,7 @@ fn twice(number: u8) -> Answer
 }
 
 // What the node answers under an edition for the PDU at the start of `received`. 17 comes first; then the first fault of its eight lists, chosen or not,
-// as both numbers, with nothing taken and the output as it was; else what `hearing::hear` answers and leaves with the lists chosen. A kind with none chosen
+// as both numbers, with nothing taken and the output as it was; else what `node::hear` answers and leaves with the lists chosen. A kind with none chosen
 // is off; a list that is chosen and empty is on and empty. Document 02, W-211.
 pub fn hear<'a>(
     edition: u64,
@@ -156,7 +275,8 @@ pub fn hear<'a>(
         (two (now («destination_reject_first» .entry)) (now («destination_reject_second» .entry)))))
         (now (received .entry)) (now (output .entry)) r (now (output .exit)) ⌝ }
 {
-    let number = fault(
+    let stop = stop_number(
+        edition,
         source_pass_first,
         source_pass_second,
         source_reject_first,
@@ -166,109 +286,20 @@ pub fn hear<'a>(
         destination_reject_first,
         destination_reject_second,
     );
-    if is_given(edition, number) {
-        return twice(number);
+    if stop != 0 {
+        return twice(stop);
     }
-    let source_pass = settings.source_pass;
-    let source_reject = settings.source_reject;
-    let destination_pass = settings.destination_pass;
-    let destination_reject = settings.destination_reject;
-    hearing::hear(
-        edition,
-        chosen_settings(settings),
-        chosen(source_pass, source_pass_first, source_pass_second),
-        chosen(source_reject, source_reject_first, source_reject_second),
-        chosen(
-            destination_pass,
-            destination_pass_first,
-            destination_pass_second,
-        ),
-        chosen(
-            destination_reject,
-            destination_reject_first,
-            destination_reject_second,
-        ),
+    let number = listed_number(
+        settings,
+        source_pass_first,
+        source_pass_second,
+        source_reject_first,
+        source_reject_second,
+        destination_pass_first,
+        destination_pass_second,
+        destination_reject_first,
+        destination_reject_second,
         received,
-        output,
-    )
-}
-
-// A step of a walk whose node has a list at fault: 54 and the end come first, else that number ends the walk at the same place.
-fn step_with_fault(number: u8, batch: &[u8], cursor: Cursor) -> Stepped
-    ensures { λ r. ⌜ r ≡ faultStep number (now (batch .entry)) cursor ⌝ }
-{
-    let place = cursor.place;
-    if Cursor::BATCH_LIMIT < batch.len() {
-        return Stepped::TooLong;
-    }
-    if cursor.ended {
-        return Stepped::Ended;
-    }
-    if batch.len() <= place {
-        return Stepped::Ended;
-    }
-    Stepped::Answered(twice(number), Cursor { place, ended: true })
-}
-
-// One step of the walk over a batch, as `hearing::step` has it for the node with the lists chosen. Where one of the eight lists has a fault, that number is
-// the answer for the PDU at the cursor, and the walk ends there; 17, 54, and a cursor past the end or of a walk that ended, come before.
-// Document 02, W-211.
-pub fn step<'a>(
-    edition: u64,
-    settings: SeasonSettings,
-    source_pass_first: &'a [u16],
-    source_pass_second: &'a [u16],
-    source_reject_first: &'a [u16],
-    source_reject_second: &'a [u16],
-    destination_pass_first: &'a [u16],
-    destination_pass_second: &'a [u16],
-    destination_reject_first: &'a [u16],
-    destination_reject_second: &'a [u16],
-    batch: &[u8],
-    cursor: Cursor,
-    output: &mut [u8],
-) -> Stepped
-    ensures { λ r. ⌜ SeasonSteps edition (seasonNodeOf settings (eightOf
-        (two (now («source_pass_first» .entry)) (now («source_pass_second» .entry)))
-        (two (now («source_reject_first» .entry)) (now («source_reject_second» .entry)))
-        (two (now («destination_pass_first» .entry)) (now («destination_pass_second» .entry)))
-        (two (now («destination_reject_first» .entry)) (now («destination_reject_second» .entry)))))
-        (now (batch .entry)) cursor (now (output .entry)) r (now (output .exit)) ⌝ }
-{
-    let number = fault(
-        source_pass_first,
-        source_pass_second,
-        source_reject_first,
-        source_reject_second,
-        destination_pass_first,
-        destination_pass_second,
-        destination_reject_first,
-        destination_reject_second,
     );
-    if is_given(edition, number) {
-        return step_with_fault(number, batch, cursor);
-    }
-    let source_pass = settings.source_pass;
-    let source_reject = settings.source_reject;
-    let destination_pass = settings.destination_pass;
-    let destination_reject = settings.destination_reject;
-    hearing::step(
-        edition,
-        chosen_settings(settings),
-        chosen(source_pass, source_pass_first, source_pass_second),
-        chosen(source_reject, source_reject_first, source_reject_second),
-        chosen(
-            destination_pass,
-            destination_pass_first,
-            destination_pass_second,
-        ),
-        chosen(
-            destination_reject,
-            destination_reject_first,
-            destination_reject_second,
-        ),
-        batch,
-        cursor,
-        output,
-    )
+    node::hear_given(chosen_settings(settings), number, received, output)
 }

@@ -1,33 +1,29 @@
-use mathlib.Core.Path.{sym, _∙_}
-use Rattle.decision.proofs.Dropping.{drops-30, drops-42, drops-by-lists}
+use mathlib.Core.Path.{refl, sym, ap, _∙_}
+use Prim.Native.Nat.{ℕ}
+use Rattle.octets.specs.Numbers.{_orElse_}
+use Rattle.octets.proofs.Numbering.{orElse-first, orElse-later}
+use Rattle.decision.specs.Decision.{dropFault}
 use borrow.Author.Needs.{needs}
 use Rattle.decision.proofs.drop_fault.Statement.{statement}
 use Rattle.decision.proofs.drop_fault.Tie as tie
 
-is-echo-requires : tie.Need-is-echo-requires
-is-echo-requires c κs = search needs
+echo-fault-requires : tie.Need-echo-fault-requires
+echo-fault-requires c κs = search needs
 
 returns : tie.Need-returns
-returns c = sym (drops-30 _ _ _ (sym (c .before .is-echo .ensures) ∙ c .if1 .taken))
-
-is-own-report-requires : tie.Need-is-own-report-requires
-is-own-report-requires c κs = search needs
-
-returns-2 : tie.Need-returns-2
-returns-2 c =
-    let echo = c .before .before in
-    sym (drops-42 _ _ _ (sym (echo .before .is-echo .ensures) ∙ echo .if1 .left) (sym (c .before .is-own-report .ensures) ∙ c .if2 .taken))
+unfolding dropFault
+returns c =
+    let echo = c .before in
+    echo .echo-fault .ensures ∙ sym (orElse-first _ _ (λ z. c .if1 .taken (echo .echo-fault .ensures ∙ z)))
 
 pass-fault-requires : tie.Need-pass-fault-requires
 pass-fault-requires c κs = search needs
 
-returns-3 : tie.Need-returns-3
-returns-3 c =
-    let own = c .before in
-    let echo = own .before .before in
-    c .pass-fault .ensures
-    ∙ sym
-    (drops-by-lists _ _ _ (sym (echo .before .is-echo .ensures) ∙ echo .if1 .left) (sym (own .before .is-own-report .ensures) ∙ own .if2 .left))
+returns-2 : tie.Need-returns-2
+unfolding dropFault
+returns-2 c =
+    let echo = c .before .before in
+    c .pass-fault .ensures _ refl refl ∙ sym (orElse-later _ _ (sym (echo .echo-fault .ensures) ∙ c .before .if1 .left))
 
 pub drop-fault-spec : {M : Type 1} → statement M
-drop-fault-spec = tie.close (tie.spec is-echo-requires returns is-own-report-requires returns-2 pass-fault-requires returns-3)
+drop-fault-spec = tie.close (tie.spec echo-fault-requires returns pass-fault-requires returns-2)

@@ -9,20 +9,20 @@ use Rattle.lists.proofs.fault.Statement.{statement}
 use Rattle.lists.proofs.fault.Tie as tie
 
 abbrev Inv-loop : tie.InvT-loop
-Inv-loop source-pass source-reject destination-pass destination-reject number₀ k list i₀ number i =
+Inv-loop a b c d source-pass source-reject destination-pass destination-reject number₀ k list i₀ number i =
     (i ≤ length list) × (i % 2 ≡ 0) × (number ≡ 0) × (faultOf list ≡ rangeFaultFrom list i)
 
 abbrev μ-loop : tie.MeasureT-loop
-μ-loop source-pass source-reject destination-pass destination-reject number₀ k list i₀ number i = length list - i
+μ-loop a b c d source-pass source-reject destination-pass destination-reject number₀ k list i₀ number i = length list - i
 
 abbrev Inv-lists : tie.InvT-lists
-Inv-lists source-pass source-reject destination-pass destination-reject number₀ k₀ number k =
+Inv-lists a b c d source-pass source-reject destination-pass destination-reject number₀ k₀ number k =
     (k ≤ 4) × (number ≡ 0)
-    × (listFault (listsOf source-pass source-reject destination-pass destination-reject)
+    × (listFault (listsOf a b c d)
     ≡ firstFaultFrom (inOrder (listsOf source-pass source-reject destination-pass destination-reject)) k)
 
 abbrev μ-lists : tie.MeasureT-lists
-μ-lists source-pass source-reject destination-pass destination-reject number₀ k₀ number k = 4 - k
+μ-lists a b c d source-pass source-reject destination-pass destination-reject number₀ k₀ number k = 4 - k
 
 lists-holds : tie.Need-lists-holds Inv-loop μ-loop Inv-lists μ-lists
 lists-holds c = (omega arith, omega arith, lists-start _)

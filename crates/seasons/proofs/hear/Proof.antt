@@ -1,49 +1,36 @@
 use mathlib.Core.Path.{sym, _∙_}
 use denote.Ref.{now}
 use Rattle.seasons.specs.Choosing.{two, eightOf, seasonNodeOf}
-use Rattle.seasons.proofs.Answering.{chosen-is, fault-heard, chosen-heard}
+use Rattle.seasons.proofs.Answering.{stop-heard, chosen-heard}
 use borrow.Author.Needs.{needs}
 use Rattle.seasons.proofs.hear.Statement.{statement}
 use Rattle.seasons.proofs.hear.Tie as tie
 
-fault-requires : tie.Need-fault-requires
-fault-requires c κs = search needs
-
-is-given-requires : tie.Need-is-given-requires
-is-given-requires c κs = search needs
+stop-number-requires : tie.Need-stop-number-requires
+stop-number-requires c κs = search needs
 
 twice-requires : tie.Need-twice-requires
 twice-requires c κs = search needs
 
 returns : tie.Need-returns
 returns c =
-    let test = c .before .before in
-    let faults = test .before in
-    let a = faults .before .before .before .before .before .before .before .before .before .before .before .args in
+    let stops = c .before .before in
+    let a = stops .before .before .before .before .before .before .before .before .before .before .before .args in
     let node = seasonNodeOf (a .settings) (eightOf (two (now (a .source-pass-first)) (now (a .source-pass-second)))
     (two (now (a .source-reject-first)) (now (a .source-reject-second)))
     (two (now (a .destination-pass-first)) (now (a .destination-pass-second)))
     (two (now (a .destination-reject-first)) (now (a .destination-reject-second)))) in
-    fault-heard (a .edition) node (faults .fault .result) (faults .fault .ensures) (now (a .output)) (now (a .received)) _
-    (sym (test .is-given .ensures) ∙ c .before .if1 .taken) (c .twice .ensures)
+    stop-heard (a .edition) node (stops .stop-number .result) (stops .stop-number .ensures) (now (a .received)) (now (a .output)) _
+    (c .before .if1 .taken) (c .twice .ensures)
+
+listed-number-requires : tie.Need-listed-number-requires
+listed-number-requires c κs = search needs
 
 chosen-settings-requires : tie.Need-chosen-settings-requires
 chosen-settings-requires c κs = search needs
 
-chosen-requires : tie.Need-chosen-requires
-chosen-requires c κs = search needs
-
-chosen-requires-2 : tie.Need-chosen-requires-2
-chosen-requires-2 c κs = search needs
-
-chosen-requires-3 : tie.Need-chosen-requires-3
-chosen-requires-3 c κs = search needs
-
-chosen-requires-4 : tie.Need-chosen-requires-4
-chosen-requires-4 c κs = search needs
-
-hear-requires : tie.Need-hear-requires
-hear-requires c κs = search needs
+hear-given-requires : tie.Need-hear-given-requires
+hear-given-requires c κs = search needs
 
 same-length : tie.Need-same-length
 same-length c = search needs
@@ -51,37 +38,27 @@ same-length c = search needs
 returns-2 : tie.Need-returns-2
 returns-2 c =
     let heard = c .before .before in
-    let fourth = heard .before .before in
-    let third = fourth .before in
-    let second = third .before in
-    let first = second .before in
-    let settings = first .before in
-    let test = settings .before .before in
-    let faults = test .before in
-    let a = faults .before .before .before .before .before .before .before .before .before .before .before .args in
+    let settings = heard .before .before in
+    let listed = settings .before in
+    let stops = listed .before .before in
+    let a = stops .before .before .before .before .before .before .before .before .before .before .before .args in
     let node = seasonNodeOf (a .settings) (eightOf (two (now (a .source-pass-first)) (now (a .source-pass-second)))
     (two (now (a .source-reject-first)) (now (a .source-reject-second)))
     (two (now (a .destination-pass-first)) (now (a .destination-pass-second)))
     (two (now (a .destination-reject-first)) (now (a .destination-reject-second)))) in
-    chosen-heard (a .edition) node (faults .fault .result) (faults .fault .ensures) (now (a .output)) (now (a .received)) _ _ _
-    (sym (test .is-given .ensures) ∙ settings .before .if1 .left)
-    (chosen-is node _ _ _ _ _ (settings .chosen-settings .ensures) (first .chosen .ensures) (second .chosen2 .ensures) (third .chosen3 .ensures)
-    (fourth .chosen4 .ensures))
-    (heard .hear .ensures)
+    chosen-heard (a .edition) node (stops .stop-number .result) (stops .stop-number .ensures) (now (a .received)) (now (a .output)) _
+    (listed .listed-number .result) _ _ (listed .before .if1 .left) (settings .chosen-settings .ensures) (listed .listed-number .ensures)
+    (heard .hear-given .ensures)
 
 pub hear-spec : {M : Type 1} → statement M
 hear-spec =
     tie.close
     (tie.spec
-    fault-requires
-    is-given-requires
+    stop-number-requires
     twice-requires
     returns
+    listed-number-requires
     chosen-settings-requires
-    chosen-requires
-    chosen-requires-2
-    chosen-requires-3
-    chosen-requires-4
-    hear-requires
+    hear-given-requires
     same-length
     returns-2)
