@@ -13,7 +13,7 @@ use Rattle.pdu.specs.Sizes.{pduLength}
 use Rattle.writing.specs.Writing.{headerOutput}
 use Rattle.answering.specs.declared.Sending.{Sending}
 use Rattle.retained.specs.declared.Names.{Names}
-use Rattle.retained.specs.declared.Effect.{Effect}
+use Rattle.deciding.specs.declared.Effect.{Effect}
 use Rattle.retained.specs.Records.{namesOf}
 use Rattle.retained.specs.Table.{did}
 use Rattle.answering.specs.Delivered.{isAnswered, ackHeader, answered}

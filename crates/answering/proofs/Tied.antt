@@ -22,14 +22,15 @@ use Rattle.writing.proofs.Within.{none-refused}
 use Rattle.answering.specs.declared.Sending.{Sending}
 use Rattle.retained.specs.declared.Names.{Names}
 use Rattle.retained.specs.declared.Retained.{Retained}
-use Rattle.retained.specs.declared.Ask.{Ask}
+use Rattle.deciding.specs.declared.Ask.{Ask}
 use Rattle.retained.specs.declared.Seek.{Seek}
-use Rattle.retained.specs.declared.Effect.{Effect}
+use Rattle.deciding.specs.declared.Effect.{Effect}
 use Rattle.retained.specs.declared.Outcome.{Outcome}
-use Rattle.retained.specs.declared.Kind.the-variants.{Free, Nothing}
+use Rattle.deciding.specs.declared.Kind.the-variants.{Free, Nothing}
 use Rattle.retained.specs.Records.{namesOf, exchanged, isNamed, freedRecord}
 use Rattle.retained.specs.Table.{tableFault, first, has, freed, answers, did}
-use Rattle.retained.specs.Deciding.{kindNumber, decideNumber, stays, changes, effectOf, decideOf, effectOn, foundIn}
+use Rattle.deciding.specs.Deciding.{kindNumber, decideNumber, stays, changes, effectOf, decideOf, effectOn}
+use Rattle.retained.specs.Searching.{foundIn}
 use Rattle.answering.specs.Delivered.{isAcknowledgement, isAnswered, ackHeader, acknowledgement, answered, acknowledgeNumber, matching}
 use Rattle.answering.specs.Delivered.{acknowledge, tableAcknowledged, outputAcknowledged}
 use Rattle.answering.specs.Responding.{earlyNumber, lateNumber, askAcknowledge, responds, response, responded}
@@ -74,7 +75,7 @@ module _ (table : List Retained) (last : ℕ) (delivery : ℕ) (sending : Sendin
 
   -- by four tests: no refusal; it is answered; it is an acknowledgement; it matches
   abbrev it : Bool → Bool → Effect
-  it b k = cond b (cond k (cond m (changes (first (matching received) table) freedRecord (did freed last (first (matching received) table)
+  it b k = cond b (cond k (cond m (changes (first (matching received) table) 0 (did freed last (first (matching received) table)
       (exchanged (namesOf received)) 0)) (stays 0 last (length table))) (stays 0 last (length table))) (stays N last (length table))
 
   number-is : decideNumber asked (foundIn table (exchanged (namesOf received)) last 0) ≡ N
@@ -135,7 +136,7 @@ module _ (table : List Retained) (last : ℕ) (delivery : ℕ) (sending : Sendin
       ap (λ (x : ℕ). eqb x 0 && (true && (leb (sending .«hop_limit») 7 && leb (sending .port) 15))) (number-0 k m)
       ∙ simp (le-leb (sending .«hop_limit») 7 (w .hop), le-leb (sending .port) 15 (w .port))
     where
-      number-0 : (k m : Bool) → cond k (cond m (changes (first (matching received) table) freedRecord
+      number-0 : (k m : Bool) → cond k (cond m (changes (first (matching received) table) 0
           (did freed last (first (matching received) table) (exchanged (namesOf received)) 0)) (stays 0 last (length table)))
           (stays 0 last (length table)) .outcome .number ≡ 0
       number-0 true true = refl
@@ -148,7 +149,7 @@ module _ (table : List Retained) (last : ℕ) (delivery : ℕ) (sending : Sendin
       last-no false = refl
   responds-is false d e f = simp e
 
-  last-is : (b k m : Bool) → cond b (cond k (cond m (changes (first (matching received) table) freedRecord
+  last-is : (b k m : Bool) → cond b (cond k (cond m (changes (first (matching received) table) 0
       (did freed last (first (matching received) table) (exchanged (namesOf received)) 0)) (stays 0 last (length table)))
       (stays 0 last (length table))) (stays N last (length table)) .outcome .last ≡ last
   last-is true true true = refl
@@ -158,7 +159,7 @@ module _ (table : List Retained) (last : ℕ) (delivery : ℕ) (sending : Sendin
 
   told : (b d k m : Bool)
       → cond (b && d) (did answered last 0 (namesOf received) (pduLength (ackHeader sending (namesOf received))))
-      (cond b (cond k (cond m (changes (first (matching received) table) freedRecord (did freed last (first (matching received) table)
+      (cond b (cond k (cond m (changes (first (matching received) table) 0 (did freed last (first (matching received) table)
       (exchanged (namesOf received)) 0)) (stays 0 last (length table))) (stays 0 last (length table))) (stays N last (length table)) .outcome)
       ≡ cond b (cond d (did answered last 0 (namesOf received) (pduLength (ackHeader sending (namesOf received))))
       (cond (k && m) (did freed last (first (matching received) table) (exchanged (namesOf received)) 0) (answers 0 last))) (answers N last)
@@ -169,10 +170,10 @@ module _ (table : List Retained) (last : ℕ) (delivery : ℕ) (sending : Sendin
   told false d k m = refl
 
   left : (b k m : Bool)
-      → let e : Effect = cond b (cond k (cond m (changes (first (matching received) table) freedRecord
+      → let e : Effect = cond b (cond k (cond m (changes (first (matching received) table) 0
       (did freed last (first (matching received) table) (exchanged (namesOf received)) 0)) (stays 0 last (length table)))
       (stays 0 last (length table))) (stays N last (length table)) in
-      set table (e .place) (e .keep) ≡ cond (b && (k && m)) (set table (first (matching received) table) freedRecord) table
+      set table (e .place) freedRecord ≡ cond (b && (k && m)) (set table (first (matching received) table) freedRecord) table
   left true true true = refl
   left true true false = set-out table (length table) freedRecord (le-refl (length table))
   left true false m = set-out table (length table) freedRecord (le-refl (length table))
@@ -227,23 +228,21 @@ module _ (table : List Retained) (last : ℕ) (delivery : ℕ) (sending : Sendin
       ∙ shown (eqb (N table last delivery sending room received) 0) (D table last delivery sending room received) refl refl
 
   acknowledge-left : set table (it table last delivery sending room received (eqb (N table last delivery sending room received) 0)
-      (k table last delivery sending room received) .place) (it table last delivery sending room received
-      (eqb (N table last delivery sending room received) 0) (k table last delivery sending room received) .keep) ≡ tableAcknowledged table delivery
-      sending room received
+      (k table last delivery sending room received) .place) freedRecord ≡ tableAcknowledged table delivery sending room received
   unfolding tableAcknowledged
   acknowledge-left = left table last delivery sending room received (eqb (N table last delivery sending room received) 0)
       (k table last delivery sending room received) (m table last delivery sending room received)
 
-  pub acknowledge-tied : (a : Ask) (e : Effect) (after : List Retained) (r : Outcome) (put : List ℕ)
-      → a ≡ askAcknowledge last delivery sending room received → (e ≡ effectOn a table) × (after ≡ set table (e .place) (e .keep))
+  pub acknowledge-tied : (a : Ask) (e : Effect) (freed′ : Retained) (after : List Retained) (r : Outcome) (put : List ℕ)
+      → a ≡ askAcknowledge last delivery sending room received → e ≡ effectOn a table → freed′ ≡ freedRecord → after ≡ set table (e .place) freed′
       → (r ≡ response e delivery sending received) × (put ≡ responded e delivery sending received output)
       → (r ≡ acknowledge table last delivery sending room received) × (after ≡ tableAcknowledged table delivery sending room received)
       × (put ≡ outputAcknowledged table delivery sending received output)
-  acknowledge-tied a e after r put p q o = (
+  acknowledge-tied a e freed′ after r put p q f l o = (
     o .0 ∙ ap (λ (x : Effect). response x delivery sending received) is ∙ acknowledge-told table last delivery sending room received,
-    q .1 ∙ ap (λ (x : Effect). set table (x .place) (x .keep)) is ∙ acknowledge-left,
+    l ∙ ap (set table (e .place)) f ∙ ap (λ (x : Effect). set table (x .place) freedRecord) is ∙ acknowledge-left,
     o .1 ∙ ap (λ (x : Effect). responded x delivery sending received output) is ∙ acknowledge-shown,
   )
     where
       is : e ≡ it table last delivery sending room received (eqb (N table last delivery sending room received) 0) (k table last delivery sending room received)
-      is = q .0 ∙ ap (λ (x : Ask). effectOn x table) p ∙ effect-is table last delivery sending room received
+      is = q ∙ ap (λ (x : Ask). effectOn x table) p ∙ effect-is table last delivery sending room received

@@ -9,12 +9,12 @@ use Rattle.pdu.specs.Header.{headerOf}
 use Rattle.pdu.specs.Sizes.{pduLength}
 use Rattle.writing.specs.Writing.{headerOutput}
 use Rattle.answering.specs.declared.Sending.{Sending}
-use Rattle.retained.specs.declared.Ask.{Ask}
-use Rattle.retained.specs.declared.Effect.{Effect}
-use Rattle.retained.specs.declared.Kind.{Kind}
-use Rattle.retained.specs.declared.Kind.the-variants.{Free, Nothing}
+use Rattle.deciding.specs.declared.Ask.{Ask}
+use Rattle.deciding.specs.declared.Effect.{Effect}
+use Rattle.deciding.specs.declared.Kind.{Kind}
+use Rattle.deciding.specs.declared.Kind.the-variants.{Free, Nothing}
 use Rattle.retained.specs.declared.Outcome.{Outcome}
-use Rattle.retained.specs.Records.{namesOf, exchanged, freedRecord}
+use Rattle.retained.specs.Records.{namesOf, exchanged}
 use Rattle.retained.specs.Table.{did}
 use Rattle.answering.specs.Delivered.{isAcknowledgement, isAnswered, ackHeader, answered}
 
@@ -39,7 +39,6 @@ askAcknowledge last delivery sending room received =
       tries = 0;
       room = 0;
       names = exchanged (namesOf received);
-      fresh = freedRecord;
     }
 
 abbrev pub responds : Effect → ℕ → Sending → Header → Bool

@@ -1,9 +1,9 @@
 // What a delivered PDU asks of the table, and the acknowledgement that answers it.
+use deciding::Ask;
+use deciding::Effect;
+use deciding::Kind;
 use pdu::Destination;
 use pdu::Header;
-use retained::Ask;
-use retained::Effect;
-use retained::Kind;
 use retained::Names;
 use retained::Outcome;
 ghost use mathlib.Core.Path.{_≡_};
@@ -98,7 +98,6 @@ pub fn ask_acknowledge(
     let names = retained::exchange(known);
     let early = early_number(due, sending);
     let late = late_number(due, room, ack_length(sending, known));
-    let fresh = retained::freed_record();
     Ask {
         kind,
         early,
@@ -109,7 +108,6 @@ pub fn ask_acknowledge(
         tries: 0,
         room: 0,
         names,
-        fresh,
     }
 }
 

@@ -461,7 +461,8 @@ pub extern "C" fn mant_retain(table: &mut [Retained], last: u64, time: u64, pdu:
     ensures { λ r. ⌜ (r ≡ retain (now (table .entry)) last time (now (pdu .entry)))
         × (now (table .exit) ≡ tableRetained (now (table .entry)) last time (now (pdu .entry))) ⌝ }
 {
-    let effect = reliable::operate(table, retained::ask_retain(last, time, pdu));
+    let effect = reliable::search(table, deciding::ask_retain(last, time, pdu));
+    reliable::lay(table, effect.place, retained::retained_record(time, pdu));
     effect.outcome
 }
 
@@ -481,11 +482,11 @@ pub extern "C" fn mant_retry(
         × (now (table .exit) ≡ tableStepped (now (table .entry)) last time delay tries (length (now (output .entry))))
         × (now (output .exit) ≡ outputStepped (now (table .entry)) last time delay tries (now (output .entry))) ⌝ }
 {
-    let effect = reliable::operate(
+    let effect = reliable::search(
         table,
-        retained::ask_step(last, time, delay, tries, output.len()),
+        deciding::ask_step(last, time, delay, tries, output.len()),
     );
-    retained::emit(output, effect);
+    reliable::resend(table, effect, output);
     effect.outcome
 }
 
@@ -505,10 +506,11 @@ pub extern "C" fn mant_acknowledge(
         × (now (table .exit) ≡ tableAcknowledged (now (table .entry)) (answer .delivery) sending (length (now (output .entry))) (now (received .entry)))
         × (now (output .exit) ≡ outputAcknowledged (now (table .entry)) (answer .delivery) sending (now (received .entry)) (now (output .entry))) ⌝ }
 {
-    let effect = reliable::operate(
+    let effect = reliable::search(
         table,
         answering::ask_acknowledge(last, answer.delivery, sending, output.len(), received),
     );
+    reliable::lay(table, effect.place, retained::freed_record());
     answering::respond(output, answer.delivery, sending, received, effect)
 }
 

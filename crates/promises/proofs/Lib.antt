@@ -28,6 +28,7 @@ pub mod Exchange
 pub mod Queue
 pub mod Transmit
 pub mod Retained
+pub mod Deciding
 pub mod Answering
 pub mod Sources
 pub mod Sealing

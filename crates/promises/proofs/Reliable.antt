@@ -1,22 +1,37 @@
 -- Every public function that is lent records, of `reliable` and of `mant`: its promise asks nothing of the caller and determines what the caller sees.
-use mathlib.Core.Path.{_≡_, sym, _∙_, ap}
+use mathlib.Core.Path.{refl, sym, _∙_}
 use base.Logic.{emp, id⊢}
 use denote.Ref.{now}
-use lib.ListN.{set}
-use Rattle.retained.specs.declared.Effect.{Effect}
-use Rattle.promises.specs.Promise.{both, PromisedInLogicWithOutput}
+use Rattle.promises.specs.Promise.{both, PromisedInLogic, PromisedInLogicWithOutput}
 use Rattle.promises.proofs.View.{both as both-facts}
-use Rattle.reliable.proofs.operate as operate-contract
+use Rattle.reliable.proofs.search as search-contract
+use Rattle.reliable.proofs.lay as lay-contract
+use Rattle.reliable.proofs.resend as resend-contract
 use Rattle.mant.proofs.mant_retain as mant-retain-contract
 use Rattle.mant.proofs.mant_retry as mant-retry-contract
 use Rattle.mant.proofs.mant_acknowledge as mant-acknowledge-contract
 
-pub operate : PromisedInLogicWithOutput operate-contract.ended (λ M 𝓤. operate-contract.clauses 𝓤) (λ κs s. now (s .0))
-operate =
+pub search : PromisedInLogic search-contract.ended (λ M 𝓤. search-contract.clauses 𝓤) (λ κs x. x)
+search =
+    record {
+      unconditional = λ M 𝓤 H A mem run κs a g. id⊢ 𝓤 (emp 𝓤);
+      determined = λ M 𝓤 H A mem run κs a g h x y s t. both-facts 𝓤 (λ p q. p ∙ sym q);
+    }
+
+pub lay : PromisedInLogicWithOutput lay-contract.ended (λ M 𝓤. lay-contract.clauses 𝓤) (λ κs s. now (s .0))
+lay =
+    record {
+      unconditional = λ M 𝓤 H A mem run κs a g. id⊢ 𝓤 (emp 𝓤);
+      determined = λ M 𝓤 H A mem run κs a g h x y s t. both-facts 𝓤 (λ p q. (refl, p ∙ sym q));
+    }
+
+pub resend : PromisedInLogicWithOutput resend-contract.ended (λ M 𝓤. resend-contract.clauses 𝓤)
+    (λ κs s. both (now (s .0)) (now (s .1 .1 .0)))
+resend =
     record {
       unconditional = λ M 𝓤 H A mem run κs a g. id⊢ 𝓤 (emp 𝓤);
       determined = λ M 𝓤 H A mem run κs a g h x y s t. both-facts 𝓤
-          (λ p q. (p .0 ∙ sym (q .0), p .1 ∙ ap (λ (e : Effect). set (now (a .0)) (e .place) (e .keep)) (p .0 ∙ sym (q .0)) ∙ sym (q .1)));
+          (λ p q. (refl, λ i. ((p .0 ∙ sym (q .0)) i, (p .1 ∙ sym (q .1)) i)));
     }
 
 pub mant-retain : PromisedInLogicWithOutput mant-retain-contract.ended (λ M 𝓤. mant-retain-contract.clauses 𝓤) (λ κs s. now (s .0))

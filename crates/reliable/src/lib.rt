@@ -1,13 +1,14 @@
 // The table of retained PDUs: records side by side in memory that the caller lends.
-use retained::Ask;
-use retained::Effect;
+use deciding::Ask;
+use deciding::Effect;
 use retained::Retained;
 use retained::Seek;
 ghost use mathlib.Core.Path.{_≡_};
 ghost use Prim.Native.Nat.{_<_};
 ghost use lib.ListN.{length, getD, set};
 ghost use Rattle.retained.specs.Records.{freedRecord};
-ghost use Rattle.retained.specs.Deciding.{scanOf, effectOn};
+ghost use Rattle.retained.specs.Searching.{scanOf};
+ghost use Rattle.deciding.specs.Deciding.{effectOn, tableAfter, outputAfter};
 
 fn get(recs: &[Retained], i: usize) -> Retained
     requires { ⌜ i < length (now recs) ⌝ }
@@ -29,8 +30,15 @@ fn scan(recs: &[Retained], q: Seek) -> Seek
     s
 }
 
-// Stores a record; nothing where there is no such place.
-fn lay(recs: &mut [Retained], i: usize, r: Retained)
+// What an ask does to the table: the search, and the decision on what it found. Nothing is stored. Document 02, W-210.
+pub fn search(recs: &[Retained], a: Ask) -> Effect
+    ensures { λ x. ⌜ x ≡ effectOn a (now (recs .entry)) ⌝ }
+{
+    deciding::decide(a, scan(recs, deciding::begin_for(a, recs.len())))
+}
+
+// Stores a record; nothing where there is no such place. Document 02, W-210.
+pub fn lay(recs: &mut [Retained], i: usize, r: Retained)
     ensures { λ _. ⌜ now (recs .exit) ≡ set (now (recs .entry)) i r ⌝ }
 {
     if i < recs.len() {
@@ -38,14 +46,13 @@ fn lay(recs: &mut [Retained], i: usize, r: Retained)
     }
 }
 
-// The one operation, which retaining, a step and an acknowledgement are asks of: the search, the decision on what it found, and the store. No record changes
-// where the effect's place is past the last. Document 02, W-210.
-pub fn operate(recs: &mut [Retained], a: Ask) -> Effect
-    ensures { λ x. ⌜ (x ≡ effectOn a (now (recs .entry)))
-        × (now (recs .exit) ≡ set (now (recs .entry)) (x .place) (x .keep)) ⌝ }
+// Sends the record at a step's place again, at the start of the output, or drops it; nothing where there is no such place. Document 02, W-210.
+pub fn resend(recs: &mut [Retained], e: Effect, output: &mut [u8])
+    ensures { λ _. ⌜ (now (recs .exit) ≡ tableAfter e (now (recs .entry)))
+        × (now (output .exit) ≡ outputAfter e (now (recs .entry)) (now (output .entry))) ⌝ }
 {
-    let s = scan(recs, retained::begin_for(a, recs.len()));
-    let e = retained::decide(a, s);
-    lay(recs, e.place, e.keep);
-    e
+    if e.place < recs.len() {
+        let r = recs[e.place];
+        recs[e.place] = deciding::send(output, e, r);
+    }
 }

@@ -1,4 +1,4 @@
--- The search finds the first of each kind, and the decision on what it found is the one on the table.
+-- The search finds the first of each kind.
 use native.Mathlib.Omega.{arith}
 use mathlib.Core.Path.{_≡_, refl, sym, _∙_, ap}
 use Prim.Native.Nat.{ℕ, zero, suc, _+_, _<_, _≤_}
@@ -11,19 +11,18 @@ use Rattle.retained.specs.Records.{isFree, isNamed, isDue, freedRecord}
 use Rattle.retained.specs.Table.{first}
 use Rattle.retained.specs.declared.Retained.{Retained}
 use Rattle.retained.specs.declared.Seek.{Seek}
-use Rattle.retained.specs.declared.Ask.{Ask}
-use Rattle.retained.specs.declared.Effect.{Effect}
+use Rattle.retained.specs.declared.Seen.{Seen}
 use Rattle.retained.specs.declared.Names.{Names}
-use Rattle.retained.specs.Deciding.{notes, lookOf, scanOf, begun, foundIn, decideOf, effectOn}
+use Rattle.retained.specs.Searching.{notes, seenOf, lookOf, scanOf, begun, foundIn}
 
--- one place, and one record, over the records from place i on
+-- one place, and what is seen of one record, over the records from place i on
 noteAll : (Retained → Bool) → ℕ → List Retained → ℕ → ℕ → ℕ
 noteAll test i [] p n = p
 noteAll test i (r ∷ rs) p n = noteAll test (suc i) rs (cond (notes p n (test r)) i p) n
 
-pickAll : (Retained → Bool) → ℕ → List Retained → ℕ → ℕ → Retained → Retained
+pickAll : (Retained → Bool) → ℕ → List Retained → ℕ → ℕ → Seen → Seen
 pickAll test i [] p n f = f
-pickAll test i (r ∷ rs) p n f = pickAll test (suc i) rs (cond (notes p n (test r)) i p) n (cond (notes p n (test r)) r f)
+pickAll test i (r ∷ rs) p n f = pickAll test (suc i) rs (cond (notes p n (test r)) i p) n (cond (notes p n (test r)) (seenOf r) f)
 
 scanned : Seek → ℕ → List Retained → Seek
 scanned s i rs =
@@ -49,7 +48,7 @@ unfolding noteAll
 note-stays test [] i p n h = refl
 note-stays test (r ∷ rs) i p n h = simp (ne-eqb p n (λ e. omega arith)) (note-stays test rs (suc i) p n h)
 
-pick-stays : (test : Retained → Bool) (rs : List Retained) (i p n : ℕ) (f : Retained) → p < n → pickAll test i rs p n f ≡ f
+pick-stays : (test : Retained → Bool) (rs : List Retained) (i p n : ℕ) (f : Seen) → p < n → pickAll test i rs p n f ≡ f
 unfolding pickAll
 pick-stays test [] i p n f h = refl
 pick-stays test (r ∷ rs) i p n f h = simp (ne-eqb p n (λ e. omega arith)) (pick-stays test rs (suc i) p n f h)
@@ -63,14 +62,15 @@ note-first test (r ∷ rs) i n h = simp (eq-eqb n n refl) (by (test r) (note-fir
     by true g = note-stays test rs (suc i) i n (omega arith) ∙ omega arith
     by false g = g ∙ omega arith
 
-pick-first : (test : Retained → Bool) (rs : List Retained) (i n : ℕ) (f : Retained) → i + length rs ≡ n → pickAll test i rs n n f ≡ getD rs (first test rs) f
+pick-first : (test : Retained → Bool) (rs : List Retained) (i n : ℕ) (d : Retained) → i + length rs ≡ n
+    → pickAll test i rs n n (seenOf d) ≡ seenOf (getD rs (first test rs) d)
 unfolding pickAll first
-pick-first test [] i n f h = refl
-pick-first test (r ∷ rs) i n f h = simp (eq-eqb n n refl) (by (test r) (pick-first test rs (suc i) n f (omega arith)))
+pick-first test [] i n d h = refl
+pick-first test (r ∷ rs) i n d h = simp (eq-eqb n n refl) (by (test r) (pick-first test rs (suc i) n d (omega arith)))
   where
-    by : (b : Bool) → pickAll test (suc i) rs n n f ≡ getD rs (first test rs) f → pickAll test (suc i) rs (cond b i n) n (cond b r f) ≡ getD (r ∷ rs)
-        (cond b 0 (suc (first test rs))) f
-    by true g = pick-stays test rs (suc i) i n r (omega arith)
+    by : (b : Bool) → pickAll test (suc i) rs n n (seenOf d) ≡ seenOf (getD rs (first test rs) d)
+        → pickAll test (suc i) rs (cond b i n) n (cond b (seenOf r) (seenOf d)) ≡ seenOf (getD (r ∷ rs) (cond b 0 (suc (first test rs))) d)
+    by true g = pick-stays test rs (suc i) i n (seenOf r) (omega arith)
     by false g = g
 
 whole : (test : Retained → Bool) (table : List Retained) → noteAll test 0 table (length table) (length table) ≡ first test table
@@ -85,11 +85,5 @@ scan-found table names time delay =
       whole isFree table,
       whole (isNamed names) table,
       whole (isDue time delay) table,
-      pick-first (isDue time delay) table 0
-          (length table) freedRecord (omega arith),
+      pick-first (isDue time delay) table 0 (length table) freedRecord (omega arith),
     )
-
-pub operated : (a : Ask) (table : List Retained) (t s : Seek) (e : Effect) → t ≡ begun (a .names) (a .time) (a .delay) (length table)
-    → s ≡ scanOf 0 table t → e ≡ decideOf a s → e ≡ effectOn a table
-unfolding effectOn
-operated a table t s e p q r = r ∙ ap (decideOf a) (q ∙ ap (scanOf 0 table) p ∙ scan-found table (a .names) (a .time) (a .delay))

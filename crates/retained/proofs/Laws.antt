@@ -12,15 +12,7 @@ use Rattle.pdu.specs.declared.Header.{Header}
 use Rattle.pdu.specs.Header.{headerOf}
 use Rattle.pdu.specs.Sizes.{pathEntries, pduLength}
 use Rattle.pdu.specs.Reading.{readOf, readingNumber, exactlyOne}
-use Rattle.octets.proofs.Numbering.{gives-here, gives-later, orElse-first, orElse-later}
-use Rattle.retained.specs.declared.Ask.{Ask}
-use Rattle.retained.specs.declared.Seek.{Seek}
-use Rattle.retained.specs.declared.Kind.the-variants.{Retain, Step, Free}
-use Rattle.retained.specs.Records.{isFirstSending, isRetainable, unfit, pduOf, namesOf, sentRecord, freedRecord}
-use Rattle.retained.specs.Table.{did, sent, failed, freed}
-use Rattle.octets.specs.Octets.{placed}
-use Rattle.retained.specs.declared.Effect.{Effect}
-use Rattle.retained.specs.Deciding.{emitted, kindNumber, decideNumber, stays, changes, effectOf, decideOf}
+use Rattle.retained.specs.Records.{isFirstSending, isRetainable, unfit}
 
 pub by-test : (a b : Bool) → (b ≡ true → a ≡ true) → (b ≡ false → a ≡ false) → a ≡ b
 by-test a true f g = f refl
@@ -69,98 +61,3 @@ module _ (bytes : List ℕ) (t : Bool) (told : t ≡ isRetainable bytes) where
   pub unfit-0 : t ≡ true → length bytes ≤ 256 → 0 ≡ unfit bytes
   unfolding unfit _gives_ _orElse_
   unfit-0 e h = simp (sym told ∙ e, le-ltb 256 (length bytes) h)
-
--- The decision, over what a search found.
-module _ (a : Ask) (s : Seek) where
-  pub number-early : (a .early ≡ 0 → ⊥) → a .early ≡ decideNumber a s
-  unfolding decideNumber
-  number-early f = sym (orElse-first (a .early) _ f)
-
-  early-passed : ℕ
-  early-passed = not (eqb (s .count) 16) gives 74 orElse ltb (a .time) (a .last) gives 73 orElse a .late orElse kindNumber (a .kind) a s
-
-  passed : a .early ≡ 0 → decideNumber a s ≡ early-passed
-  unfolding decideNumber early-passed
-  passed e = orElse-later (a .early) _ e
-
-  pub number-74 : a .early ≡ 0 → (s .count ≡ 16 → ⊥) → 74 ≡ decideNumber a s
-  unfolding early-passed
-  number-74 e f = sym (passed e ∙ gives-here (not (eqb (s .count) 16)) 74 _ (omega arith) (ap not (ne-eqb (s .count) 16 f)))
-
-  table-passed : a .early ≡ 0 → s .count ≡ 16 → decideNumber a s ≡ (ltb (a .time) (a .last) gives 73 orElse a .late orElse kindNumber (a .kind) a s)
-  unfolding early-passed
-  table-passed e f = passed e ∙ gives-later (not (eqb (s .count) 16)) 74 _ (ap not (eq-eqb (s .count) 16 f))
-
-  pub number-73 : a .early ≡ 0 → s .count ≡ 16 → a .time < a .last → 73 ≡ decideNumber a s
-  number-73 e f h = sym (table-passed e f ∙ gives-here (ltb (a .time) (a .last)) 73 _ (omega arith) (lt-ltb (a .time) (a .last) h))
-
-  time-passed : a .early ≡ 0 → s .count ≡ 16 → a .last ≤ a .time → decideNumber a s ≡ (a .late orElse kindNumber (a .kind) a s)
-  time-passed e f h = table-passed e f ∙ gives-later (ltb (a .time) (a .last)) 73 _ (le-ltb (a .time) (a .last) h)
-
-  pub number-late : a .early ≡ 0 → s .count ≡ 16 → a .last ≤ a .time → (a .late ≡ 0 → ⊥) → a .late ≡ decideNumber a s
-  number-late e f h g = sym (time-passed e f h ∙ orElse-first (a .late) _ g)
-
-  pub number-kind : a .early ≡ 0 → s .count ≡ 16 → a .last ≤ a .time → a .late ≡ 0 → decideNumber a s ≡ kindNumber (a .kind) a s
-  number-kind e f h g = time-passed e f h ∙ orElse-later (a .late) _ g
-
-  pub retain-71 : s .named < s .count → 71 ≡ kindNumber Retain a s
-  unfolding _gives_ _orElse_
-  retain-71 h = simp (lt-ltb (s .named) (s .count) h)
-
-  pub retain-0 : s .count ≤ s .named → s .free < s .count → 0 ≡ kindNumber Retain a s
-  unfolding _gives_ _orElse_
-  retain-0 h k = simp (le-ltb (s .named) (s .count) h, lt-ltb (s .free) (s .count) k)
-
-  pub retain-70 : s .count ≤ s .named → s .count ≤ s .free → 70 ≡ kindNumber Retain a s
-  unfolding _gives_ _orElse_
-  retain-70 h k = simp (le-ltb (s .named) (s .count) h, le-ltb (s .free) (s .count) k)
-
-  pub step-77 : s .due < s .count → s .found .count < a .tries → a .room < s .found .length → 77 ≡ kindNumber Step a s
-  unfolding _gives_
-  step-77 h k l = simp (lt-ltb (s .due) (s .count) h, lt-ltb (s .found .count) (a .tries) k, lt-ltb (a .room) (s .found .length) l)
-
-  pub step-fits : s .due < s .count → s .found .count < a .tries → s .found .length ≤ a .room → 0 ≡ kindNumber Step a s
-  unfolding _gives_
-  step-fits h k l = simp (lt-ltb (s .due) (s .count) h, lt-ltb (s .found .count) (a .tries) k, le-ltb (a .room) (s .found .length) l)
-
-  pub step-drops : s .due < s .count → a .tries ≤ s .found .count → 0 ≡ kindNumber Step a s
-  unfolding _gives_
-  step-drops h k = simp (lt-ltb (s .due) (s .count) h, le-ltb (s .found .count) (a .tries) k)
-
-  pub step-none : s .count ≤ s .due → 0 ≡ kindNumber Step a s
-  unfolding _gives_
-  step-none h = simp (le-ltb (s .due) (s .count) h)
-
-  pub sends : s .due < s .count → s .found .count < a .tries
-      → changes (s .due) (sentRecord (a .time) (s .found)) (did sent (a .time) (s .due) (namesOf (pduOf (s .found))) (s .found .length)) ≡ effectOf Step a s
-  sends h k = simp (lt-ltb (s .due) (s .count) h, lt-ltb (s .found .count) (a .tries) k)
-
-  pub drops : s .due < s .count → a .tries ≤ s .found .count → changes (s .due) freedRecord
-      (did failed (a .time) (s .due) (namesOf (pduOf (s .found))) 0) ≡ effectOf Step a s
-  drops h k = simp (lt-ltb (s .due) (s .count) h, le-ltb (s .found .count) (a .tries) k)
-
-  pub rests : s .count ≤ s .due → stays 0 (a .time) (s .count) ≡ effectOf Step a s
-  rests h = simp (le-ltb (s .due) (s .count) h)
-
-  pub frees : s .named < s .count → changes (s .named) freedRecord (did freed (a .time) (s .named) (a .names) 0) ≡ effectOf Free a s
-  frees h = simp (lt-ltb (s .named) (s .count) h)
-
-  pub ignores : s .count ≤ s .named → stays 0 (a .time) (s .count) ≡ effectOf Free a s
-  ignores h = simp (le-ltb (s .named) (s .count) h)
-
-  pub decide-refuses : (n : ℕ) → n ≡ decideNumber a s → (n ≡ 0 → ⊥) → stays n (a .last) (s .count) ≡ decideOf a s
-  unfolding decideOf
-  decide-refuses n e f = simp (sym e, ne-eqb n 0 f)
-
-  pub decide-acts : (n : ℕ) → n ≡ decideNumber a s → n ≡ 0 → effectOf (a .kind) a s ≡ decideOf a s
-  unfolding decideOf
-  decide-acts n e f = simp (sym e, eq-eqb n 0 f)
-
-module _ (e : Effect) (output : List ℕ) where
-  pub emits : (bytes after : List ℕ) → e .outcome .deed ≡ 2 → bytes ≡ pduOf (e .keep) → after ≡ placed output 0 bytes → after ≡ emitted e output
-  unfolding emitted
-  emits bytes after d b p = simp (eq-eqb (e .outcome .deed) 2 d) (p ∙ ap (placed output 0) b)
-
-  pub emits-nothing : (e .outcome .deed ≡ 2 → ⊥) → output ≡ emitted e output
-  unfolding emitted
-  emits-nothing d = simp (ne-eqb (e .outcome .deed) 2 d)

@@ -15,61 +15,43 @@ use Rattle.answering.proofs.kind_for.Reads as kind-for-reads
 use Rattle.answering.proofs.late_number.Reads as late-number-reads
 use Rattle.pdu.proofs.header_of.Reads as header-of-reads
 use Rattle.retained.proofs.exchange.Reads as exchange-reads
-use Rattle.retained.proofs.freed_record.Reads as freed-record-reads
 use Rattle.retained.proofs.names_of.Reads as names-of-reads
 
--- src/lib.rt:78:9
 header-of-requires : tie.Need-header-of-requires
 header-of-requires c κs = search needs
 
--- src/lib.rt:79:9
 is-answered-requires : tie.Need-is-answered-requires
 is-answered-requires c κs = search needs
 
--- src/lib.rt:80:9
 kind-for-requires : tie.Need-kind-for-requires
 kind-for-requires c κs = search needs
 
--- src/lib.rt:81:9
 names-of-requires : tie.Need-names-of-requires
 names-of-requires c κs = search needs
 
--- src/lib.rt:82:9
 exchange-requires : tie.Need-exchange-requires
 exchange-requires c κs = search needs
 
--- src/lib.rt:83:9
 early-number-requires : tie.Need-early-number-requires
 early-number-requires c κs = search needs
 
--- src/lib.rt:84:39
 ack-length-requires : tie.Need-ack-length-requires
 ack-length-requires c κs = search needs
 
--- src/lib.rt:84:9
 late-number-requires : tie.Need-late-number-requires
 late-number-requires c κs = search needs
 
--- src/lib.rt:85:9
-freed-record-requires : tie.Need-freed-record-requires
-freed-record-requires c κs = search needs
-
--- src/lib.rt:75:1
 returns : tie.Need-returns
 unfolding askAcknowledge
 returns c = simp (
-  c .freed-record .ensures,
-  c .before .late-number .ensures,
-  c .before .before .ack-length .ensures,
-  c .before .before .before
-      .early-number .ensures,
-  c .before .before .before .before .exchange .ensures,
-  c .before .before .before .before .before .names-of .ensures,
-  c
-      .before .before .before .before .before .before .kind-for .ensures,
-  c .before .before .before .before .before .before .before .is-answered
-      .ensures,
-  c .before .before .before .before .before .before .before .before .header-of .ensures,
+  c .late-number .ensures,
+  c .before .ack-length .ensures,
+  c .before .before .early-number .ensures,
+  c .before .before .before .exchange .ensures,
+  c .before .before .before .before .names-of .ensures,
+  c .before .before .before .before .before .kind-for .ensures,
+  c .before .before .before .before .before .before .is-answered .ensures,
+  c .before .before .before .before .before .before .before .header-of .ensures,
 )
 
 pub ask-acknowledge-spec : {M : Type 1} → statement M
@@ -84,5 +66,4 @@ ask-acknowledge-spec =
     early-number-requires
     ack-length-requires
     late-number-requires
-    freed-record-requires
     returns)

@@ -9,21 +9,17 @@ use Rattle.answering.proofs.early_number.Tie as tie
 use Rattle.answering.proofs.early_number.Reads as reads
 use Rattle.answering.proofs.early_number.Lts as lts
 
--- src/lib.rt:48:13
 returns : tie.Need-returns
 returns c = let a = c .before .before .before .args in early-10 (a .sending) (a .due) (c .before .before .if1 .taken) (c .if2 .taken)
 
--- src/lib.rt:51:13
 returns-2 : tie.Need-returns-2
 returns-2 c = let a = c .before .before .before .before .before .args in early-11 (a .sending) (a .due)
     (c .before .before .before .before .if1 .taken) (c .before .before .if2 .left) (c .if3 .taken)
 
--- src/lib.rt:43:1
 returns-3 : tie.Need-returns-3
 returns-3 c = let a = c .before .before .before .before .before .args in early-0 (a .sending) (a .due)
     (c .before .before .before .before .if1 .taken) (c .before .before .if2 .left) (c .if3 .left)
 
--- src/lib.rt:43:1
 returns-4 : tie.Need-returns-4
 returns-4 c = let a = c .before .args in early-none (a .sending) (a .due) (c .if1 .left)
 

@@ -8,15 +8,12 @@ use Rattle.answering.proofs.is_answered.Tie as tie
 use Rattle.answering.proofs.is_answered.Reads as reads
 use Rattle.answering.proofs.is_answered.Lts as lts
 
--- src/lib.rt:45:13
 returns : tie.Need-returns
 returns c = simp (eq-eqb _ _ (c .before .before .before .if1 .taken), eq-eqb _ _ (c .before .if2 .taken))
 
--- src/lib.rt:40:1
 returns-2 : tie.Need-returns-2
 returns-2 c = simp (eq-eqb _ _ (c .before .before .if1 .taken), ne-eqb _ _ (c .if2 .left))
 
--- src/lib.rt:40:1
 returns-3 : tie.Need-returns-3
 returns-3 c = simp (ne-eqb _ _ (c .if1 .left))
 

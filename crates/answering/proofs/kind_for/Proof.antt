@@ -8,19 +8,15 @@ use Rattle.answering.proofs.kind_for.Tie as tie
 use Rattle.answering.proofs.kind_for.Reads as reads
 use Rattle.answering.proofs.kind_for.Lts as lts
 
--- src/lib.rt:57:17
 returns : tie.Need-returns
 returns c = simp (eq-eqb _ _ (c .before .before .before .if1 .taken), eq-eqb _ _ (c .before .if2 .taken), c .if3 .taken)
 
--- src/lib.rt:51:1
 returns-2 : tie.Need-returns-2
 returns-2 c = simp (eq-eqb _ _ (c .before .before .before .if1 .taken), eq-eqb _ _ (c .before .if2 .taken), c .if3 .left)
 
--- src/lib.rt:51:1
 returns-3 : tie.Need-returns-3
 returns-3 c = simp (eq-eqb _ _ (c .before .before .if1 .taken), ne-eqb _ _ (c .if2 .left))
 
--- src/lib.rt:51:1
 returns-4 : tie.Need-returns-4
 returns-4 c = simp (ne-eqb _ _ (c .if1 .left))
 

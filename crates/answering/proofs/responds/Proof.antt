@@ -9,21 +9,17 @@ use Rattle.answering.proofs.responds.Tie as tie
 use Rattle.answering.proofs.responds.Reads as reads
 use Rattle.answering.proofs.responds.Lts as lts
 
--- src/lib.rt:148:9
 returns : tie.Need-returns
 returns c = let a = c .before .args in no-1 (a .number) (a .due) (a .sending .«hop_limit») (a .sending .port) (c .if1 .taken)
 
--- src/lib.rt:151:9
 returns-2 : tie.Need-returns-2
 returns-2 c = let a = c .before .before .args in no-2 (a .number) (a .due) (a .sending .«hop_limit») (a .sending .port) (c .before .if1 .left)
     (not-true _ (c .if2 .taken))
 
--- src/lib.rt:154:9
 returns-3 : tie.Need-returns-3
 returns-3 c = let a = c .before .before .before .before .args in no-3 (a .number) (a .due) (a .sending .«hop_limit») (a .sending .port)
     (c .before .before .before .if1 .left) (not-false _ (c .before .before .if2 .left)) (c .if3 .taken)
 
--- src/lib.rt:144:1
 returns-4 : tie.Need-returns-4
 returns-4 c = let a = c .before .before .before .before .before .args in no-4 (a .number) (a .due) (a .sending .«hop_limit») (a .sending .port)
     (c .before .before .before .before .if1 .left) (not-false _ (c .before .before .before .if2 .left)) (c .before .if3 .left)

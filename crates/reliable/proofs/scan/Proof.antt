@@ -48,7 +48,7 @@ use denote.Triple.Table.{entered, cited}
 use denote.Triple.Clauses.{ensured, lasts}
 use denote.Triple.Walked.{says, Stays, stay-none-slice, stay-none, walkOf, Walks, ends-at, walked, goes-none-slice, goes-none, walk-meets}
 use Rattle.retained.specs.Records.{freedRecord as none}
-use Rattle.retained.specs.Deciding.{lookOf as stepOf, scanOf}
+use Rattle.retained.specs.Searching.{lookOf as stepOf, scanOf}
 use Rattle.retained.specs.declared.Retained.{Retained}
 use Rattle.retained.specs.declared.Seek.{Seek}
 use Rattle.retained.proofs.Retained as T

@@ -12,19 +12,15 @@ use Rattle.retained.proofs.is_first_sending.Reads as reads
 use Rattle.retained.proofs.is_first_sending.Lts as lts
 use Rattle.pdu.proofs.Header.path_entries.Reads as path-entries-reads
 
--- src/lib.rt:82:9
 returns : tie.Need-returns
 returns c = other-protocol (c .before .before .args .header) (c .if1 .taken)
 
--- src/lib.rt:85:9
 returns-2 : tie.Need-returns-2
 returns-2 c = with-ack (c .before .before .before .args .header) (c .before .if1 .left) (c .if2 .taken)
 
--- src/lib.rt:87:5
 path-entries-requires : tie.Need-path-entries-requires
 path-entries-requires c κs = search needs
 
--- src/lib.rt:78:1
 returns-3 : tie.Need-returns-3
 returns-3 c = ap (λ (x : ℕ). eqb x 0) (c .path-entries .ensures .0) ∙ by-path (c .before .before .before .before .args .header)
     (c .before .before .if1 .left) (c .before .if2 .left)

@@ -16,32 +16,25 @@ use Rattle.pdu.proofs.header_of.Reads as header-of-reads
 use Rattle.pdu.proofs.pdu_length_in.Reads as pdu-length-in-reads
 use Rattle.retained.proofs.is_first_sending.Reads as is-first-sending-reads
 
--- src/lib.rt:69:8
 fault-requires : tie.Need-fault-requires
 fault-requires c κs = search needs
 
--- src/lib.rt:70:9
 returns : tie.Need-returns
 returns c = not-read (now (c .before .before .before .args .bytes)) (λ e. c .if1 .taken (c .before .fault .ensures ∙ e))
 
--- src/lib.rt:72:8
 pdu-length-in-requires : tie.Need-pdu-length-in-requires
 pdu-length-in-requires c κs = search needs
 
--- src/lib.rt:73:9
 returns-2 : tie.Need-returns-2
 returns-2 c = not-exact (now (c .before .before .before .before .before .args .bytes)) (sym (c .before .before .before .fault .ensures)
     ∙ c .before .before .if1 .left) (λ e. c .if2 .taken (c .before .pdu-length-in .ensures .0 ∙ e))
 
--- src/lib.rt:75:22
 header-of-requires : tie.Need-header-of-requires
 header-of-requires c κs = search needs
 
--- src/lib.rt:75:5
 is-first-sending-requires : tie.Need-is-first-sending-requires
 is-first-sending-requires c κs = search needs
 
--- src/lib.rt:66:1
 returns-3 : tie.Need-returns-3
 returns-3 c = let a = c .before .before .before .before .before .before .before .args in c .is-first-sending .ensures
     ∙ ap isFirstSending (c .before .header-of .ensures) ∙ by-header (now (a .bytes)) (sym (c .before .before .before .before .before .fault .ensures)

@@ -1,38 +1,60 @@
-use Rattle.retained.specs.Records.{isUsed}
 use mathlib.Core.Path.{_≡_, refl, sym, _∙_, ap}
-use denote.Ref.{now}
-use borrow.Author.Tests.{lt-ltb, le-ltb, le-leb, lt-leb, eq-eqb, ne-eqb}
+use lib.ListN.{length}
+use Rattle.retained.proofs.Used.{used-is}
 use native.Mathlib.Omega.{arith}
 use borrow.Author.Needs.{needs}
 use Rattle.retained.proofs.is_used.Statement.{statement}
 use Rattle.retained.proofs.is_used.Tie as tie
 use Rattle.retained.proofs.is_used.Reads as reads
 use Rattle.retained.proofs.is_used.Lts as lts
-use Rattle.octets.proofs.part.Reads as part-reads
-use Rattle.retained.proofs.unfit.Reads as unfit-reads
+use Rattle.retained.proofs.is_whole.Reads as is-whole-reads
+use Rattle.retained.proofs.path_entries.Reads as path-entries-reads
+use Rattle.retained.proofs.payload_length.Reads as payload-length-reads
 
--- src/lib.rt:101:9
+array-read-path-entries : tie.Need-array-read-path-entries
+array-read-path-entries c = search needs
+
+array-read-path-entries-2 : tie.Need-array-read-path-entries-2
+array-read-path-entries-2 c = search needs
+
+path-entries-requires : tie.Need-path-entries-requires
+path-entries-requires c κs = search needs
+
+array-read-payload-length : tie.Need-array-read-payload-length
+array-read-payload-length c = search needs
+
+array-read-payload-length-2 : tie.Need-array-read-payload-length-2
+array-read-payload-length-2 c = search needs
+
+payload-length-requires : tie.Need-payload-length-requires
+payload-length-requires c κs = search needs
+
+array-read-is-whole : tie.Need-array-read-is-whole
+array-read-is-whole c = search needs
+
+array-read-is-whole-2 : tie.Need-array-read-is-whole-2
+array-read-is-whole-2 c = search needs
+
+is-whole-requires : tie.Need-is-whole-requires
+is-whole-requires c κs = search needs
+
 returns : tie.Need-returns
-unfolding isUsed
-returns c = simp (lt-leb _ _ (c .if1 .taken))
-
--- src/lib.rt:104:24
-slice-aggregate-part : tie.Need-slice-aggregate-part
-slice-aggregate-part c = search needs
-
--- src/lib.rt:104:11
-part-requires : tie.Need-part-requires
-part-requires c κs = search needs
-
--- src/lib.rt:104:5
-unfit-requires : tie.Need-unfit-requires
-unfit-requires c κs = search needs
-
--- src/lib.rt:96:1
-returns-2 : tie.Need-returns-2
-unfolding isUsed
-returns-2 c = simp (le-leb _ _ (c .before .before .before .before .if1 .left), c .unfit .ensures, c .before .part .ensures .bytes)
+returns c =
+    let start = c .before .before .before .before in
+    let whole : length (start .args .r .pdu) ≡ 256 = search needs in
+    c .is-whole .ensures ∙ simp (c .before .before .path-entries .ensures, c .before .payload-length .ensures) (used-is (start .args .r) whole)
 
 pub is-used-spec : {M : Type 1} → statement M
 is-used-spec =
-    tie.close (tie.spec returns slice-aggregate-part part-requires unfit-requires returns-2)
+    tie.close
+    (tie.spec
+    array-read-path-entries
+    array-read-path-entries-2
+    path-entries-requires
+    array-read-payload-length
+    array-read-payload-length-2
+    payload-length-requires
+    array-read-is-whole
+    array-read-is-whole-2
+    is-whole-requires
+    returns)

@@ -1,31 +1,46 @@
-use Rattle.retained.specs.Records.{namesOf}
 use mathlib.Core.Path.{_≡_, refl, sym, _∙_, ap}
-use denote.Ref.{now}
-use borrow.Author.Tests.{lt-ltb, le-ltb, le-leb, lt-leb, eq-eqb, ne-eqb}
+use Rattle.retained.proofs.Used.{names-are}
 use native.Mathlib.Omega.{arith}
 use borrow.Author.Needs.{needs}
 use Rattle.retained.proofs.names_in.Statement.{statement}
 use Rattle.retained.proofs.names_in.Tie as tie
 use Rattle.retained.proofs.names_in.Reads as reads
 use Rattle.retained.proofs.names_in.Lts as lts
-use Rattle.octets.proofs.part.Reads as part-reads
-use Rattle.retained.proofs.names_of.Reads as names-of-reads
+use Rattle.retained.proofs.word_of.Reads as word-of-reads
 
--- src/lib.rt:156:27
-slice-aggregate-part : tie.Need-slice-aggregate-part
-slice-aggregate-part c = search needs
+array-read-word-of : tie.Need-array-read-word-of
+array-read-word-of c = search needs
 
--- src/lib.rt:156:14
-part-requires : tie.Need-part-requires
-part-requires c κs = search needs
+array-read-word-of-2 : tie.Need-array-read-word-of-2
+array-read-word-of-2 c = search needs
 
--- src/lib.rt:156:5
-names-of-requires : tie.Need-names-of-requires
-names-of-requires c κs = search needs
+word-of-requires : tie.Need-word-of-requires
+word-of-requires c κs = search needs
 
--- src/lib.rt:151:1
+array-read-word-of-3 : tie.Need-array-read-word-of-3
+array-read-word-of-3 c = search needs
+
+array-read-word-of-4 : tie.Need-array-read-word-of-4
+array-read-word-of-4 c = search needs
+
+word-of-requires-2 : tie.Need-word-of-requires-2
+word-of-requires-2 c κs = search needs
+
+array-read-t19 : tie.Need-array-read-t19
+array-read-t19 c = search needs
+
 returns : tie.Need-returns
-returns c = c .names-of .ensures ∙ ap namesOf (c .before .part .ensures .bytes)
+returns c = λ used. simp (c .before .word-of .ensures, c .word-of2 .ensures) (names-are (c .before .before .before .args .r) used)
 
 pub names-in-spec : {M : Type 1} → statement M
-names-in-spec = tie.close (tie.spec slice-aggregate-part part-requires names-of-requires returns)
+names-in-spec =
+    tie.close
+    (tie.spec
+    array-read-word-of
+    array-read-word-of-2
+    word-of-requires
+    array-read-word-of-3
+    array-read-word-of-4
+    word-of-requires-2
+    array-read-t19
+    returns)

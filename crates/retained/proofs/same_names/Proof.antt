@@ -9,15 +9,12 @@ use Rattle.retained.proofs.same_names.Tie as tie
 use Rattle.retained.proofs.same_names.Reads as reads
 use Rattle.retained.proofs.same_names.Lts as lts
 
--- src/lib.rt:142:9
 returns : tie.Need-returns
 returns c = simp (ne-eqb _ _ (c .if1 .taken))
 
--- src/lib.rt:145:9
 returns-2 : tie.Need-returns-2
 returns-2 c = simp (eq-eqb _ _ (c .before .before .before .if1 .left), ne-eqb _ _ (c .if2 .taken))
 
--- src/lib.rt:138:1
 returns-3 : tie.Need-returns-3
 returns-3 c = let a = c .before .before .before .before .before .before .before .before .args in same-3 (a .a .source) (a .b .source)
     (a .a .destination) (a .b .destination) (a .a .«pdu_id») (a .b .«pdu_id») (c .before .before .before .before .before .if1 .left)

@@ -12,19 +12,15 @@ use Rattle.retained.proofs.unfit.Reads as reads
 use Rattle.retained.proofs.unfit.Lts as lts
 use Rattle.retained.proofs.is_retainable.Reads as is-retainable-reads
 
--- src/lib.rt:60:9
 is-retainable-requires : tie.Need-is-retainable-requires
 is-retainable-requires c κs = search needs
 
--- src/lib.rt:61:9
 returns : tie.Need-returns
 returns c = unfit-75 _ _ (c .before .is-retainable .ensures) (not-true _ (c .if1 .taken))
 
--- src/lib.rt:57:1
 returns-2 : tie.Need-returns-2
 returns-2 c = unfit-72 _ _ (c .before .before .is-retainable .ensures) (not-false _ (c .before .if1 .left)) (c .if2 .taken)
 
--- src/lib.rt:57:1
 returns-3 : tie.Need-returns-3
 returns-3 c = unfit-0 _ _ (c .before .before .is-retainable .ensures) (not-false _ (c .before .if1 .left)) (c .if2 .left)
 

@@ -1,0 +1,179 @@
+-- The one search and decision, asked to retain or to step, with what is done then, is what the table's definitions say.
+use native.Mathlib.Omega.{arith}
+use mathlib.Core.Path.{_≡_, refl, sym, _∙_, ap}
+use Prim.Native.Nat.{ℕ, _+_, _≤_}
+use mathlib.Core.Bool.{Bool, true, false, not, cond, _&&_}
+use mathlib.Core.List.{List}
+use lib.Dec.{eqb, ltb}
+use lib.ListN.{length, set, length-take}
+use lib.Seq.{set-out}
+use native.Mathlib.Nat.{le-refl, le-trans}
+use borrow.Author.Tests.{ltb-false, eqb-true}
+use Rattle.octets.specs.Numbers.{_gives_, _orElse_}
+use Rattle.octets.specs.Octets.{placed, over}
+use Rattle.octets.proofs.Numbering.{orElse-zero, gives-zero}
+use Rattle.octets.proofs.Placing.{placed-start}
+use Rattle.retained.specs.declared.Retained.{Retained}
+use Rattle.retained.specs.declared.Seek.{Seek}
+use Rattle.retained.specs.declared.Outcome.{Outcome}
+use Rattle.deciding.specs.declared.Ask.{Ask}
+use Rattle.deciding.specs.declared.Effect.{Effect}
+use Rattle.retained.specs.Records.{isDue, pduOf, namesOf, retainedRecord, sentRecord, freedRecord}
+use Rattle.retained.specs.Table.{has, recordAt, due, isDropped, answers, did, sent, failed}
+use Rattle.retained.specs.Table.{retainNumber, retain, tableRetained, stepNumber, step, tableStepped, outputStepped}
+use Rattle.retained.specs.Searching.{scanOf, begun}
+use Rattle.retained.proofs.Found.{scan-found}
+use Rattle.deciding.specs.Deciding.{decideNumber, stays, changes, decideOf, effectOn, askRetain, askStep, leftOf, emitted, tableAfter, outputAfter}
+
+-- the decision on what the search found is the one on the table
+pub searched : (a : Ask) (table : List Retained) (t s : Seek) (e : Effect) → t ≡ begun (a .names) (a .time) (a .delay) (length table)
+    → s ≡ scanOf 0 table t → e ≡ decideOf a s → e ≡ effectOn a table
+unfolding effectOn
+searched a table t s e p q r = r ∙ ap (decideOf a) (q ∙ ap (scanOf 0 table) p ∙ scan-found table (a .names) (a .time) (a .delay))
+
+outcome-of : (b : Bool) (x y : Effect) → cond b x y .outcome ≡ cond b (x .outcome) (y .outcome)
+outcome-of true x y = refl
+outcome-of false x y = refl
+
+-- no record has the place past the last
+past : (table : List Retained) (r : Retained) → set table (length table) r ≡ table
+past table r = set-out table (length table) r (le-refl (length table))
+
+-- RETAINING
+module _ (table : List Retained) (last time : ℕ) (bytes : List ℕ) where
+  abbrev stored : Effect → List Retained
+  stored e = set table (e .place) (retainedRecord time bytes)
+
+  stored-of : (b : Bool) (x : Effect) (number : ℕ) → stored (cond b x (stays number last (length table))) ≡ cond b (stored x) table
+  stored-of true x number = refl
+  stored-of false x number = past table (retainedRecord time bytes)
+
+  retain-told : effectOn (askRetain last time bytes) table .outcome ≡ retain table last time bytes
+  unfolding effectOn decideOf decideNumber retain retainNumber _orElse_
+  retain-told = outcome-of (eqb (retainNumber table last time bytes) 0) _ _
+
+  retain-left : stored (effectOn (askRetain last time bytes) table) ≡ tableRetained table last time bytes
+  unfolding effectOn decideOf decideNumber tableRetained retainNumber _orElse_
+  retain-left = stored-of (eqb (retainNumber table last time bytes) 0) _ _
+
+  pub retain-tied : (a : Ask) (e : Effect) (r : Retained) (after : List Retained) → a ≡ askRetain last time bytes → e ≡ effectOn a table
+      → r ≡ retainedRecord time bytes → after ≡ set table (e .place) r
+      → (e .outcome ≡ retain table last time bytes) × (after ≡ tableRetained table last time bytes)
+  retain-tied a e r after p q k l = (
+    ap (λ (x : Effect). x .outcome) is ∙ retain-told,
+    l ∙ ap (set table (e .place)) k ∙ ap stored is ∙ retain-left,
+  )
+    where
+      is : e ≡ effectOn (askRetain last time bytes) table
+      is = q ∙ ap (λ (x : Ask). effectOn x table) p
+
+-- A STEP'S effect, by three tests: no refusal; one is due; it is dropped
+module _ (table : List Retained) (place time last number : ℕ) where
+  abbrev f : Retained
+  f = recordAt table place
+
+  abbrev drops : Effect
+  drops = changes place 0 (did failed time place (namesOf (pduOf f)) 0)
+
+  abbrev sends : Effect
+  sends = changes place (f .count + 1) (did sent time place (namesOf (pduOf f)) (f .length))
+
+  abbrev theStep : Bool → Bool → Bool → Effect
+  theStep b d r = cond b (cond d (cond r drops sends) (stays 0 time (length table))) (stays number last (length table))
+
+  step-outcome : (b d r : Bool)
+      → theStep b d r .outcome ≡ cond b (cond d (cond r (drops .outcome) (sends .outcome)) (answers 0 time)) (answers number last)
+  step-outcome true true true = refl
+  step-outcome true true false = refl
+  step-outcome true false r = refl
+  step-outcome false d r = refl
+
+  step-stored : (b d r : Bool) → tableAfter (theStep b d r) table ≡ cond (b && d) (set table place (cond r freedRecord (sentRecord time f))) table
+  unfolding leftOf
+  step-stored true true true = refl
+  step-stored true true false = refl
+  step-stored true false r = past table _
+  step-stored false d r = past table _
+
+  unless : (b : Bool) (output : List ℕ) → cond b output output ≡ output
+  unless true output = refl
+  unless false output = refl
+
+  step-emitted : (b d r : Bool) (output : List ℕ) → (d ≡ true → ltb place (length table) ≡ true)
+      → (b ≡ true → d ≡ true → r ≡ false → length (pduOf f) ≤ length output)
+      → outputAfter (theStep b d r) table output ≡ cond (eqb (theStep b d r .outcome .deed) sent) (over (pduOf f) output) output
+  unfolding emitted
+  step-emitted true true true output g h = unless (ltb place (length table)) output
+  step-emitted true true false output g h = simp (g refl) (placed-start (pduOf f) output (h refl refl refl))
+  step-emitted true false r output g h = unless (ltb (length table) (length table)) output
+  step-emitted false d r output g h = unless (ltb (length table) (length table)) output
+
+-- a record that is sent fits
+fits : (d r : Bool) (a b : ℕ) (room : ℕ) (f : Retained) → eqb (a orElse b orElse (d && (not r && ltb room (f .length))) gives 77) 0 ≡ true → d ≡ true
+    → r ≡ false → length (pduOf f) ≤ room
+fits d r a b room f e p q = le-trans short (ltb-false room (f .length) (sym (joined d r (ltb room (f .length)) p q) ∙ gives-zero _ 77 (omega arith)
+    (orElse-zero b _ (orElse-zero a _ (eqb-true _ 0 e) .1) .1)))
+  where
+    short : length (pduOf f) ≤ f .length
+    short = omega (arith, length-take (f .length) (f .pdu))
+
+    joined : (d r t : Bool) → d ≡ true → r ≡ false → (d && (not r && t)) ≡ t
+    joined d r t p q = simp (p, q)
+
+module _ (table : List Retained) (last time delay tries room : ℕ) where
+  abbrev place : ℕ
+  place = due table time delay
+
+  abbrev number : ℕ
+  number = stepNumber table last time delay tries room
+
+  abbrev b : Bool
+  b = eqb number 0
+
+  abbrev d : Bool
+  d = has (isDue time delay) table
+
+  abbrev r : Bool
+  r = isDropped (recordAt table place) tries
+
+  abbrev its : Effect
+  its = theStep table place time last number b d r
+
+  step-is : effectOn (askStep last time delay tries room) table ≡ its
+  unfolding effectOn decideOf decideNumber stepNumber _orElse_
+  step-is = refl
+
+  step-told : its .outcome ≡ step table last time delay tries room
+  unfolding step
+  step-told = step-outcome table place time last number b d r
+
+  step-left : tableAfter its table ≡ tableStepped table last time delay tries room
+  unfolding tableStepped
+  step-left = step-stored table place time last number b d r
+
+module _ (table : List Retained) (last time delay tries : ℕ) (output : List ℕ) where
+  abbrev it : Effect
+  it = its table last time delay tries (length output)
+
+  step-shown : outputAfter it table output ≡ outputStepped table last time delay tries output
+  unfolding outputStepped stepNumber
+  step-shown =
+      let n = length output in
+      let p = place table last time delay tries n in
+      step-emitted table p time last (number table last time delay tries n) (b table last time delay tries n) (d table last time delay tries n)
+      (r table last time delay tries n) output (λ e. e) (λ e q s. fits (d table last time delay tries n) (r table last time delay tries n) _ _ n
+      (recordAt table p) e q s)
+      ∙ ap (λ (x : Outcome). cond (eqb (x .deed) sent) (over (pduOf (recordAt table p)) output) output) (step-told table last time delay tries n)
+
+  pub step-tied : (a : Ask) (e : Effect) (after : List Retained) (shown : List ℕ) → a ≡ askStep last time delay tries (length output)
+      → e ≡ effectOn a table → (after ≡ tableAfter e table) × (shown ≡ outputAfter e table output)
+      → (e .outcome ≡ step table last time delay tries (length output)) × (after ≡ tableStepped table last time delay tries (length output))
+      × (shown ≡ outputStepped table last time delay tries output)
+  step-tied a e after shown p q o = (
+    ap (λ (x : Effect). x .outcome) is ∙ step-told table last time delay tries (length output),
+    o .0 ∙ ap (λ (x : Effect). tableAfter x table) is ∙ step-left table last time delay tries (length output),
+    o .1 ∙ ap (λ (x : Effect). outputAfter x table output) is ∙ step-shown,
+  )
+    where
+      is : e ≡ it
+      is = q ∙ ap (λ (x : Ask). effectOn x table) p ∙ step-is table last time delay tries (length output)

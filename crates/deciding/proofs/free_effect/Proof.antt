@@ -1,0 +1,28 @@
+use Rattle.deciding.proofs.Laws.{frees, ignores}
+use mathlib.Core.Path.{_≡_, refl, sym, _∙_, ap}
+use native.Mathlib.Omega.{arith}
+use borrow.Author.Needs.{needs}
+use Rattle.deciding.proofs.free_effect.Statement.{statement}
+use Rattle.deciding.proofs.free_effect.Tie as tie
+use Rattle.deciding.proofs.free_effect.Reads as reads
+use Rattle.deciding.proofs.free_effect.Lts as lts
+use Rattle.deciding.proofs.changed.Reads as changed-reads
+use Rattle.deciding.proofs.unchanged.Reads as unchanged-reads
+
+changed-requires : tie.Need-changed-requires
+changed-requires c κs = search needs
+
+returns : tie.Need-returns
+returns c = let a = c .before .before .before .before .args in c .changed .ensures
+    ∙ frees (a .a) (a .s) (c .before .before .if1 .taken)
+
+unchanged-requires : tie.Need-unchanged-requires
+unchanged-requires c κs = search needs
+
+returns-2 : tie.Need-returns-2
+returns-2 c = let a = c .before .before .before .args in c .unchanged .ensures ∙ ignores (a .a) (a .s) (c .before .if1 .left)
+
+pub free-effect-spec : {M : Type 1} → statement M
+free-effect-spec =
+    tie.close
+    (tie.spec changed-requires returns unchanged-requires returns-2)

@@ -1,0 +1,54 @@
+use mathlib.Core.Path.{_≡_, refl, sym, _∙_, ap}
+use native.Mathlib.Omega.{arith}
+use borrow.Author.Needs.{needs}
+use Rattle.deciding.proofs.kind_number.Statement.{statement}
+use Rattle.deciding.proofs.kind_number.Tie as tie
+use Rattle.deciding.proofs.kind_number.Reads as reads
+use Rattle.deciding.proofs.kind_number.Lts as lts
+use Rattle.deciding.proofs.retain_number.Reads as retain-number-reads
+use Rattle.deciding.proofs.step_number.Reads as step-number-reads
+
+enum-told : tie.Need-enum-told
+enum-told c = search needs
+
+retain-number-requires : tie.Need-retain-number-requires
+retain-number-requires c κs = search needs
+
+enum-told-2 : tie.Need-enum-told-2
+enum-told-2 c = search needs
+
+step-number-requires : tie.Need-step-number-requires
+step-number-requires c κs = search needs
+
+enum-told-3 : tie.Need-enum-told-3
+enum-told-3 c = search needs
+
+enum-told-4 : tie.Need-enum-told-4
+enum-told-4 c = search needs
+
+returns : tie.Need-returns
+returns c = rw (c .before .enum-told .given .1) (c .retain-number .ensures)
+
+returns-2 : tie.Need-returns-2
+returns-2 c = rw (c .before .enum-told2 .given .1) (c .step-number .ensures)
+
+returns-3 : tie.Need-returns-3
+returns-3 c = rw (c .enum-told3 .given .1)
+
+returns-4 : tie.Need-returns-4
+returns-4 c = rw (c .enum-told4 .given .1)
+
+pub kind-number-spec : {M : Type 1} → statement M
+kind-number-spec =
+    tie.close
+    (tie.spec
+    enum-told
+    retain-number-requires
+    enum-told-2
+    step-number-requires
+    enum-told-3
+    enum-told-4
+    returns
+    returns-2
+    returns-3
+    returns-4)

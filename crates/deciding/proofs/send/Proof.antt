@@ -1,0 +1,45 @@
+use mathlib.Core.Path.{_≡_, refl, sym, _∙_, ap}
+use denote.Ref.{now}
+use Rattle.deciding.proofs.Laws.{resent, dropped}
+use native.Mathlib.Omega.{arith}
+use borrow.Author.Needs.{needs}
+use Rattle.deciding.proofs.send.Statement.{statement}
+use Rattle.deciding.proofs.send.Tie as tie
+use Rattle.deciding.proofs.send.Reads as reads
+use Rattle.deciding.proofs.send.Lts as lts
+use Rattle.octets.proofs.part.Reads as part-reads
+use Rattle.octets.proofs.put.Reads as put-reads
+use Rattle.retained.proofs.freed_record.Reads as freed-record-reads
+
+freed-record-requires : tie.Need-freed-record-requires
+freed-record-requires c κs = search needs
+
+returns : tie.Need-returns
+returns c = let a = c .before .before .before .before .before .args in simp (c .freed-record .ensures) (dropped (a .e) (a .r) (now (a .output)) (c .before .if1 .taken))
+
+slice-aggregate-part : tie.Need-slice-aggregate-part
+slice-aggregate-part c = search needs
+
+part-requires : tie.Need-part-requires
+part-requires c κs = search needs
+
+put-requires : tie.Need-put-requires
+put-requires c κs = search needs
+
+same-length : tie.Need-same-length
+same-length c = search needs
+
+returns-2 : tie.Need-returns-2
+returns-2 c = let a = c .before .before .before .before .before .before .before .before .before .before .before .args in resent (a .e) (a .r) (now (a .output)) _ _ _ (c .before .before .before .before .before .before .before .if1 .left) refl (c .before .before .before .part .ensures .bytes) (c .before .before .put .ensures .1)
+
+pub send-spec : {M : Type 1} → statement M
+send-spec =
+    tie.close
+    (tie.spec
+    freed-record-requires
+    returns
+    slice-aggregate-part
+    part-requires
+    put-requires
+    same-length
+    returns-2)

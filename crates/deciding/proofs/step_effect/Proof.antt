@@ -1,0 +1,43 @@
+use mathlib.Core.Path.{_≡_, refl, sym, _∙_, ap}
+use Rattle.deciding.proofs.Laws.{sends, drops, rests}
+use native.Mathlib.Omega.{arith}
+use borrow.Author.Needs.{needs}
+use Rattle.deciding.proofs.step_effect.Statement.{statement}
+use Rattle.deciding.proofs.step_effect.Tie as tie
+use Rattle.deciding.proofs.step_effect.Reads as reads
+use Rattle.deciding.proofs.step_effect.Lts as lts
+use Rattle.deciding.proofs.changed.Reads as changed-reads
+use Rattle.deciding.proofs.unchanged.Reads as unchanged-reads
+
+add-changed : tie.Need-add-changed
+add-changed c = search needs
+
+changed-requires : tie.Need-changed-requires
+changed-requires c κs = search needs
+
+returns : tie.Need-returns
+returns c = let a = c .before .before .before .before .before .before .before .before .before .args in c .changed .ensures ∙ sends (a .a) (a .s) (c .before .before .before .before .before .before .before .if1 .taken) (c .before .before .if2 .taken)
+
+changed-requires-2 : tie.Need-changed-requires-2
+changed-requires-2 c κs = search needs
+
+returns-2 : tie.Need-returns-2
+returns-2 c = let a = c .before .before .before .before .before .before .before .before .args in c .changed2 .ensures ∙ drops (a .a) (a .s) (c .before .before .before .before .before .before .if1 .taken) (c .before .if2 .left)
+
+unchanged-requires : tie.Need-unchanged-requires
+unchanged-requires c κs = search needs
+
+returns-3 : tie.Need-returns-3
+returns-3 c = let a = c .before .before .before .args in c .unchanged .ensures ∙ rests (a .a) (a .s) (c .before .if1 .left)
+
+pub step-effect-spec : {M : Type 1} → statement M
+step-effect-spec =
+    tie.close
+    (tie.spec
+    add-changed
+    changed-requires
+    returns
+    changed-requires-2
+    returns-2
+    unchanged-requires
+    returns-3)

@@ -1,0 +1,17 @@
+use mathlib.Core.Path.{_≡_, refl, sym, _∙_, ap}
+use native.Mathlib.Omega.{arith}
+use borrow.Author.Needs.{needs}
+use Rattle.deciding.proofs.unchanged.Statement.{statement}
+use Rattle.deciding.proofs.unchanged.Tie as tie
+use Rattle.deciding.proofs.unchanged.Reads as reads
+use Rattle.deciding.proofs.unchanged.Lts as lts
+use Rattle.deciding.proofs.no_names.Reads as no-names-reads
+
+no-names-requires : tie.Need-no-names-requires
+no-names-requires c κs = search needs
+
+returns : tie.Need-returns
+returns c = simp (c .no-names .ensures)
+
+pub unchanged-spec : {M : Type 1} → statement M
+unchanged-spec = tie.close (tie.spec no-names-requires returns)

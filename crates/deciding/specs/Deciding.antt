@@ -1,0 +1,110 @@
+-- Only for the functions that the three operations are put together from: one decision on what the search found.
+use Prim.Native.Nat.{ℕ, _+_}
+use mathlib.Core.Bool.{Bool, not, cond, _&&_}
+use mathlib.Core.List.{List}
+use lib.Dec.{eqb, ltb}
+use lib.ListN.{length, set}
+use Rattle.octets.specs.Numbers.{_gives_, _orElse_}
+use Rattle.octets.specs.Octets.{placed}
+use Rattle.retained.specs.declared.Retained.{Retained}
+use Rattle.retained.specs.declared.Seen.{Seen}
+use Rattle.retained.specs.declared.Seek.{Seek}
+use Rattle.retained.specs.declared.Outcome.{Outcome}
+use Rattle.deciding.specs.declared.Kind.{Kind}
+use Rattle.deciding.specs.declared.Kind.the-variants.{Retain, Step, Free, Nothing}
+use Rattle.deciding.specs.declared.Ask.{Ask}
+use Rattle.deciding.specs.declared.Effect.{Effect}
+use Rattle.retained.specs.Records.{unfit, pduOf, namesOf, freedRecord}
+use Rattle.retained.specs.Table.{tableSize, recordAt, kept, sent, failed, freed, noNames, answers, did}
+use Rattle.retained.specs.Searching.{foundIn}
+
+-- what was seen of a record whose count isn't below the setting
+abbrev pub isSpent : Seen → ℕ → Bool
+isSpent found tries = not (ltb (found .count) tries)
+
+-- the refusals in 02's order: 10 and 11 before the table is looked at, 74, 73, then `late`, which is 75 or 72 of a PDU to retain and 77 of a PDU heard,
+-- then those that depend on what was found
+abbrev pub kindNumber : Kind → Ask → Seek → ℕ
+kindNumber Retain a s = ltb (s .named) (s .count) gives 71 orElse not (ltb (s .free) (s .count)) gives 70
+kindNumber Step a s = (ltb (s .due) (s .count) && (not (isSpent (s .found) (a .tries)) && ltb (a .room) (s .found .length))) gives 77
+kindNumber Free a s = 0
+kindNumber Nothing a s = 0
+
+unfoldable pub decideNumber : Ask → Seek → ℕ
+decideNumber a s =
+    a .early
+    orElse not (eqb (s .count) tableSize) gives 74
+    orElse ltb (a .time) (a .last) gives 73
+    orElse a .late
+    orElse kindNumber (a .kind) a s
+
+-- no record changes: the place is past the last
+abbrev pub stays : ℕ → ℕ → ℕ → Effect
+stays number last size = record { place = size; count = 0; outcome = answers number last }
+
+abbrev pub changes : ℕ → ℕ → Outcome → Effect
+changes place count outcome = record { place = place; count = count; outcome = outcome }
+
+abbrev pub effectOf : Kind → Ask → Seek → Effect
+effectOf Retain a s = changes (s .free) 0 (did kept (a .time) (s .free) (a .names) 0)
+effectOf Step a s =
+    cond (ltb (s .due) (s .count))
+    (cond (isSpent (s .found) (a .tries))
+    (changes (s .due) 0 (did failed (a .time) (s .due) (s .found .names) 0))
+    (changes (s .due) (s .found .count + 1) (did sent (a .time) (s .due) (s .found .names) (s .found .length))))
+    (stays 0 (a .time) (s .count))
+effectOf Free a s =
+    cond (ltb (s .named) (s .count)) (changes (s .named) 0 (did freed (a .time) (s .named) (a .names) 0))
+    (stays 0 (a .time) (s .count))
+effectOf Nothing a s = stays 0 (a .time) (s .count)
+
+unfoldable pub decideOf : Ask → Seek → Effect
+decideOf a s = cond (eqb (decideNumber a s) 0) (effectOf (a .kind) a s) (stays (decideNumber a s) (a .last) (s .count))
+
+-- the same on a table
+unfoldable pub effectOn : Ask → List Retained → Effect
+effectOn a table = decideOf a (foundIn table (a .names) (a .time) (a .delay))
+
+-- what is asked
+abbrev pub askRetain : ℕ → ℕ → List ℕ → Ask
+askRetain last time bytes =
+    record {
+      kind = Retain;
+      early = 0;
+      last = last;
+      time = time;
+      late = unfit bytes;
+      names = namesOf bytes;
+      delay = 0;
+      tries = 0;
+      room = 0;
+    }
+
+abbrev pub askStep : ℕ → ℕ → ℕ → ℕ → ℕ → Ask
+askStep last time delay tries room =
+    record {
+      kind = Step;
+      early = 0;
+      last = last;
+      time = time;
+      late = 0;
+      names = noNames;
+      delay = delay;
+      tries = tries;
+      room = room;
+    }
+
+-- what a step leaves of the record at its effect's place, and in the output: sent again, at the output's start, or dropped
+unfoldable pub leftOf : Effect → Retained → Retained
+leftOf e record′ =
+    cond (eqb (e .outcome .deed) sent) (record { pdu = record′ .pdu; length = record′ .length; «sent_at» = e .outcome .last; count = e .count }) freedRecord
+
+unfoldable pub emitted : Effect → Retained → List ℕ → List ℕ
+emitted e record′ output = cond (eqb (e .outcome .deed) sent) (placed output 0 (pduOf record′)) output
+
+-- the same on a table
+abbrev pub tableAfter : Effect → List Retained → List Retained
+tableAfter e table = set table (e .place) (leftOf e (recordAt table (e .place)))
+
+abbrev pub outputAfter : Effect → List Retained → List ℕ → List ℕ
+outputAfter e table output = cond (ltb (e .place) (length table)) (emitted e (recordAt table (e .place)) output) output

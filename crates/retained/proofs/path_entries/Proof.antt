@@ -1,0 +1,17 @@
+use borrow.Author.Tests.{eq-eqb, ne-eqb, le-leb, lt-leb}
+use mathlib.Core.Path.{_≡_, refl, sym, _∙_, ap}
+use native.Mathlib.Omega.{arith}
+use borrow.Author.Needs.{needs}
+use Rattle.retained.proofs.path_entries.Statement.{statement}
+use Rattle.retained.proofs.path_entries.Tie as tie
+use Rattle.retained.proofs.path_entries.Reads as reads
+use Rattle.retained.proofs.path_entries.Lts as lts
+
+returns : tie.Need-returns
+returns c = simp (eq-eqb _ _ (c .if1 .taken))
+
+returns-2 : tie.Need-returns-2
+returns-2 c = simp (ne-eqb _ _ (c .if1 .left))
+
+pub path-entries-spec : {M : Type 1} → statement M
+path-entries-spec = tie.close (tie.spec returns returns-2)

@@ -1,0 +1,17 @@
+use mathlib.Core.Path.{_≡_, refl, sym, _∙_, ap}
+use native.Mathlib.Omega.{arith}
+use borrow.Author.Needs.{needs}
+use Rattle.retained.proofs.see.Statement.{statement}
+use Rattle.retained.proofs.see.Tie as tie
+use Rattle.retained.proofs.see.Reads as reads
+use Rattle.retained.proofs.see.Lts as lts
+use Rattle.retained.proofs.names_in.Reads as names-in-reads
+
+names-in-requires : tie.Need-names-in-requires
+names-in-requires c κs = search needs
+
+returns : tie.Need-returns
+returns c = λ used. simp (c .names-in .ensures used)
+
+pub see-spec : {M : Type 1} → statement M
+see-spec = tie.close (tie.spec names-in-requires returns)
