@@ -141,13 +141,12 @@ static const struct {
     {"mant_limits", {limits_call}},
 };
 
-/* The limit of the functions whose names have a part; those that retain copy records, those that seal and open have the round keys on the stack. */
+/* The limit of the functions whose names have a part; those that retain and send again have a record on the stack, those that seal and open the round keys. */
 static const struct {
     const char *part;
     size_t bytes;
 } limits[] = {
-    {"mant_hear_eight", 512}, {"mant_hear_and_count_eight", 768}, {"mant_retain", 3584}, {"mant_retry", 3584}, {"mant_acknowledge", 3584},
-    {"mant_seal", 1536},      {"mant_open", 1536},
+    {"_eight", 1280}, {"mant_retain", 768}, {"mant_retry", 768}, {"mant_seal", 1536}, {"mant_open", 1536},
 };
 
 static size_t limit_of(const char *name)
