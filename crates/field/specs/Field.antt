@@ -2,6 +2,7 @@
 -- Assumes nothing.
 use Prim.Native.Nat.{ℕ, zero, suc, _+_, _*_, _/_, _%_, _^_}
 use mathlib.Core.Bool.{Bool, true, false, cond}
+use mathlib.Core.List.{List, [], _∷_}
 use lib.Dec.{eqb}
 use lib.Bits.{bitXor}
 
@@ -53,3 +54,8 @@ affine b = gathered 8 (affineBit b)
 -- the substitution of a byte (5.1.1)
 unfoldable pub subByte : ℕ → ℕ
 subByte b = affine (inverse b)
+
+-- the substitutes of n bytes, from b on; those of all 256 are figure 7
+unfoldable pub substitutes : ℕ → ℕ → List ℕ
+substitutes zero b = []
+substitutes (suc n) b = subByte b ∷ substitutes n (suc b)

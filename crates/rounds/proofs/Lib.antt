@@ -1,3 +1,3 @@
 pub mod Equal
-pub mod Mixed
-pub mod Summed
+pub mod Listed
+pub mod Columns

@@ -3,35 +3,33 @@
 use mathlib.Core.Path.{_≡_, refl}
 use Prim.Native.Nat.{_-_, _≤_}
 use native.Mathlib.Omega.{arith}
-use lib.ListN.{length, length-set}
+use lib.ListN.{length, take, length-set}
 use Rattle.octets.specs.Octets.{at}
-use Rattle.rounds.proofs.Summed.{through, through-more, through-all}
+use Rattle.field.specs.Field.{_⊕_}
+use Rattle.rounds.specs.Rounds.{listed}
+use Rattle.rounds.proofs.Listed.{one-more, all-written}
 use borrow.Author.Needs.{needs}
 use Rattle.rounds.proofs.add_round_key.Statement.{statement}
 use Rattle.rounds.proofs.add_round_key.Tie as tie
 
 abbrev Inv-loop : tie.InvT-loop
-Inv-loop k sum₀ i₀ sum i = (i ≤ 16) × (length sum ≡ 16) × (length sum₀ ≡ 16) × (sum ≡ through i (at k) sum₀)
+Inv-loop s k sum₀ i₀ sum i = (i ≤ 16) × (length sum ≡ 16) × (take i sum ≡ listed i 0 (λ j. at s j ⊕ at k j))
 
 abbrev μ-loop : tie.MeasureT-loop
-μ-loop k sum₀ i₀ sum i = 16 - i
+μ-loop s k sum₀ i₀ sum i = 16 - i
 
 loop-holds : tie.Need-loop-holds Inv-loop μ-loop
-unfolding through
-loop-holds c = (omega arith, search needs, search needs, refl)
+loop-holds c = (omega arith, search needs, refl)
 
 loop-again : tie.Need-loop-again Inv-loop μ-loop
 loop-again c =
-    let b = c .before in
-    let v = b .loop .inv in
-    (omega arith, simp length-set (v .1), v .2, through-more (b .loop .i) _ _ (omega arith) (v .3))
+    let v = c .before .loop .inv in
+    (omega arith, simp length-set (v .1), one-more _ _ (c .before .loop .i) (v .2) _ _ (omega arith) refl refl)
 
 returns : tie.Need-returns Inv-loop μ-loop
 returns c =
-    let b = c .before in
-    let a = b .before .args in
-    let v = b .loop .inv in
-    through-all (b .loop .i) (a .t2) (a .s) (v .2) (v .0) (c .loop-test .left) (v .3)
+    let v = c .before .loop .inv in
+    all-written _ _ (c .before .loop .i) (v .2) (v .1) (v .0) (c .loop-test .left)
 
 pub add-round-key-spec : {M : Type 1} → statement M
 add-round-key-spec =

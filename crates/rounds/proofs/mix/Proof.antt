@@ -1,6 +1,6 @@
 -- `rounds::mix` meets its contract: each byte by what its two doublings are.
 -- Assumes nothing.
-use Rattle.rounds.proofs.Mixed.{mixed}
+use Rattle.rounds.proofs.Columns.{column-mixed}
 use borrow.Author.Needs.{needs}
 use Rattle.rounds.proofs.mix.Statement.{statement}
 use Rattle.rounds.proofs.mix.Tie as tie
@@ -8,11 +8,7 @@ use Rattle.rounds.proofs.mix.Tie as tie
 returns : tie.Need-returns
 returns c =
     let b = c .before .before in
-    mixed (b .before .before .args .t1) (b .before .doubled .ensures) (b .doubled2 .ensures) (c .before .doubled3 .ensures) (c .doubled4 .ensures)
+    column-mixed _ _ _ _ (b .before .doubled .ensures) (b .doubled2 .ensures) (c .before .doubled3 .ensures) (c .doubled4 .ensures)
 
 pub mix-spec : {M : Type 1} → statement M
-mix-spec =
-    tie.close
-    (tie.spec
-    (λ c. search needs) (λ c. search needs) (λ c. search needs) (λ c. search needs) (λ c κs. search needs) (λ c κs. search needs)
-    (λ c κs. search needs) (λ c κs. search needs) returns)
+mix-spec = tie.close (tie.spec (λ c κs. search needs) (λ c κs. search needs) (λ c κs. search needs) (λ c κs. search needs) returns)
