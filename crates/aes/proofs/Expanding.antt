@@ -1,82 +1,146 @@
--- What the key's expansion keeps, word after word.
+-- What the key's expansion keeps, byte after byte.
 -- Assumes nothing.
 use mathlib.Core.Path.{_≡_, refl, sym, ap, ap₂, _∙_}
 use mathlib.Core.List.{List, [], _∷_, _++_}
+use mathlib.Core.Logic.{_≢_}
 use Prim.Native.Nat.{ℕ, zero, suc, _+_, _-_, _*_, _/_, _%_, _≤_, _<_}
+use native.Mathlib.Nat.{add-zero, zero-add, add-suc, suc-add, le-of-suc-le-suc, not-suc-le-zero, div-div-eq-div-mul}
+use native.Mathlib.Numerals.{add-one}
 use native.Mathlib.Omega.{arith}
 use borrow.Author.Tests.{eq-eqb}
 use lib.Bits.{xor-zero-r}
-use lib.ListN.{length, take, drop, set, length-append}
-use lib.Seq.{take-all, take-length, take-append-seam, getD-take, sets, sets-eq, take-at, length-take-le}
+use lib.ListN.{length, take, drop, set, length-append, List·getD-append}
+use lib.Seq.{take-all, take-length, take-suc, take-suc-set, take-append-seam, take-append-le, getD-take, getD-append-add}
 use Rattle.octets.specs.Octets.{at}
 use Rattle.field.specs.Field.{_⊕_, subByte}
 use Rattle.rounds.specs.Rounds.{listed, word}
 use Rattle.rounds.proofs.Equal.{ap₄}
-use Rattle.aes.specs.Cipher.{plus, power, temp, nextWord, expansion}
+use Rattle.aes.specs.Cipher.{plus, rotWord, subWord, rcon, power, temp, nextWord, expansion}
 
--- a word cycled and substituted, with the constant added to its first byte
-pub scrambled :
-    (i : ℕ) (v : List ℕ) {a b c d p : ℕ} → i % 4 ≡ 0 → a ≡ subByte (at v 1) → p ≡ power (i / 4 - 1) → b ≡ subByte (at v 2) → c ≡ subByte (at v 3)
-    → d ≡ subByte (at v 0) → (a ⊕ p) ∷ b ∷ c ∷ d ∷ [] ≡ temp i v
-unfolding temp
-scrambled i v {a} {b} {c} {d} {p} z q r s t u =
-    ap₄ (λ (w x y z : ℕ). w ∷ x ∷ y ∷ z ∷ []) (ap₂ (λ (x y : ℕ). x ⊕ y) q r) (s ∙ sym (xor-zero-r (subByte (at v 2)))) (t ∙ sym (xor-zero-r (subByte (at v 3))))
-    (u ∙ sym (xor-zero-r (subByte (at v 0))))
-    ∙ sym (simp (eq-eqb _ _ z))
+entry : (n i : ℕ) (f : ℕ → ℕ) (k : ℕ) → k < n → at (listed n i f) k ≡ f (i + k)
+entry zero i f k h = absurd (not-suc-le-zero h)
+entry (suc n) i f zero h = ap f (sym (add-zero i))
+entry (suc n) i f (suc k) h = entry n (suc i) f k (le-of-suc-le-suc h) ∙ ap f (suc-add i k ∙ sym (add-suc i k))
 
--- four stores side by side
-four-laid :
-    (w : List ℕ) (n a b c d p q r e : ℕ) → p ≡ suc n → q ≡ suc (suc n) → r ≡ suc (suc (suc n)) → e ≡ n + 4 → n + 4 ≤ length w
-    → take e (set (set (set (set w n a) p b) q c) r d) ≡ take n w ++ (a ∷ b ∷ c ∷ d ∷ [])
-four-laid w n a b c d p q r e f g h i j =
-    let v = a ∷ b ∷ c ∷ d ∷ [] in
-    let s : set (set (set (set w n a) p b) q c) r d ≡ sets w n v =
-    ap₄ (λ (k l m o : ℕ). set (set (set (set w k a) l b) m c) o d) refl f g h in
-    let l : length (take n w ++ v) ≡ n + 4 = length-append (take n w) v ∙ ap (λ (k : ℕ). k + 4) (length-take-le n w (omega arith)) in
-    ap₂ take i (s ∙ sets-eq v w n j) ∙ take-at (take n w ++ v) (drop (n + 4) w) (n + 4) l
+-- a word cycled and substituted, with the constant of a round added, byte by byte
+cycled : (v : List ℕ) (n k : ℕ) → k < 4 → at (plus (subWord (rotWord v)) (rcon n)) k ≡ subByte (at v ((k + 1) % 4)) ⊕ at (rcon n) k
+cycled v n zero h = refl
+cycled v n (suc zero) h = refl
+cycled v n (suc (suc zero)) h = refl
+cycled v n (suc (suc (suc zero))) h = refl
+cycled v n (suc (suc (suc (suc k)))) h = absurd (omega arith)
+
+constant-past : (n k : ℕ) → k < 4 → k ≢ 0 → at (rcon n) k ≡ 0
+constant-past n zero h z = absurd (z refl)
+constant-past n (suc zero) h z = refl
+constant-past n (suc (suc zero)) h z = refl
+constant-past n (suc (suc (suc zero))) h z = refl
+constant-past n (suc (suc (suc (suc k)))) h z = refl
+
+module _ (p : ℕ) (v : List ℕ) {s : ℕ} (fourth : p / 4 % 4 ≡ 0) (substituted : s ≡ subByte (at v ((p + 1) % 4))) where
+  scrambled : at (temp (p / 4) v) (p % 4) ≡ s ⊕ at (rcon (p / 4 / 4)) (p % 4)
+  unfolding temp
+  scrambled =
+      let e : (p % 4 + 1) % 4 ≡ (p + 1) % 4 = omega arith in
+      simp (eq-eqb _ _ fourth) (cycled v (p / 4 / 4) (p % 4) (omega arith))
+      ∙ ap (λ (x : ℕ). x ⊕ at (rcon (p / 4 / 4)) (p % 4)) (ap (λ (k : ℕ). subByte (at v k)) e ∙ sym substituted)
+
+  pub scrambled-past : p % 4 ≢ 0 → s ≡ at (temp (p / 4) v) (p % 4)
+  scrambled-past z =
+      sym (scrambled ∙ ap (λ (x : ℕ). s ⊕ x) (constant-past (p / 4 / 4) (p % 4) (omega arith) z) ∙ xor-zero-r s)
+
+  pub scrambled-first : {c : ℕ} → p % 4 ≡ 0 → c ≡ power (p / 16 - 1) → s ⊕ c ≡ at (temp (p / 4) v) (p % 4)
+  scrambled-first z q =
+      let e : p / 16 ≡ p / 4 / 4 = sym (div-div-eq-div-mul p 4 4) in
+      ap (λ (x : ℕ). s ⊕ x) q ∙ sym (scrambled ∙ ap₂ (λ (n k : ℕ). s ⊕ at (rcon n) k) (sym e) z)
 
 -- all of a list copied over the front of another
 pub copied-front : (n : ℕ) (l rest : List ℕ) {w : List ℕ} → length l ≡ n → w ≡ take (length l) l ++ drop (length l) rest → take n w ≡ l
 copied-front n l rest e p =
     ap₂ take (sym e) (p ∙ ap (λ (x : List ℕ). x ++ drop (length l) rest) (take-length l)) ∙ take-append-seam l (drop (length l) rest)
 
--- a byte among the first n
-back : (w front : List ℕ) (n k m : ℕ) → take n w ≡ front → k ≡ m → k < n → at w m ≡ at front k
-back w front n k m p e l = ap (at w) (sym e) ∙ sym (getD-take n w k 0 l) ∙ ap (λ (x : List ℕ). at x k) p
+module _ (key : List ℕ) (sixteen : length key ≡ 16) where
+  length-expansion : (n : ℕ) → length (expansion key n) ≡ 16 + 4 * n
+  unfolding expansion nextWord
+  length-expansion zero = sixteen
+  length-expansion (suc n) =
+      let w = expansion key n in
+      let l : length (w ++ nextWord w (4 + n)) ≡ length w + 4 = length-append w (nextWord w (4 + n)) in
+      l ∙ omega (arith, length-expansion n)
 
--- a word that stands among the first n bytes
-back-word :
-    (w front : List ℕ) (n i : ℕ) {a b c d : ℕ} → take n w ≡ front → 4 * i + 4 ≤ n → 4 * i ≡ a → suc (4 * i) ≡ b → suc (suc (4 * i)) ≡ c
-    → suc (suc (suc (4 * i))) ≡ d → at w a ∷ at w b ∷ at w c ∷ at w d ∷ [] ≡ word front i
-back-word w front n i {a} {b} {c} {d} p l q r s t =
-    ap₄ (λ (w x y z : ℕ). w ∷ x ∷ y ∷ z ∷ [])
-    (back w front n (4 * i) a p q (omega arith)) (back w front n (suc (4 * i)) b p r (omega arith))
-    (back w front n (suc (suc (4 * i))) c p s (omega arith)) (back w front n (suc (suc (suc (4 * i)))) d p t (omega arith))
+  -- a byte does not change as more words follow
+  later : (n d i : ℕ) → i < 16 + 4 * n → at (expansion key (n + d)) i ≡ at (expansion key n) i
+  unfolding expansion
+  later n zero i h = ap (λ (k : ℕ). at (expansion key k) i) (add-zero n)
+  later n (suc d) i h =
+      let w = expansion key (n + d) in
+      ap (λ (k : ℕ). at (expansion key k) i) (add-suc n d)
+      ∙ List·getD-append w (nextWord w (4 + (n + d))) 0 i (omega (arith, length-expansion (n + d))) ∙ later n d i h
 
--- one more word behind those before it
-pub word-laid :
-    (key w : List ℕ) (i : ℕ) {next t : List ℕ} → 4 ≤ i → 4 * i + 4 ≤ length w → take (4 * i) w ≡ expansion key (i - 4)
-    → t ≡ temp i (at w (4 * i - 4) ∷ at w (4 * i - 3) ∷ at w (4 * i - 2) ∷ at w (4 * i - 1) ∷ [])
-    → next ≡ plus (at w (4 * i - 16) ∷ at w (4 * i - 15) ∷ at w (4 * i - 14) ∷ at w (4 * i - 13) ∷ []) t
-    → take (4 * (i + 1)) (set (set (set (set w (4 * i) (at next 0)) (4 * i + 1) (at next 1)) (4 * i + 2) (at next 2)) (4 * i + 3) (at next 3))
-    ≡ expansion key (i + 1 - 4)
-unfolding expansion nextWord
-word-laid key w i {next} {t} g h p q r =
-    let front = expansion key (i - 4) in
-    let e : suc (i - 4) ≡ i + 1 - 4 = omega arith in
-    let f : i ≡ 4 + (i - 4) = omega arith in
-    let fourth : at w (4 * i - 16) ∷ at w (4 * i - 15) ∷ at w (4 * i - 14) ∷ at w (4 * i - 13) ∷ [] ≡ word front (i - 4) =
-    back-word w front (4 * i) (i - 4) p (omega arith) (omega arith) (omega arith) (omega arith) (omega arith) in
-    let before : at w (4 * i - 4) ∷ at w (4 * i - 3) ∷ at w (4 * i - 2) ∷ at w (4 * i - 1) ∷ [] ≡ word front (i - 1) =
-    back-word w front (4 * i) (i - 1) p (omega arith) (omega arith) (omega arith) (omega arith) (omega arith) in
-    four-laid w (4 * i) (at next 0) (at next 1) (at next 2) (at next 3) (4 * i + 1) (4 * i + 2) (4 * i + 3) (4 * (i + 1)) (omega arith) (omega arith)
-    (omega arith) (omega arith) h
-    ∙ ap₂ (λ (x y : List ℕ). x ++ y) p
-    (ap (λ (l : List ℕ). listed 4 0 (at l)) r ∙ ap₂ plus fourth (q ∙ ap (temp i) before) ∙ ap (nextWord front) f)
-    ∙ ap (expansion key) e
+  early : (n i j : ℕ) → n ≤ 40 → i < 16 + 4 * n → i ≡ j → at (expansion key n) i ≡ at (expansion key 40) j
+  early n i j g h e =
+      let d : 40 ≡ n + (40 - n) = omega arith in
+      sym (ap (λ (k : ℕ). at (expansion key k) i) d ∙ later n (40 - n) i h) ∙ ap (at (expansion key 40)) e
 
-pub all-laid :
-    (key w : List ℕ) (i : ℕ) → length w ≡ 176 → 44 ≤ i → i ≤ 44 → take (4 * i) w ≡ expansion key (i - 4) → w ≡ expansion key 40
-all-laid key w i l g h p =
-    let e : i - 4 ≡ 40 = omega arith in
-    sym (take-all (4 * i) w (omega arith)) ∙ p ∙ ap (expansion key) e
+  pub begins : (n : ℕ) → take 16 (expansion key n) ≡ key
+  unfolding expansion
+  begins zero = take-all 16 key (omega arith)
+  begins (suc n) =
+      let w = expansion key n in
+      take-append-le 16 w (nextWord w (4 + n)) (omega (arith, length-expansion n)) ∙ begins n
+
+  -- 5.2, byte by byte
+  byte :
+      (p : ℕ) → 16 ≤ p → p < 176
+      → let w = expansion key 40 in
+      let i = p - p % 4 in
+      at w p ≡ at w (p - 16) ⊕ at (temp (p / 4) (at w (i - 4) ∷ at w (i - 3) ∷ at w (i - 2) ∷ at w (i - 1) ∷ [])) (p % 4)
+  unfolding expansion nextWord
+  byte p g h =
+      let n = p / 4 - 4 in
+      let w = expansion key n in
+      let all = expansion key 40 in
+      let i = p - p % 4 in
+      let l = length-expansion n in
+      let e : p ≡ length w + p % 4 = omega arith in
+      let f : 4 + n ≡ p / 4 = omega arith in
+      let before : word w (4 + n - 1) ≡ at all (i - 4) ∷ at all (i - 3) ∷ at all (i - 2) ∷ at all (i - 1) ∷ [] =
+      ap₄ (λ (a b c d : ℕ). a ∷ b ∷ c ∷ d ∷ [])
+      (early n (4 * (4 + n - 1)) (i - 4) (omega arith) (omega arith) (omega arith))
+      (early n (suc (4 * (4 + n - 1))) (i - 3) (omega arith) (omega arith) (omega arith))
+      (early n (suc (suc (4 * (4 + n - 1)))) (i - 2) (omega arith) (omega arith) (omega arith))
+      (early n (suc (suc (suc (4 * (4 + n - 1))))) (i - 1) (omega arith) (omega arith) (omega arith)) in
+      sym (early (suc n) p p (omega arith) (omega arith) refl)
+      ∙ ap (at (w ++ nextWord w (4 + n))) e ∙ getD-append-add w (nextWord w (4 + n)) (p % 4) 0
+      ∙ entry 4 0 (λ k. at (word w (4 + n - 4)) k ⊕ at (temp (4 + n) (word w (4 + n - 1))) k) (p % 4) (omega arith)
+      ∙ ap (λ (k : ℕ). at (word w (4 + n - 4)) k ⊕ at (temp (4 + n) (word w (4 + n - 1))) k) (zero-add (p % 4))
+      ∙ ap₂ (λ (x y : ℕ). x ⊕ y)
+      (entry 4 (4 * (4 + n - 4)) (at w) (p % 4) (omega arith) ∙ early n (4 * (4 + n - 4) + p % 4) (p - 16) (omega arith) (omega arith) (omega arith))
+      (ap₂ (λ (k : ℕ) (v : List ℕ). at (temp k v) (p % 4)) f before)
+
+  module _ (w : List ℕ) (p : ℕ) (made : take p w ≡ take p (expansion key 40)) where
+    back : (i : ℕ) → i < p → at (expansion key 40) i ≡ at w i
+    back i h = sym (getD-take p (expansion key 40) i 0 h) ∙ ap (λ (l : List ℕ). at l i) (sym made) ∙ getD-take p w i 0 h
+
+    -- one more byte behind those before it
+    pub byte-laid :
+        {t : ℕ} → 16 ≤ p → p < 176 → length w ≡ 176
+        → t ≡ at (temp (p / 4) (at w (p - p % 4 - 4) ∷ at w (p - p % 4 - 3) ∷ at w (p - p % 4 - 2) ∷ at w (p - p % 4 - 1) ∷ [])) (p % 4)
+        → take (p + 1) (set w p (at w (p - 16) ⊕ t)) ≡ take (p + 1) (expansion key 40)
+    byte-laid {t} g h l q =
+        let all = expansion key 40 in
+        let i = p - p % 4 in
+        let m = length-expansion 40 in
+        let v : at all (i - 4) ∷ at all (i - 3) ∷ at all (i - 2) ∷ at all (i - 1) ∷ [] ≡ at w (i - 4) ∷ at w (i - 3) ∷ at w (i - 2) ∷ at w (i - 1) ∷ [] =
+        ap₄ (λ (a b c d : ℕ). a ∷ b ∷ c ∷ d ∷ [])
+        (back (i - 4) (omega arith)) (back (i - 3) (omega arith)) (back (i - 2) (omega arith)) (back (i - 1) (omega arith)) in
+        let x : at w (p - 16) ⊕ t ≡ at all p =
+        sym
+        (byte p g h
+        ∙ ap₂ (λ (a b : ℕ). a ⊕ b) (back (p - 16) (omega arith)) (ap (λ (y : List ℕ). at (temp (p / 4) y) (p % 4)) v ∙ sym q)) in
+        ap (λ (k : ℕ). take k (set w p (at w (p - 16) ⊕ t))) (add-one p) ∙ take-suc-set w p (at w (p - 16) ⊕ t) (omega arith)
+        ∙ ap₂ (λ (a : List ℕ) (b : ℕ). a ++ (b ∷ [])) made x
+        ∙ sym (ap (λ (k : ℕ). take k all) (add-one p) ∙ take-suc all p 0 (omega arith))
+
+    pub all-laid : length w ≡ 176 → 176 ≤ p → w ≡ expansion key 40
+    all-laid l h = sym (take-all p w (omega arith)) ∙ made ∙ take-all p (expansion key 40) (omega (arith, length-expansion 40))

@@ -1,9 +1,11 @@
 // AES-128: the key expanded, and one block of 16 bytes enciphered.
 ghost use mathlib.Core.Path.{_≡_};
-ghost use Prim.Native.Nat.{_+_, _*_, _≤_, _<_};
+ghost use Prim.Native.Nat.{_+_, _*_, _/_, _%_, _≤_, _<_};
 ghost use lib.ListN.{length};
-ghost use Rattle.aes.specs.Cipher.{roundKey, cipher, power, plus, temp, keyExpansion};
-use field::sub_byte;
+ghost use Rattle.octets.specs.Octets.{at};
+ghost use Rattle.field.specs.Field.{substitutes};
+ghost use Rattle.aes.specs.Cipher.{roundKey, cipher, power, temp, keyExpansion};
+use field::all_substitutes;
 use rounds::add_round_key;
 use rounds::last_round;
 use rounds::one_round;
@@ -18,46 +20,34 @@ fn power_of(n: usize) -> u8
     POWERS[n]
 }
 
-// What word i - 4 has added to it, where `v` is word i - 1. FIPS 197, 5.2.
-fn temp_of(i: usize, v: [u8; 4]) -> [u8; 4]
-    requires { ⌜ (4 ≤ i) × (i < 44) ⌝ }
-    ensures { λ r. ⌜ r ≡ temp i v ⌝ }
+// What byte p - 16 of the expanded key has added to it, where `v` is the word before that of byte p. FIPS 197, 5.2.
+fn temp_byte(table: &[u8; 256], p: usize, v: [u8; 4]) -> u8
+    requires { ⌜ (now table ≡ substitutes 256 0) × (16 ≤ p) × (p < 176) ⌝ }
+    ensures { λ r. ⌜ r ≡ at (temp (p / 4) v) (p % 4) ⌝ }
 {
-    if i % 4 != 0 {
-        return v;
+    if p / 4 % 4 != 0 {
+        return v[p % 4];
     }
-    [
-        sub_byte(v[1]) ^ power_of(i / 4 - 1),
-        sub_byte(v[2]),
-        sub_byte(v[3]),
-        sub_byte(v[0]),
-    ]
-}
-
-// The sum of two words.
-fn sum(v: [u8; 4], w: [u8; 4]) -> [u8; 4]
-    ensures { λ r. ⌜ r ≡ plus v w ⌝ }
-{
-    [v[0] ^ w[0], v[1] ^ w[1], v[2] ^ w[2], v[3] ^ w[3]]
+    let substitute = table[octets::byte_value(v[(p + 1) % 4])];
+    if p % 4 != 0 {
+        return substitute;
+    }
+    substitute ^ power_of(p / 16 - 1)
 }
 
 // The key's 44 words, byte by byte. FIPS 197, 5.2.
 pub fn expand(key: [u8; 16]) -> [u8; 176]
     ensures { λ r. ⌜ r ≡ keyExpansion key ⌝ }
 {
+    let table = all_substitutes();
     let mut w = [0u8; 176];
     bytes::copy(&key, &mut w);
-    let mut i: usize = 4;
-    while i < 44 {
-        let at = 4 * i;
-        let before = [w[at - 4], w[at - 3], w[at - 2], w[at - 1]];
-        let fourth = [w[at - 16], w[at - 15], w[at - 14], w[at - 13]];
-        let next = sum(fourth, temp_of(i, before));
-        w[at] = next[0];
-        w[at + 1] = next[1];
-        w[at + 2] = next[2];
-        w[at + 3] = next[3];
-        i += 1;
+    let mut p: usize = 16;
+    while p < 176 {
+        let from = p - p % 4;
+        let before = [w[from - 4], w[from - 3], w[from - 2], w[from - 1]];
+        w[p] = w[p - 16] ^ temp_byte(&table, p, before);
+        p += 1;
     }
     w
 }

@@ -1,6 +1,6 @@
-// One byte substituted, and the doubling of an element: the leaves of AES.
+// The substitutes of all bytes, and the doubling of an element: the leaves of AES.
 ghost use mathlib.Core.Path.{_≡_};
-ghost use Rattle.field.specs.Field.{_⊕_, xtime, subByte, substitutes};
+ghost use Rattle.field.specs.Field.{xtime, substitutes};
 
 // The substitution table. FIPS 197, figure 7.
 const SBOX: [u8; 256] = *b"\
@@ -21,19 +21,11 @@ const SBOX: [u8; 256] = *b"\
     \xe1\xf8\x98\x11\x69\xd9\x8e\x94\x9b\x1e\x87\xe9\xce\x55\x28\xdf\
     \x8c\xa1\x89\x0d\xbf\xe6\x42\x68\x41\x99\x2d\x0f\xb0\x54\xbb\x16";
 
-// The substitutes of all bytes, for a caller that looks up many: it makes the table once. FIPS 197, figure 7.
+// The substitutes of all bytes, in their order: a caller makes the table once and looks up many. FIPS 197, 5.1.1 and figure 7.
 pub fn all_substitutes() -> [u8; 256]
     ensures { λ r. ⌜ r ≡ substitutes 256 0 ⌝ }
 {
     SBOX
-}
-
-// A byte's substitute. FIPS 197, 5.1.1.
-pub fn sub_byte(b: u8) -> u8
-    ensures { λ r. ⌜ r ≡ subByte b ⌝ }
-{
-    let all = all_substitutes();
-    all[b as usize]
 }
 
 // x times an element. FIPS 197, 4.2.1.

@@ -3,16 +3,11 @@ use mathlib.Core.Path.{sym, _∙_}
 use Rattle.promises.specs.Promise.{Promised}
 use Rattle.field.proofs.all_substitutes.Reads as all-substitutes-reads
 use Rattle.field.proofs.all_substitutes.Kinds as all-substitutes-kinds
-use Rattle.field.proofs.sub_byte.Reads as sub-byte-reads
-use Rattle.field.proofs.sub_byte.Kinds as sub-byte-kinds
 use Rattle.field.proofs.doubled.Reads as doubled-reads
 use Rattle.field.proofs.doubled.Kinds as doubled-kinds
 
 pub all-substitutes : Promised 0 all-substitutes-kinds.ps all-substitutes-kinds.r all-substitutes-reads.Asked all-substitutes-reads.Post (λ κs x. x)
 all-substitutes = (λ κs a. tt, λ κs a x y s t p q. p ∙ sym q)
-
-pub sub-byte : Promised 0 sub-byte-kinds.ps sub-byte-kinds.r sub-byte-reads.Asked sub-byte-reads.Post (λ κs x. x)
-sub-byte = (λ κs a. tt, λ κs a x y s t p q. p ∙ sym q)
 
 pub doubled : Promised 0 doubled-kinds.ps doubled-kinds.r doubled-reads.Asked doubled-reads.Post (λ κs x. x)
 doubled = (λ κs a. tt, λ κs a x y s t p q. p ∙ sym q)
