@@ -19,7 +19,8 @@ pub fn add_round_key(s: [u8; 16], k: [u8; 16]) -> [u8; 16]
     sum
 }
 
-// The state with its bytes substituted and its rows shifted. FIPS 197, 5.1.1 and 5.1.2.
+// The state with its bytes substituted and its rows shifted: what comes to place i stood at place 5 * i, counted round from 15 to 0.
+// FIPS 197, 5.1.1 and 5.1.2.
 fn shifted(table: &[u8; 256], s: [u8; 16]) -> [u8; 16]
     requires { ⌜ now table ≡ substitutes 256 0 ⌝ }
     ensures { λ r. ⌜ r ≡ shiftRows (subBytes s) ⌝ }

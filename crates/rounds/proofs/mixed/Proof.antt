@@ -1,7 +1,7 @@
 -- `rounds::mixed` meets its contract: the loop keeps that the columns before a place are mixed.
 -- Assumes nothing.
 use mathlib.Core.Path.{_≡_, refl}
-use Prim.Native.Nat.{_+_, _-_, _%_, _≤_}
+use Prim.Native.Nat.{_-_, _%_, _≤_}
 use native.Mathlib.Omega.{arith}
 use lib.ListN.{length, take, length-set}
 use Rattle.rounds.specs.Rounds.{listed, mixColumn}
