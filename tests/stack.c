@@ -146,7 +146,7 @@ static const struct {
     const char *part;
     size_t bytes;
 } limits[] = {
-    {"_eight", 1280}, {"mant_retain", 768}, {"mant_retry", 768}, {"mant_seal", 1536}, {"mant_open", 1536},
+    {"mant_hear_eight", 512}, {"mant_hear_and_count_eight", 768}, {"mant_retain", 768}, {"mant_retry", 768}, {"mant_seal", 1536}, {"mant_open", 1536},
 };
 
 static size_t limit_of(const char *name)
