@@ -54,14 +54,7 @@ use transmit::Batch;
 pub extern "C" fn mant_read(edition: u64, bytes: &[u8]) -> MantHeader
     ensures { λ r. ⌜ r ≡ headerInC (readUnder edition (now (bytes .entry))) (now (bytes .entry)) ⌝ }
 {
-    let reading = editions::read(edition, bytes);
-    match reading {
-        editions::Reading::Refused(number) => boundary::refused_header(number),
-        editions::Reading::Pdu(shown) => {
-            let sender = pdu::parts::last_sender(bytes, editions::wire_of(shown));
-            boundary::shown_header(shown, sender)
-        }
-    }
+    boundary::header_in_c(edition, bytes)
 }
 
 // The address at place `i` of the path of the PDU at the start of `bytes`, the first at 0. 0 past the last one, and where there is no PDU.
