@@ -1,11 +1,15 @@
 // A node that hears a PDU and counts it in its table of stations.
 ghost use mathlib.Core.Path.{_≡_};
+ghost use mathlib.Core.Bool.{cond};
+ghost use Rattle.octets.specs.Octets.{at};
+ghost use Rattle.pdu.specs.Header.{isSet, pathBit, pathCountPlace};
 ghost use Rattle.lists.specs.Lists.{listsOf};
 ghost use Rattle.decision.specs.Decision.{nodeOf};
 ghost use Rattle.listening.specs.Listening.{isEchoNumber, heardOf, answerNumber, memoryAfterAnswer, Listens};
 use counting::Heard;
 use decision::Settings;
 use node::Answer;
+use octets::byte_value;
 
 // The node's answer for a PDU, and the table's number for it: 0, or 55 where its source is new while there is no room for another.
 pub struct Listened {
@@ -19,16 +23,33 @@ fn is_echo_number(number: u8) -> bool
     if number == 30 { true } else { number == 42 }
 }
 
+// The three fields that are counted, each from its bytes; bytes that are not there count as 0.
 fn heard_of(received: &[u8], answer: Answer) -> Heard
     ensures { λ r. ⌜ r ≡ heardOf answer (now (received .entry)) ⌝ }
 {
-    let header = pdu::header_of(received);
+    let byte0 = octets::byte(received, 0);
     Heard {
-        source: header.source,
+        source: octets::word(received, 4),
         echo: is_echo_number(answer.delivery),
-        path_bit: header.path_bit,
-        path_count: header.path_count,
+        path_bit: byte0 / 2 % 2 == 1,
+        path_count: path_count_in(received, byte0),
     }
+}
+
+fn path_count_in(received: &[u8], byte0: u8) -> u8
+    ensures { λ r. ⌜ r ≡ cond (isSet (pathBit byte0)) (at (now (received .entry)) (pathCountPlace byte0)) 0 ⌝ }
+{
+    if byte0 / 2 % 2 == 1 {
+        octets::byte(received, path_count_place(byte0))
+    } else {
+        0
+    }
+}
+
+fn path_count_place(byte0: u8) -> usize
+    ensures { λ r. ⌜ r ≡ pathCountPlace byte0 ⌝ }
+{
+    6 + 2 * byte_value(byte0 % 2) + byte_value(octets::flag(byte0 / 8 % 8 == 1))
 }
 
 // Counts the PDU at the start of `received` by what a node answered for it, as after a step of a walk: nothing where no PDU was read. Answers the

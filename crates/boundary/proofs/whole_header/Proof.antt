@@ -110,8 +110,8 @@ returns c =
     let count-same = count-is bytes (count .byte-where .ensures) place in
     let length-same = length-is bytes place (entries .before .byte-value .ensures .0) (entries .byte-value2 .ensures .0) count-same in
     whole-is (start .args .edition) bytes (bits .flag-in .ensures) (from .before .reserved-in .ensures) payload (from .word-in .ensures)
-    (id .before .before .word-where .ensures) (id-is bytes (id .byte-where2 .ensures) (id .before .pdu-id-place .ensures .0)) count-same (c .before .sender-in .ensures)
-    length-same (total-is bytes length-same (c .word-value .ensures .0) payload)
+    (id .before .before .word-where .ensures) (id-is bytes (id .byte-where2 .ensures) (id .before .pdu-id-place .ensures .0)) count-same
+    (c .before .sender-in .ensures) length-same (total-is bytes length-same (c .word-value .ensures .0) payload)
 
 pub whole-header-spec : {M : Type 1} → statement M
 whole-header-spec =

@@ -1,27 +1,51 @@
-use Rattle.pdu.specs.declared.Header.{Header}
-use Rattle.counting.specs.declared.Heard.{Heard}
-use mathlib.Core.Bool.{Bool}
+use Prim.Native.Nat.{ℕ}
+use mathlib.Core.Bool.{Bool, cond}
+use mathlib.Core.List.{List}
 use mathlib.Core.Path.{_≡_}
+use Rattle.octets.specs.Octets.{at, wordAt}
+use Rattle.pdu.specs.Header.{isSet, pathBit, sourcePlace, pathCountPlace, headerOf}
+use Rattle.counting.specs.declared.Heard.{Heard}
 use borrow.Author.Needs.{needs}
 use Rattle.listening.proofs.heard_of.Statement.{statement}
 use Rattle.listening.proofs.heard_of.Tie as tie
 
-header-of-requires : tie.Need-header-of-requires
-header-of-requires c κs = search needs
+byte-requires : tie.Need-byte-requires
+byte-requires c κs = search needs
+
+word-requires : tie.Need-word-requires
+word-requires c κs = search needs
 
 is-echo-number-requires : tie.Need-is-echo-number-requires
 is-echo-number-requires c κs = search needs
 
--- what is heard, from a header and from whether echo dropped the PDU
-heard-is : (h k : Header) (a b : Bool) → h ≡ k → a ≡ b
-    → _≡_ {A = Heard} (record { source = h .source; echo = a; «path_bit» = h .«path_bit»; «path_count» = h .«path_count» })
-    (record { source = k .source; echo = b; «path_bit» = k .«path_bit»; «path_count» = k .«path_count» })
-heard-is h k a b e f = λ i. record { source = e i .source; echo = f i; «path_bit» = e i .«path_bit»; «path_count» = e i .«path_count» }
+path-count-in-requires : tie.Need-path-count-in-requires
+path-count-in-requires c κs = search needs
+
+-- what is heard, from bytes and from whether echo dropped the PDU
+heard-is : (bytes : List ℕ) (echo : Bool) {byte0 from count : ℕ} {dropped : Bool} → byte0 ≡ at bytes 0 → from ≡ wordAt bytes sourcePlace → dropped ≡ echo
+    → count ≡ cond (isSet (pathBit byte0)) (at bytes (pathCountPlace byte0)) 0
+    → _≡_ {A = Heard} (record { source = from; echo = dropped; «path_bit» = isSet (pathBit byte0); «path_count» = count })
+    (record {
+      source = headerOf bytes .source;
+      echo = echo;
+      «path_bit» = headerOf bytes .«path_bit»;
+      «path_count» = headerOf bytes .«path_count»;
+    })
+unfolding headerOf
+heard-is bytes echo e f g h = rw (h, e, f, g)
 
 returns : tie.Need-returns
 returns c =
-    let at-header-of = c .before in
-    heard-is _ _ _ _ (at-header-of .header-of .ensures) (c .is-echo-number .ensures)
+    let echo = c .before in
+    let source = echo .before in
+    heard-is _ _ (source .before .byte .ensures) (source .word .ensures) (echo .is-echo-number .ensures) (c .path-count-in .ensures)
 
 pub heard-of-spec : {M : Type 1} → statement M
-heard-of-spec = tie.close (tie.spec header-of-requires is-echo-number-requires returns)
+heard-of-spec =
+    tie.close
+    (tie.spec
+    byte-requires
+    word-requires
+    is-echo-number-requires
+    path-count-in-requires
+    returns)
