@@ -158,7 +158,7 @@ MANT_SIZE(MantWritten, 16);
  * What the bytes of a PDU say: each field of its header, its path, who sent it last, where its payload lies; and the PDU written again from that.
  * Memory: none.
  * Numbers: 17, 1 to 6; in writing again also 14.
- * Stack: mant_read 280, mant_path_address 136, mant_path_has 136, mant_write_again 232.
+ * Stack: mant_read 136, mant_path_address 136, mant_path_has 136, mant_write_again 232.
  */
 
 /* Sizes in bytes; the path's in addresses. */
@@ -272,7 +272,7 @@ MantWritten mant_originate(MantFresh settings, const uint8_t *payload, size_t pa
  *     whatever is chosen.
  * Numbers: for delivery and repeating alike 17, 20 to 22, 1 to 6, 30, 42, 31 to 34 and 40; for delivery alone 35 and 39; for repeating alone 36 to 38 and
  *     41; for a batch above the size limit 54.
- * Stack: mant_list_fault 248, mant_list_holds 8, mant_hear 1,080, mant_step 632.
+ * Stack: mant_list_fault 88, mant_list_holds 8, mant_hear 456, mant_step 360.
  */
 
 /* Values in a list, bytes in a batch. */
@@ -456,7 +456,7 @@ static inline MantStep mant_step(uint64_t edition, MantNode settings, const Mant
  *     there may not be found.
  * Numbers: 55, 56.
  * Stack: mant_stations_capacity 8, mant_stations_held 8, mant_station_at 8, mant_station_of 56, mant_remove_station 56, mant_count_heard 104,
- *     mant_count_answer 168, mant_hear_and_count 1,192.
+ *     mant_count_answer 104, mant_hear_and_count 536.
  */
 
 #define MANT_STATION_LIMIT 128
@@ -674,7 +674,7 @@ MantWritten mant_write_exchange(const uint8_t *bytes, size_t bytes_length, uint8
  *     of all zeros too, so that the records may hold anything before the first call. The first is always the one at the lowest place. Where a call changes
  *     the table it changes one record; with a refusal none, nor the last time.
  * Numbers: 10, 11, 70 to 75, 77.
- * Stack: mant_retain 3,304, mant_retry 3,288, mant_acknowledge 3,128.
+ * Stack: mant_retain 656, mant_retry 688, mant_acknowledge 496.
  */
 
 /* How many records a table of retained PDUs has, and how many bytes the longest PDU that it retains. */
