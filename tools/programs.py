@@ -187,12 +187,19 @@ def altered_by(program):
     return {redefined(change) for change in program.changes} - {None, ('use', '')}
 
 
+def widens(change):
+    """Whether a changed `use` line brings in what it did, under the same names, and perhaps more."""
+    old, new = (set(re.findall(r'[^\s{},;]+', text)) for text in (change.old, change.new))
+    return old <= new and change.new.count(' as ') == change.old.count(' as ')
+
+
 def places(crate, change):
     """What a change alters, as (function, whether no other function's needs rest on it): a body; what is added after a promise; the promise of a
-    function that none of its crate calls; a constant, over as many lines as end in `\\`, which stands in the body of each function of
-    its file that names it."""
+    function that none of its crate calls; a constant, over as many lines as end in `\\`, which stands in the body of each function
+    that names it."""
     if not change.file.startswith('src/'):
-        return set() if redefined(change) else {(change.file, False)}
+        followed = widens(change) if redefined(change) == ('use', '') else redefined(change) in crate.definitions.under
+        return set() if followed else {(change.file, False)}
     at, end = change.text.index(change.old), 0
     lines = list(functions_by_line(change.file, change.text))
     first, continued = '', False
@@ -203,10 +210,10 @@ def places(crate, change):
         if at < end:
             break
     if constant := CONSTANT.match(first):
-        return {(user, True) for other, user, inside in lines if inside and re.search(rf'\b{constant.group(1)}\b', other)}
+        return {(user, True) for user, text in crate.bodies.items() if re.search(rf'\b{constant.group(1)}\b', text)}
     if function is None:
         return {(change.file, False)}
-    added = change.new.startswith(change.old) and not re.search('ensures|requires', change.new[len(change.old):])
+    added = change.new.startswith(change.old) and change.old.endswith('}') and change.new[len(change.old):].startswith(' {')
     return {(function, body or added or crate.uncalled(function))}
 
 
@@ -246,6 +253,8 @@ def rests_beside(crate, programs):
     if not any(altered):
         return []
     for program, own in zip(programs, altered):
+        if own and (idle := own - set().union(*(crate.resting(fact, program.changes) for fact in program.facts))):
+            faults.append(f'none of its facts rests on {min(idle)[1]}: {program.says}')
         for fact in program.facts:
             resting = crate.resting(fact, program.changes)
             if own and not own & resting:

@@ -23,7 +23,7 @@ use Rattle.retained.specs.Table.{has, recordAt, due, isDropped, answers, did, s
 use Rattle.retained.specs.Table.{retainNumber, retain, tableRetained, stepNumber, step, tableStepped, outputStepped}
 use Rattle.retained.specs.Searching.{scanOf, begun}
 use Rattle.retained.proofs.Found.{scan-found}
-use Rattle.deciding.specs.Deciding.{decideNumber, stays, changes, decideOf, effectOn, askRetain, askStep, leftOf, emitted, tableAfter, outputAfter}
+use Rattle.deciding.specs.Deciding.{decideNumber, stays, changes, decideOf, effectOn, askRetain, askStep, leftOf, emitted, tableResent, outputResent}
 
 -- the decision on what the search found is the one on the table
 pub searched : (a : Ask) (table : List Retained) (t s : Seek) (e : Effect) → t ≡ begun (a .names) (a .time) (a .delay) (length table)
@@ -88,7 +88,7 @@ module _ (table : List Retained) (place time last number : ℕ) where
   step-outcome true false r = refl
   step-outcome false d r = refl
 
-  step-stored : (b d r : Bool) → tableAfter (theStep b d r) table ≡ cond (b && d) (set table place (cond r freedRecord (sentRecord time f))) table
+  step-stored : (b d r : Bool) → tableResent (theStep b d r) table ≡ cond (b && d) (set table place (cond r freedRecord (sentRecord time f))) table
   unfolding leftOf
   step-stored true true true = refl
   step-stored true true false = refl
@@ -101,7 +101,7 @@ module _ (table : List Retained) (place time last number : ℕ) where
 
   step-emitted : (b d r : Bool) (output : List ℕ) → (d ≡ true → ltb place (length table) ≡ true)
       → (b ≡ true → d ≡ true → r ≡ false → length (pduOf f) ≤ length output)
-      → outputAfter (theStep b d r) table output ≡ cond (eqb (theStep b d r .outcome .deed) sent) (over (pduOf f) output) output
+      → outputResent (theStep b d r) table output ≡ cond (eqb (theStep b d r .outcome .deed) sent) (over (pduOf f) output) output
   unfolding emitted
   step-emitted true true true output g h = unless (ltb place (length table)) output
   step-emitted true true false output g h = simp (g refl) (placed-start (pduOf f) output (h refl refl refl))
@@ -147,7 +147,7 @@ module _ (table : List Retained) (last time delay tries room : ℕ) where
   unfolding step
   step-told = step-outcome table place time last number b d r
 
-  step-left : tableAfter its table ≡ tableStepped table last time delay tries room
+  step-left : tableResent its table ≡ tableStepped table last time delay tries room
   unfolding tableStepped
   step-left = step-stored table place time last number b d r
 
@@ -155,7 +155,7 @@ module _ (table : List Retained) (last time delay tries : ℕ) (output : List �
   abbrev it : Effect
   it = its table last time delay tries (length output)
 
-  step-shown : outputAfter it table output ≡ outputStepped table last time delay tries output
+  step-shown : outputResent it table output ≡ outputStepped table last time delay tries output
   unfolding outputStepped stepNumber
   step-shown =
       let n = length output in
@@ -166,13 +166,13 @@ module _ (table : List Retained) (last time delay tries : ℕ) (output : List �
       ∙ ap (λ (x : Outcome). cond (eqb (x .deed) sent) (over (pduOf (recordAt table p)) output) output) (step-told table last time delay tries n)
 
   pub step-tied : (a : Ask) (e : Effect) (after : List Retained) (shown : List ℕ) → a ≡ askStep last time delay tries (length output)
-      → e ≡ effectOn a table → (after ≡ tableAfter e table) × (shown ≡ outputAfter e table output)
+      → e ≡ effectOn a table → (after ≡ tableResent e table) × (shown ≡ outputResent e table output)
       → (e .outcome ≡ step table last time delay tries (length output)) × (after ≡ tableStepped table last time delay tries (length output))
       × (shown ≡ outputStepped table last time delay tries output)
   step-tied a e after shown p q o = (
     ap (λ (x : Effect). x .outcome) is ∙ step-told table last time delay tries (length output),
-    o .0 ∙ ap (λ (x : Effect). tableAfter x table) is ∙ step-left table last time delay tries (length output),
-    o .1 ∙ ap (λ (x : Effect). outputAfter x table output) is ∙ step-shown,
+    o .0 ∙ ap (λ (x : Effect). tableResent x table) is ∙ step-left table last time delay tries (length output),
+    o .1 ∙ ap (λ (x : Effect). outputResent x table output) is ∙ step-shown,
   )
     where
       is : e ≡ it

@@ -103,8 +103,8 @@ unfoldable pub emitted : Effect → Retained → List ℕ → List ℕ
 emitted e record′ output = cond (eqb (e .outcome .deed) sent) (placed output 0 (pduOf record′)) output
 
 -- the same on a table
-abbrev pub tableAfter : Effect → List Retained → List Retained
-tableAfter e table = set table (e .place) (leftOf e (recordAt table (e .place)))
+abbrev pub tableResent : Effect → List Retained → List Retained
+tableResent e table = set table (e .place) (leftOf e (recordAt table (e .place)))
 
-abbrev pub outputAfter : Effect → List Retained → List ℕ → List ℕ
-outputAfter e table output = cond (ltb (e .place) (length table)) (emitted e (recordAt table (e .place)) output) output
+abbrev pub outputResent : Effect → List Retained → List ℕ → List ℕ
+outputResent e table output = cond (ltb (e .place) (length table)) (emitted e (recordAt table (e .place)) output) output

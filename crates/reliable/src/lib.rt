@@ -8,7 +8,7 @@ ghost use Prim.Native.Nat.{_<_};
 ghost use lib.ListN.{length, getD, set};
 ghost use Rattle.retained.specs.Records.{freedRecord};
 ghost use Rattle.retained.specs.Searching.{scanOf};
-ghost use Rattle.deciding.specs.Deciding.{effectOn, tableAfter, outputAfter};
+ghost use Rattle.deciding.specs.Deciding.{effectOn, tableResent, outputResent};
 
 fn get(recs: &[Retained], i: usize) -> Retained
     requires { ⌜ i < length (now recs) ⌝ }
@@ -48,8 +48,8 @@ pub fn lay(recs: &mut [Retained], i: usize, r: Retained)
 
 // Sends the record at a step's place again, at the start of the output, or drops it; nothing where there is no such place. Document 02, W-210.
 pub fn resend(recs: &mut [Retained], e: Effect, output: &mut [u8])
-    ensures { λ _. ⌜ (now (recs .exit) ≡ tableAfter e (now (recs .entry)))
-        × (now (output .exit) ≡ outputAfter e (now (recs .entry)) (now (output .entry))) ⌝ }
+    ensures { λ _. ⌜ (now (recs .exit) ≡ tableResent e (now (recs .entry)))
+        × (now (output .exit) ≡ outputResent e (now (recs .entry)) (now (output .entry))) ⌝ }
 {
     if e.place < recs.len() {
         let r = recs[e.place];

@@ -17,8 +17,13 @@ use Rattle.batch.specs.Walk.{batchLimit, isDone, Steps}
 use Rattle.batch.proofs.Stepping.{too-long, ended-before, no-bytes-left, answered, within-batch}
 use Rattle.hearing.specs.Hearing.{noEdition}
 use Rattle.seasons.specs.Choosing.{SeasonNode}
-use Rattle.seasons.specs.Under.{SeasonHears, SeasonSteps}
+use Rattle.seasons.specs.Under.{SeasonHears, seasonStepUnder, seasonStepOutputUnder}
 use Rattle.seasons.proofs.Standing.{standIn, answers-as, leaves-as, steps-as, step-leaves-as}
+
+-- what a step answers and leaves
+abbrev pub SeasonSteps : ℕ → SeasonNode → List ℕ → Cursor → List ℕ → Stepped → List ℕ → Type 0
+SeasonSteps edition node batch cursor output stepped left =
+    (stepped ≡ seasonStepUnder edition node (length output) batch cursor) × (left ≡ seasonStepOutputUnder edition node batch cursor output)
 
 module _ (edition : ℕ) (node : SeasonNode) (batch output : List ℕ) (cursor : Cursor) where
   steps-known : (stepped : Stepped) (left : List ℕ) → known edition ≡ true → Steps (standIn node) batch cursor output stepped left

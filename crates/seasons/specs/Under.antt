@@ -32,10 +32,6 @@ seasonStepUnder edition node room batch cursor =
 abbrev pub seasonStepOutputUnder : ℕ → SeasonNode → List ℕ → Cursor → List ℕ → List ℕ
 seasonStepOutputUnder edition node batch cursor output = cond (known edition) (seasonStepOutput node batch cursor output) output
 
-abbrev pub SeasonSteps : ℕ → SeasonNode → List ℕ → Cursor → List ℕ → Stepped → List ℕ → Type 0
-SeasonSteps edition node batch cursor output stepped left =
-    (stepped ≡ seasonStepUnder edition node (length output) batch cursor) × (left ≡ seasonStepOutputUnder edition node batch cursor output)
-
 -- a whole walk
 abbrev pub seasonWalkUnder : ℕ → SeasonNode → ℕ → List ℕ → Walk
 seasonWalkUnder edition node room batch =

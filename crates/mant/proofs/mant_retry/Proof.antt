@@ -41,7 +41,7 @@ use denote.Triple.Table.{entered, cited}
 use denote.Triple.Clauses.{ensured, lasts}
 use denote.Triple.Walked.{says, Stays, gave-slice, stay-none, walkOf, Walks, ends-at, walked, goes-gave-slice, goes-none, walk-meets}
 use Rattle.retained.specs.Table.{step as stepOf, tableStepped, outputStepped}
-use Rattle.deciding.specs.Deciding.{effectOn, askStep, tableAfter, outputAfter}
+use Rattle.deciding.specs.Deciding.{effectOn, askStep, tableResent, outputResent}
 use Rattle.retained.specs.declared.Retained.{Retained}
 use Rattle.deciding.specs.declared.Ask.{Ask}
 use Rattle.deciding.specs.declared.Effect.{Effect}
@@ -218,7 +218,7 @@ module _ {M : Type 1} (𝓤 : URA M) (H : Heap 𝓤) (A : Atoms 𝓤) (W : Given
       move ! (2 ∷ 0 ∷ []) $ fjoin ! $ move ! (1 ∷ 0 ∷ []) $ join ! $ frame ! $ done !
 
   abbrev Resent : Effect → List Retained → List ℕ → Type 0
-  Resent e zs ws = (zs ≡ tableAfter e ys) × (ws ≡ outputAfter e ys bs)
+  Resent e zs ws = (zs ≡ tableResent e ys) × (ws ≡ outputResent e ys bs)
 
   abbrev Asking : Ask → Type 0
   Asking a = a ≡ askStep last time delay tries (length bs)

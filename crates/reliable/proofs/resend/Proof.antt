@@ -50,7 +50,7 @@ use denote.Exit.{yes}
 use borrow.Author.Needs.{scaled-fits}
 use Rattle.retained.specs.Records.{freedRecord as none}
 use Rattle.retained.specs.declared.Retained.{Retained}
-use Rattle.deciding.specs.Deciding.{leftOf, emitted, tableAfter, outputAfter}
+use Rattle.deciding.specs.Deciding.{leftOf, emitted, tableResent, outputResent}
 use Rattle.deciding.specs.declared.Effect.{Effect}
 use Rattle.retained.proofs.Retained as T
 use Rattle.retained.proofs.Retained.Laws as T′
@@ -165,7 +165,7 @@ module _ {M : Type 1} (𝓤 : URA M) (H : Heap 𝓤) (A : Atoms 𝓤) (W : Given
   Done zs ws Γ = Token′ ∷ ‵ (finally u8 γ′ ws) ∷ ‵ (flft κ q) ∷ ‵ (Obs zs) ∷ ‵ (Bor zs) ∷ Γ
 
   abbrev Resent : List Retained → List ℕ → Type 0
-  Resent zs ws = (zs ≡ tableAfter e ys) × (ws ≡ outputAfter e ys bs)
+  Resent zs ws = (zs ≡ tableResent e ys) × (ws ≡ outputResent e ys bs)
 
   exits : (zs : List Retained) (ws : List ℕ) → IsF e → Resent zs ws → length zs ≡ n → length ws ≡ length bs → Room T.the-row n
       → ent 𝓤 (⋆ 𝓤 H A (Done zs ws [])) (Post vunit)
