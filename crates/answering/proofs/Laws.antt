@@ -1,12 +1,13 @@
 -- Laws that the answer to a delivered PDU is proved by.
 use native.Mathlib.Omega.{arith}
-use mathlib.Core.Path.{_≡_, refl, sym, _∙_, ap, subst}
+use mathlib.Core.Path.{_≡_, sym, _∙_, ap, subst}
 use Prim.Native.Nat.{ℕ, _+_, _<_, _≤_}
 use mathlib.Core.Bool.{Bool, true, false, not, cond, _&&_}
 use mathlib.Core.List.{List}
 use lib.Dec.{eqb, leb, ltb}
 use borrow.Author.Tests.{leb-true, le-leb, lt-leb, lt-ltb, le-ltb, eq-eqb, ne-eqb}
 use Rattle.octets.specs.Numbers.{_gives_, _orElse_}
+use Rattle.octets.proofs.Tests.{both}
 use Rattle.pdu.specs.declared.Header.{Header}
 use Rattle.pdu.specs.Header.{headerOf}
 use Rattle.pdu.specs.Sizes.{pduLength}
@@ -18,10 +19,6 @@ use Rattle.retained.specs.Records.{namesOf}
 use Rattle.retained.specs.Table.{did}
 use Rattle.answering.specs.Delivered.{isAnswered, ackHeader, answered}
 use Rattle.answering.specs.Responding.{earlyNumber, lateNumber, responds, response, responded}
-
-both : (a b : Bool) → (a && b) ≡ true → (a ≡ true) × (b ≡ true)
-both true b h = (refl, h)
-both false b h = let z : true ≡ false = sym h in (sym z, cc)
 
 module _ (sending : Sending) where
   pub early-10 : (due : Bool) → due ≡ true → 7 < sending .«hop_limit» → 10 ≡ earlyNumber due sending

@@ -11,16 +11,12 @@ use lib.Dec.{eqb, ltb}
 use lib.ListN.{length, set, replicate, length-set, length-replicate, getD-replicate}
 use lib.Seq.{getD-set-same, getD-set-other}
 use Rattle.octets.specs.Octets.{at}
+use Rattle.octets.proofs.Tests.{both}
 use Rattle.chains.specs.Chains.{Chain, Shortest, Beyond}
 use Rattle.chains.specs.Lengths.{heard, places, noChain, Tells}
 use Rattle.chains.specs.Rounds.{begun, isTold, noted, afterRound}
 use Rattle.chains.proofs.Steps.{chain-none, chain-is-none, chain-next, chain-last, chain-known}
 use Rattle.chains.proofs.Fewer.{in-places, below-places, shortest-below}
-
-both : (a b : Bool) → (a && b) ≡ true → (a ≡ true) × (b ≡ true)
-both true true e = (refl, refl)
-both true false e = absurd (false≢true e)
-both false b e = absurd (false≢true e)
 
 pub told-is : (lengths : List ℕ) (place value : ℕ) → isTold lengths place value ≡ true → (place < length lengths) × (at lengths place ≡ value)
 unfolding isTold

@@ -8,6 +8,7 @@ use borrow.Author.Tests.{ltb-true}
 use lib.Dec.{ltb}
 use lib.ListN.{length}
 use Rattle.octets.specs.Numbers.{_gives_, _orElse_}
+use Rattle.octets.proofs.Tests.{both}
 use Rattle.pdu.specs.Header.{headerOf}
 use Rattle.pdu.specs.Reading.{readOf}
 use Rattle.pdu.specs.Parts.{addressesAt, inPath, lastOr}
@@ -28,7 +29,7 @@ use Rattle.coverage.specs.Hearing.{Taken, ByNoOther}
 use Rattle.coverage.specs.Delivery.{Planned, Delivered}
 use Rattle.coverage.specs.Cases.{report, reading, repeater, tell, told, answers, next, lineAddresses, lineReceptions, lineAir, lineTold, written}
 use Rattle.coverage.specs.Cases.{twoWays, twoWaysAddresses, longerFirst}
-use Rattle.coverage.proofs.Checked.{absent, distinct, all, all-pass, below, below-pass, happens, both, areTaken, checked}
+use Rattle.coverage.proofs.Checked.{absent, distinct, all, all-pass, below, below-pass, happens, areTaken, checked}
 use Rattle.coverage.proofs.Covered.{by-shortest, reach}
 use Rattle.coverage.proofs.Schedule.{within}
 

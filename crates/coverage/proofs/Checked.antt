@@ -10,6 +10,7 @@ use native.Mathlib.Decide.{ℕ-discrete}
 use borrow.Author.Tests.{eq-eqb, eqb-true, ltb-true}
 use lib.Dec.{eqb, ltb}
 use lib.ListN.{length, getElem?}
+use Rattle.octets.proofs.Tests.{both}
 use Rattle.flood.specs.Air.{Repeater, sends, onTheAir}
 use Rattle.flood.specs.Complete.{Heard}
 use Rattle.flood.specs.Flood.{Reception, flood}
@@ -17,10 +18,6 @@ use Rattle.flood.proofs.Lists.{nodup-more}
 use Rattle.flood.proofs.Runs.{flood-append}
 use Rattle.coverage.specs.Hearing.{InHearing, Taken, ByNoOther}
 use Rattle.coverage.proofs.Schedule.{within, at-within}
-
-pub both : (a b : Bool) → (a && b) ≡ true → (a ≡ true) × (b ≡ true)
-both true b e = (refl, e)
-both false b e = absurd (false≢true e)
 
 one-of : (a b : Bool) → (a || b) ≡ true → a ≡ false → b ≡ true
 one-of true b e f = absurd (false≢true (sym f))

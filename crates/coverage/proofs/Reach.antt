@@ -2,7 +2,7 @@
 -- that is no longer than the hop limit and one. Assumes nothing.
 use mathlib.Core.Path.{_≡_, refl, sym, ap, subst, _∙_}
 use mathlib.Core.Logic.{_≢_, ⊎-elim}
-use mathlib.Core.Bool.{Bool, true, false, _&&_, false≢true}
+use mathlib.Core.Bool.{Bool, true, false}
 use mathlib.Core.Option.{some, Option·some-injective}
 use mathlib.Core.List.{List, [], _∷_, _++_, map, List·Memᴰ, List·Memᴰ·head, List·Memᴰ·not-nil, List·Memᴰ·append-cases, List·Memᴰ·eq-of-singleton}
 use mathlib.Core.List.{Memᴰ·cast, Memᴰ·map, Memᴰ·of-map, Memᴰ·append-right}
@@ -11,6 +11,7 @@ use native.Mathlib.Omega.{arith}
 use borrow.Author.Tests.{eqb-false}
 use lib.ListN.{length, getElem?, length-append}
 use Rattle.octets.proofs.Numbering.{orElse-zero}
+use Rattle.octets.proofs.Tests.{not-both}
 use Rattle.pdu.specs.declared.Destination.the-variants.{Everyone}
 use Rattle.pdu.specs.Header.{headerOf}
 use Rattle.pdu.specs.Parts.{payloadIn, lastOr}
@@ -41,10 +42,6 @@ last-snoc otherwise (x ∷ path) a = last-snoc x path a
 last-none : (otherwise : ℕ) → lastOr otherwise [] ≡ otherwise
 unfolding lastOr
 last-none otherwise = refl
-
-not-both : (echo same : Bool) → (echo && same) ≡ false → echo ≡ true → same ≡ false
-not-both true same e on = e
-not-both false same e on = absurd (false≢true on)
 
 -- a node at the source address of what it received, echo on, delivers nothing
 not-to-originator : (n : Repeater) (received : List ℕ) → n .node .settings .echo ≡ true → sourceOf received ≡ address n

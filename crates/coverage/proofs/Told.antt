@@ -11,6 +11,7 @@ use borrow.Author.Tests.{lt-ltb, le-leb, ltb-true, leb-true}
 use lib.Dec.{ltb, leb}
 use lib.ListN.{length, getElem?, length-map}
 use Rattle.octets.specs.Octets.{at}
+use Rattle.octets.proofs.Tests.{both}
 use Rattle.chains.specs.Chains.{Shortest, Unreached}
 use Rattle.chains.specs.Lengths.{heard, places, noChain, Tells, Found}
 use Rattle.chains.specs.Reach.{isDelivered}
@@ -24,7 +25,6 @@ use Rattle.coverage.specs.Hearing.{Taken, ByNoOther}
 use Rattle.coverage.specs.Delivery.{Planned, Delivered}
 use Rattle.coverage.specs.Reach.{Reach}
 use Rattle.coverage.specs.Told.{Says, Told}
-use Rattle.coverage.proofs.Checked.{both}
 use Rattle.coverage.proofs.Covered.{reach}
 use Rattle.coverage.proofs.Places.{at-place, shortest-at, unreached-at}
 use Rattle.coverage.proofs.Schedule.{at-within}

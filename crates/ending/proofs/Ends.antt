@@ -11,6 +11,7 @@ use lib.ListN.{length, set, length-set}
 use borrow.Author.Tests.{eqb-true, eqb-false, ltb-true, ltb-false, leb-true, not-true, not-false}
 use Rattle.octets.specs.Numbers.{_gives_, _orElse_}
 use Rattle.octets.proofs.Numbering.{orElse-zero, gives-zero}
+use Rattle.octets.proofs.Tests.{both}
 use Rattle.retained.specs.declared.Names.{Names}
 use Rattle.retained.specs.declared.Retained.{Retained}
 use Rattle.retained.specs.declared.Outcome.{Outcome}
@@ -25,7 +26,7 @@ use Rattle.ending.specs.History.{Fate, NotYet, Waiting, Lost, Arrived, i
 use Rattle.ending.specs.History.{World, watch, next, history, start, unborn}
 use Rattle.ending.specs.Ending.{FreeTable, Ended, Statement}
 use Rattle.ending.proofs.First.{by-cases, has-hit, has-none, has-at, has-nowhere}
-use Rattle.ending.proofs.Facts.{both, names-eq, named-is, named-used, free-is, other-name, freed-free, sent-named, retained-named, due-used}
+use Rattle.ending.proofs.Facts.{names-eq, named-is, named-used, free-is, other-name, freed-free, sent-named, retained-named, due-used}
 use Rattle.ending.proofs.Holding.{Kept, Status, gone, here, never, quiet, elsewhere, retained, again, removed, kept-at, passes}
 
 abbrev isLost : Fate → Bool

@@ -3,7 +3,7 @@ use native.Mathlib.Omega.{arith}
 use mathlib.Core.Path.{_≡_, refl, sym, _∙_, ap, subst}
 use Prim.Native.Nat.{ℕ, zero, suc, _+_, _<_, _≤_}
 use mathlib.Core.Logic.{_⊎_, inl, inr}
-use mathlib.Core.Bool.{Bool, true, false, not, cond, _&&_}
+use mathlib.Core.Bool.{true, false, not, cond, _&&_}
 use mathlib.Core.List.{List, [], _∷_}
 use lib.Dec.{eqb, leb, ltb}
 use lib.ListN.{length, take, replicate, length-replicate}
@@ -12,14 +12,11 @@ use Rattle.octets.specs.Numbers.{_gives_, _orElse_}
 use Rattle.octets.specs.Octets.{placed, over}
 use Rattle.octets.proofs.Numbering.{orElse-zero, gives-zero}
 use Rattle.octets.proofs.Placing.{placed-start, take-over}
+use Rattle.octets.proofs.Tests.{both}
 use Rattle.pdu.specs.Reading.{readOf, exactlyOne}
 use Rattle.retained.specs.declared.Names.{Names}
 use Rattle.retained.specs.declared.Retained.{Retained}
 use Rattle.retained.specs.Records.{recordLimit, isRetainable, unfit, pduOf, isUsed, namesOf, sameNames, isNamed, isDue, retainedRecord, sentRecord, freedRecord}
-
-pub both : (a b : Bool) → (a && b) ≡ true → (a ≡ true) × (b ≡ true)
-both true b h = (refl, h)
-both false b h = let z : true ≡ false = sym h in (sym z, cc)
 
 pub names-eq : (a b : Names) → sameNames a b ≡ true → a ≡ b
 names-eq a b h =

@@ -11,6 +11,7 @@ use Rattle.octets.specs.Numbers.{flag, _gives_, _orElse_}
 use Rattle.octets.specs.Octets.{AllBytes, wordBytes}
 use Rattle.octets.proofs.Numbering.{orElse-zero, gives-zero}
 use Rattle.octets.proofs.Words.{bytes-none, bytes-more, bytes-joined, bytes-word}
+use Rattle.octets.proofs.Tests.{both}
 use Rattle.origin.proofs.Fresh.{flag-small}
 use Rattle.pdu.specs.declared.Header.{Header}
 use Rattle.pdu.specs.declared.Reading.the-variants.{Pdu}
@@ -26,7 +27,6 @@ use Rattle.retained.specs.declared.Names.{Names}
 use Rattle.retained.specs.Records.{isRetainable, unfit}
 use Rattle.answering.specs.declared.Sending.{Sending}
 use Rattle.answering.specs.Delivered.{ackHeader, acknowledgement}
-use Rattle.ending.proofs.Facts.{both}
 use Rattle.ending.proofs.Exchanged.{formed, ack-reads, ack-shows}
 
 -- what neither 75 nor 72 refuses

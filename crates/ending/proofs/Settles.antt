@@ -10,6 +10,7 @@ use lib.Dec.{eqb, leb, ltb}
 use lib.ListN.{length, set, length-set}
 use borrow.Author.Tests.{eqb-true, eqb-false, eq-eqb, ltb-true, ltb-false, le-ltb, lt-leb, leb-true, leb-false, not-true, not-false}
 use Rattle.octets.specs.Numbers.{_gives_, _orElse_}
+use Rattle.octets.proofs.Tests.{both}
 use Rattle.retained.specs.declared.Names.{Names}
 use Rattle.retained.specs.declared.Retained.{Retained}
 use Rattle.retained.specs.declared.Outcome.{Outcome}
@@ -19,7 +20,7 @@ use Rattle.retained.specs.Table.{stepNumber, step, tableStepped}
 use Rattle.ending.specs.History.{Settings, Operation, Steps, World, answer, noneDue, watch, next, history}
 use Rattle.ending.specs.Ending.{enough, steps, Settling}
 use Rattle.ending.proofs.First.{by-cases, has-hit, has-none, has-nowhere}
-use Rattle.ending.proofs.Facts.{both, freed-free, due-used}
+use Rattle.ending.proofs.Facts.{freed-free, due-used}
 
 free-not-due : (now delay : ℕ) (r : Retained) → isUsed r ≡ false → isDue now delay r ≡ false
 unfolding isDue

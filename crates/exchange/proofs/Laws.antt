@@ -12,6 +12,7 @@ use Rattle.octets.specs.Numbers.{flag}
 use Rattle.octets.specs.Octets.{at}
 use Rattle.octets.specs.Octets.{AllBytes}
 use Rattle.octets.proofs.Numbering.{orElse-zero, gives-zero}
+use Rattle.octets.proofs.Tests.{both}
 use Rattle.pdu.specs.declared.Header.{Header}
 use Rattle.pdu.specs.declared.Reading.the-variants.{Pdu}
 use Rattle.pdu.specs.Header.{isSet, protocol, pathBit, pathCountPlace, headerOf}
@@ -64,16 +65,16 @@ exchange-long : (header payload : List ℕ) → length header ≤ 520 → length
     → (length (element 1024 header ++ element 1025 payload) ≤ 4623) × (length (exchangeBytes header payload) ≤ 4626)
 unfolding exchangeBytes
 exchange-long header payload h p =
-    let both : length (element 1024 header ++ element 1025 payload) ≡ length (element 1024 header) + length (element 1025 payload) = length-append
+    let together : length (element 1024 header ++ element 1025 payload) ≡ length (element 1024 header) + length (element 1025 payload) = length-append
     (element 1024 header) (element 1025 payload) in
     let one = length-element 1024 header in
     let two = length-element 1025 payload in
     let all = length-element 20 (element 1024 header ++ element 1025 payload) in
     let short = written-short 20 (omega arith) in (
-      omega (arith, both, one, two, number-long 1024, number-long 1025, number-long (length header), number-long (length payload)),
+      omega (arith, together, one, two, number-long 1024, number-long 1025, number-long (length header), number-long (length payload)),
       omega (
         arith,
-        both,
+        together,
         one,
         two,
         all,
@@ -86,10 +87,6 @@ exchange-long header payload h p =
         number-long (length (element 1024 header ++ element 1025 payload)),
       ),
     )
-
-and-true : (a b : Bool) → (a && b) ≡ true → (a ≡ true) × (b ≡ true)
-and-true true b e = (refl, e)
-and-true false b e = let z : _≡_ {A = ℕ} 0 1 = cc in absurd (omega arith)
 
 -- a PDU at the start of bytes
 module _ (bytes : List ℕ) (header : Header) (small : AllBytes bytes) (read : readOf bytes ≡ Pdu header) where
@@ -157,25 +154,25 @@ module _ (x : List ℕ) (read : exchangeNumber x ≡ 0) where
   unfolding exchangeNumber
   parts-0 = orElse-zero _ _ (orElse-zero _ _ read .1) .1
 
-  both : (readingNumber (readOf (headerPart x ++ payloadPart x)) ≡ 0) × (isSplit (headerPart x) (payloadPart x) ≡ true)
+  read-split : (readingNumber (readOf (headerPart x ++ payloadPart x)) ≡ 0) × (isSplit (headerPart x) (payloadPart x) ≡ true)
   unfolding joinedNumber
-  both = let two = orElse-zero _ _ parts-0 in (two .0, not-false _ (gives-zero (not (isSplit (headerPart x) (payloadPart x))) 63 (omega arith) (two .1)))
+  read-split = let two = orElse-zero _ _ parts-0 in (two .0, not-false _ (gives-zero (not (isSplit (headerPart x) (payloadPart x))) 63 (omega arith) (two .1)))
 
   pub split-there : headerLength (headerOf (headerPart x ++ payloadPart x)) ≡ length (headerPart x)
   split-there =
       eqb-true _ _
-      (and-true (eqb (headerLength (headerOf (headerPart x ++ payloadPart x))) (length (headerPart x)))
-      (eqb (pduLength (headerOf (headerPart x ++ payloadPart x))) (length (headerPart x ++ payloadPart x))) (both .1) .0)
+      (both (eqb (headerLength (headerOf (headerPart x ++ payloadPart x))) (length (headerPart x)))
+      (eqb (pduLength (headerOf (headerPart x ++ payloadPart x))) (length (headerPart x ++ payloadPart x))) (read-split .1) .0)
 
   pub nothing-after : pduLength (headerOf (headerPart x ++ payloadPart x)) ≡ length (headerPart x ++ payloadPart x)
   nothing-after =
       eqb-true _ _
-      (and-true (eqb (headerLength (headerOf (headerPart x ++ payloadPart x))) (length (headerPart x)))
-      (eqb (pduLength (headerOf (headerPart x ++ payloadPart x))) (length (headerPart x ++ payloadPart x))) (both .1) .1)
+      (both (eqb (headerLength (headerOf (headerPart x ++ payloadPart x))) (length (headerPart x)))
+      (eqb (pduLength (headerOf (headerPart x ++ payloadPart x))) (length (headerPart x ++ payloadPart x))) (read-split .1) .1)
 
   -- it holds a PDU and nothing else
   pub exchange-read : readOf (headerPart x ++ payloadPart x) ≡ Pdu (headerOf (headerPart x ++ payloadPart x))
-  exchange-read = read-0 (headerPart x ++ payloadPart x) (both .0)
+  exchange-read = read-0 (headerPart x ++ payloadPart x) (read-split .0)
 
   -- and written again it is header first, then payload, whatever stood beside them and in whatever order and form
   pub rewritten : encoding (headerPart x ++ payloadPart x) ≡ exchangeBytes (headerPart x) (payloadPart x)
@@ -198,9 +195,9 @@ module _ (x : List ℕ) (read : exchangeNumber x ≡ 0) where
   tests : (typeAt x 0 ≡ 20) × (elementEnd x 0 ≡ length x) × (length (held 1024 x) ≡ 1) × (length (held 1025 x) ≡ 1)
   unfolding isExchange
   tests =
-      let c = and-true (eqb (typeAt x 0) 20 && eqb (elementEnd x 0) (length x) && eqb (length (held 1024 x)) 1) (eqb (length (held 1025 x)) 1) shape in
-      let b = and-true (eqb (typeAt x 0) 20 && eqb (elementEnd x 0) (length x)) (eqb (length (held 1024 x)) 1) (c .0) in
-      let a = and-true (eqb (typeAt x 0) 20) (eqb (elementEnd x 0) (length x)) (b .0) in
+      let c = both (eqb (typeAt x 0) 20 && eqb (elementEnd x 0) (length x) && eqb (length (held 1024 x)) 1) (eqb (length (held 1025 x)) 1) shape in
+      let b = both (eqb (typeAt x 0) 20 && eqb (elementEnd x 0) (length x)) (eqb (length (held 1024 x)) 1) (c .0) in
+      let a = both (eqb (typeAt x 0) 20) (eqb (elementEnd x 0) (length x)) (b .0) in
       (eqb-true _ _ (a .0), eqb-true _ _ (a .1), eqb-true _ _ (b .1), eqb-true _ _ (c .1))
 
   inside-sound : firstOf (elementFault 3 x (elementEnd x 0)) (elementsIn x (valuePlace x 0) (elementEnd x 0)) ≡ 0

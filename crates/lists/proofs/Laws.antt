@@ -12,6 +12,7 @@ use lib.ListN.{length, getD, drop, drop-of-length-le, length-drop}
 use lib.Seq.{drop-cons}
 use Rattle.octets.specs.Numbers.{_gives_, _orElse_}
 use Rattle.octets.proofs.Numbering.{orElse-zero, gives-here, gives-later}
+use Rattle.octets.proofs.Tests.{both}
 use Rattle.lists.specs.Lists.{lowAboveHigh, faultOf, firstFault, holds}
 
 -- What is left to look at from a place on.
@@ -126,10 +127,6 @@ pub record InRange (list : List ℕ) (address : ℕ) : Type 0 where
 either : (a b : Bool) → (a || b) ≡ true → (a ≡ true) ⊎ (b ≡ true)
 either true b e = inl refl
 either false b e = inr e
-
-both : (a b : Bool) → (a && b) ≡ true → (a ≡ true) × (b ≡ true)
-both true b e = (refl, e)
-both false b e = absurd (false≢true e)
 
 next-low : (range : ℕ) → 2 * suc range ≡ suc (suc (2 * range))
 next-low range = omega arith

@@ -1,12 +1,13 @@
 -- What C sees of a node's answer, from what the node answers with the settings that C gave.
 use Prim.Native.Nat.{ℕ, _+_, _-_, _≤_, _<_}
 use native.Mathlib.Omega.{arith}
-use mathlib.Core.Bool.{Bool, true, false, _&&_, false≢true}
+use mathlib.Core.Bool.{true, false, _&&_}
 use mathlib.Core.List.{List}
 use mathlib.Core.Path.{_≡_, refl, ap, _∙_}
 use lib.Dec.{eqb}
 use lib.ListN.{length, drop}
 use borrow.Author.Tests.{ltb-true, ltb-false}
+use Rattle.octets.proofs.Tests.{both}
 use Rattle.editions.specs.Editions.{known}
 use Rattle.pdu.specs.declared.Sender.{Sender}
 use Rattle.pdu.specs.declared.Sender.the-variants.{Unknown, Known}
@@ -23,10 +24,6 @@ use Rattle.boundary.specs.declared.MantNode.{MantNode}
 use Rattle.boundary.specs.declared.MantAnswer.{MantAnswer}
 use Rattle.boundary.specs.declared.MantStep.{MantStep}
 use Rattle.boundary.specs.Boundary.{hasSender, senderAddress, senderFromC, nodeFromC, answerInC, answerFromC, HearsInC, ListensInC, stepInC, StepsInC}
-
-both-true : (a b : Bool) → (a && b) ≡ true → (a ≡ true) × (b ≡ true)
-both-true true b e = (refl, e)
-both-true false b e = absurd (false≢true e)
 
 module _ (edition : ℕ) (given : MantNode) (settings : SeasonSettings) (is : settings ≡ nodeFromC given) (lists : EightLists) where
   pub heard-in-c : (received output left : List ℕ) (answer : Answer) (told : MantAnswer)
@@ -47,8 +44,8 @@ module _ (edition : ℕ) (node : SeasonNode) (batch output : List ℕ) (cursor :
   pub refused-in-c : (told : MantStep) → (known edition && isTooLong batch) ≡ true → told ≡ stepInC cursor TooLong
       → StepsInC edition node batch cursor output told output
   refused-in-c told long e =
-      let both = both-true (known edition) (isTooLong batch) long in
-      let went = refused edition node batch output cursor (both .0) (ltb-true batchLimit (length batch) (both .1)) in
+      let (is-known, is-long) = both (known edition) (isTooLong batch) long in
+      let went = refused edition node batch output cursor is-known (ltb-true batchLimit (length batch) is-long) in
       (e ∙ ap (stepInC cursor) (went .0), went .1)
 
   module _ (fits : (known edition && isTooLong batch) ≡ false) where

@@ -10,6 +10,7 @@ use lib.ListN.{take, drop}
 use borrow.Author.Tests.{eq-eqb, ne-eqb, eqb-false, le-ltb, ltb-false}
 use Rattle.octets.specs.Octets.{AllBytes}
 use Rattle.octets.proofs.Numbering.{orElse-zero, gives-zero, gives-none, orElse-first, orElse-later}
+use Rattle.octets.proofs.Tests.{not-both}
 use Rattle.pdu.specs.declared.Header.{Header}
 use Rattle.pdu.specs.declared.Reading.{Reading}
 use Rattle.pdu.specs.declared.Reading.the-variants.{Pdu, Refused}
@@ -69,10 +70,6 @@ not-echo : (echo bit found : Bool) → (echo && (bit && found)) ≡ false → ec
 not-echo true true found e on has = e
 not-echo true false found e on has = let z : _≡_ {A = ℕ} 0 1 = cc in absurd (omega arith)
 not-echo false bit found e on has = let z : _≡_ {A = ℕ} 0 1 = cc in absurd (omega arith)
-
-not-both : (echo same : Bool) → (echo && same) ≡ false → echo ≡ true → same ≡ false
-not-both true same e on = e
-not-both false same e on = let z : _≡_ {A = ℕ} 0 1 = cc in absurd (omega arith)
 
 all-true : (echo bit found : Bool) → echo ≡ true → bit ≡ true → found ≡ true → (echo && (bit && found)) ≡ true
 all-true echo bit found e1 e2 e3 = rw (e1, e2, e3)

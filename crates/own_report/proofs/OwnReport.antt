@@ -9,6 +9,7 @@ use lib.ListN.{length}
 use borrow.Author.Tests.{eq-eqb, ne-eqb, eqb-true}
 use Rattle.octets.specs.Numbers.{_gives_, _orElse_}
 use Rattle.octets.proofs.Numbering.{gives-here, gives-later, gives-none}
+use Rattle.octets.proofs.Tests.{both}
 use Rattle.pdu.specs.Header.{headerOf}
 use Rattle.pdu.specs.Sizes.{pduLength}
 use Rattle.pdu.specs.Reading.{readOf}
@@ -33,10 +34,6 @@ use Rattle.flood.proofs.Examples as examples
 use Rattle.flood.proofs.Others as others-law
 use Rattle.flood.proofs.Sent.{originator-silent}
 use Rattle.own_report.specs.OwnReport.{OwnReport, report, two}
-
-both : (echo same : Bool) → (echo && same) ≡ true → (echo ≡ true) × (same ≡ true)
-both true same e = (refl, e)
-both false same e = let z : _≡_ {A = ℕ} 0 1 = cc in absurd (omega arith)
 
 no-second : (echo : Bool) → (echo && false) ≡ false
 no-second true = refl

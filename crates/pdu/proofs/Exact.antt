@@ -1,7 +1,7 @@
 -- Reading looks no further than the PDU's end: what follows it changes nothing, of its header, path and payload.
 use Prim.Native.Nat.{ℕ, zero, suc, _+_, _*_, _<_, _≤_}
 use native.Mathlib.Omega.{arith}
-use mathlib.Core.Bool.{Bool, true, false, cond, _&&_}
+use mathlib.Core.Bool.{Bool, true, false, cond}
 use mathlib.Core.List.{List, _∷_, _++_}
 use mathlib.Core.Path.{_≡_, refl, ap, sym, _∙_}
 use lib.Dec.{eqb}
@@ -10,6 +10,7 @@ use lib.Seq.{length-take-le, take-add, take-at, take-length, drop-at, getD-take}
 use borrow.Author.Tests.{eq-eqb, eqb-true}
 use Rattle.octets.specs.Numbers.{flag}
 use Rattle.octets.specs.Octets.{at, wordAt}
+use Rattle.octets.proofs.Tests.{both}
 use Rattle.pdu.specs.declared.Destination.the-variants.{Everyone, Address}
 use Rattle.pdu.specs.declared.Header.{Header}
 use Rattle.pdu.specs.declared.Reading.the-variants.{Pdu}
@@ -123,10 +124,6 @@ module _ (bytes : List ℕ) (header : Header) (read : readOf bytes ≡ Pdu heade
 pub record Exact (bytes : List ℕ) : Type 0 where
   pub reads : readOf bytes ≡ Pdu (headerOf bytes)
   pub alone : length bytes ≡ pduLength (headerOf bytes)
-
-both : (a b : Bool) → (a && b) ≡ true → (a ≡ true) × (b ≡ true)
-both true b e = (refl, e)
-both false b e = let z : _≡_ {A = ℕ} 0 1 = cc in absurd (omega arith)
 
 pub exact : (bytes : List ℕ) → exactlyOne bytes ≡ true → Exact bytes
 unfolding exactlyOne

@@ -1,7 +1,7 @@
 -- What sealing and opening leave where they answer 0, and what `genuine` says of the hash.
 use Prim.Native.Nat.{ℕ, zero, suc, _+_, _-_, _≤_, _<_}
 use native.Mathlib.Omega.{arith}
-use mathlib.Core.Bool.{Bool, true, false, _&&_}
+use mathlib.Core.Bool.{true, _&&_}
 use mathlib.Core.List.{List, _++_}
 use mathlib.Core.Path.{_≡_, refl, ap, sym, _∙_}
 use lib.Dec.{eqb}
@@ -10,6 +10,7 @@ use lib.Seq.{ext-getD, length-take-le}
 use borrow.Author.Tests.{eqb-true}
 use Rattle.octets.specs.Octets.{at, over}
 use Rattle.octets.proofs.Numbering.{orElse-zero}
+use Rattle.octets.proofs.Tests.{both}
 use Rattle.counter.specs.Counter.{counterMode}
 use Rattle.pdu.specs.declared.Header.{Header}
 use Rattle.pdu.specs.declared.Reading.the-variants.{Pdu}
@@ -30,10 +31,6 @@ use Rattle.opening.proofs.Deciding.{is-sealed}
 use Rattle.protection.proofs.RoundTrip.{same-self}
 
 -- four bytes that are the same one by one
-both : (a b : Bool) → (a && b) ≡ true → (a ≡ true) × (b ≡ true)
-both true b e = (refl, e)
-both false b e = let z : _≡_ {A = ℕ} 0 1 = cc in absurd (omega arith)
-
 four-same : (x y : List ℕ) → length x ≡ 4 → length y ≡ 4 → sameFour x y ≡ true → x ≡ y
 four-same x y ex ey e =
     let t0 = both (eqb (at x 0) (at y 0)) (eqb (at x 1) (at y 1) && (eqb (at x 2) (at y 2) && eqb (at x 3) (at y 3))) e in

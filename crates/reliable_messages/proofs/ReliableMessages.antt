@@ -9,6 +9,7 @@ use lib.ListN.{length, set, drop, length-set}
 use borrow.Author.Tests.{eqb-true, eq-eqb, leb-true, le-leb, not-true}
 use Rattle.octets.specs.Numbers.{_gives_, _orElse_}
 use Rattle.octets.specs.Octets.{AllBytes, over, placed}
+use Rattle.octets.proofs.Tests.{both}
 use Rattle.pdu.specs.declared.Destination.{Destination}
 use Rattle.pdu.specs.declared.Destination.the-variants.{Address}
 use Rattle.pdu.specs.declared.Header.{Header}
@@ -37,7 +38,7 @@ use Rattle.answering.specs.Delivered.{isAnswered, isAcknowledgement, ackHeader,
 use Rattle.answering.specs.Delivered.{acknowledgeNumber, acknowledge, tableAcknowledged, outputAcknowledged}
 use Rattle.ending.specs.First.{FirstAt, Nowhere}
 use Rattle.ending.specs.History.{Retains, Hears, Steps, Waiting, Lost, Arrived, watch, next, history, start}
-use Rattle.ending.proofs.Facts.{both, names-eq, named-is, named-used, freed-free, is-due, retained-pdu}
+use Rattle.ending.proofs.Facts.{names-eq, named-is, named-used, freed-free, is-due, retained-pdu}
 use Rattle.ending.proofs.Lowest.{first-or-none}
 use Rattle.ending.proofs.Retaining.{retain-74, retain-73, retain-75, retain-72, retain-71, retain-70, retain-kept, is-fit}
 use Rattle.ending.proofs.Stepping.{step-74, step-73, step-none, step-dropped, step-77, step-sent}

@@ -11,6 +11,7 @@ use borrow.Author.Tests.{eqb-true, eqb-false, eq-eqb, ne-eqb, leb-true, le-leb, 
 use Rattle.octets.specs.Numbers.{flag, _gives_, _orElse_}
 use Rattle.octets.specs.Octets.{at, wordAt}
 use Rattle.octets.proofs.Numbering.{orElse-zero, gives-zero}
+use Rattle.octets.proofs.Tests.{both}
 use Rattle.pdu.specs.declared.Destination.the-variants.{Everyone, Address}
 use Rattle.pdu.specs.Header.{isSet, version, protocol, destinationBit, pathBit, payloadLength, headerOf}
 use Rattle.pdu.specs.Sizes.{destinationFlag, pathEntries, pduLength}
@@ -23,10 +24,6 @@ use Rattle.retained.specs.declared.Seen.{Seen}
 use Rattle.retained.proofs.Laws.{by-path, unfit-0}
 use Rattle.retained.specs.Records.{recordLimit, isFirstSending, isRetainable, unfit, isUsed, pduOf, namesOf, isDue}
 use Rattle.retained.specs.Searching.{notes, seenOf}
-
-both : (a b : Bool) → (a && b) ≡ true → (a ≡ true) × (b ≡ true)
-both true b e = (refl, e)
-both false b e = let z : _≡_ {A = ℕ} 0 1 = cc in absurd (omega arith)
 
 same : (a b : Bool) → (a ≡ true → b ≡ true) → (b ≡ true → a ≡ true) → a ≡ b
 same true b f g = sym (f refl)

@@ -1,13 +1,14 @@
 -- What the table answers by the place that was found.
 use Prim.Native.Nat.{ℕ, _+_, _*_, _≤_, _<_}
 use native.Mathlib.Omega.{arith}
-use mathlib.Core.Bool.{Bool, true, false, _&&_}
+use mathlib.Core.Bool.{Bool, true, false}
 use mathlib.Core.List.{List, []}
-use mathlib.Core.Path.{_≡_, refl, ap, ap₂, sym, _∙_}
+use mathlib.Core.Path.{_≡_, ap, ap₂, sym, _∙_}
 use lib.Dec.{ltb, eqb}
 use lib.ListN.{length, drop}
 use borrow.Author.Tests.{lt-ltb, le-ltb, ltb-true}
 use Rattle.octets.specs.Octets.{at}
+use Rattle.octets.proofs.Tests.{both}
 use Rattle.stations.specs.declared.Station.{Station}
 use Rattle.stations.specs.declared.Found.{Found}
 use Rattle.stations.specs.declared.Sought.{Sought}
@@ -16,14 +17,10 @@ use Rattle.stations.specs.Asking.{sought, foundIf, stationOf, foundAt}
 use Rattle.stations.proofs.Memory.{length-addresses, table-station}
 
 -- a place where an address stands is one of the table's
-and-left : (a b : Bool) → (a && b) ≡ true → a ≡ true
-and-left true b e = refl
-and-left false b e = e
-
 pub stands-inside : (memory : List ℕ) (address place : ℕ) → isAt address (addresses (tableIn memory)) place ≡ true → place < length (tableIn memory)
 stands-inside memory address place e =
     let known = addresses (tableIn memory) in
-    let inside = ltb-true place (length known) (and-left (ltb place (length known)) (eqb (at known place) address) e) in
+    let inside = ltb-true place (length known) (both (ltb place (length known)) (eqb (at known place) address) e .0) in
     omega (arith, inside, length-addresses (tableIn memory))
 
 -- the station of an address, where it stands and where it does not

@@ -10,6 +10,7 @@ use lib.ListN.{length, take, drop}
 use borrow.Author.Tests.{lt-ltb, ltb-false, eqb-true, ne-eqb, not-true}
 use Rattle.octets.specs.Numbers.{_gives_, _orElse_}
 use Rattle.octets.specs.Octets.{AllBytes, at}
+use Rattle.octets.proofs.Tests.{both}
 use Rattle.pdu.specs.declared.Header.{Header}
 use Rattle.pdu.specs.declared.Reading.{Reading}
 use Rattle.pdu.specs.declared.Reading.the-variants as wire
@@ -231,10 +232,6 @@ tests false false false false false false true =
     record { seventeen = λ e. absurd (omega arith); sixteen = λ e. absurd (omega arith); none = λ e. refl }
 tests false false false false false false false =
     record { seventeen = λ e. absurd (omega arith); sixteen = λ e. absurd (omega arith); none = λ e. refl }
-
-both : (a b : Bool) → (a && b) ≡ true → (a ≡ true) × (b ≡ true)
-both true b e = (refl, e)
-both false b e = let z : _≡_ {A = ℕ} 0 1 = cc in absurd (omega arith)
 
 no-bits : (settings : asked.Settings) (long : ℕ) → settings .encrypted ≡ false → bitsOf 11 (freshHeader settings long) ≡ Reserved 0
 unfolding freshHeader
