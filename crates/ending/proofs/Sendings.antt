@@ -11,8 +11,7 @@ use Rattle.octets.specs.Numbers.{flag, _gives_, _orElse_}
 use Rattle.octets.specs.Octets.{AllBytes, wordBytes}
 use Rattle.octets.proofs.Numbering.{orElse-zero, gives-zero}
 use Rattle.octets.proofs.Words.{bytes-none, bytes-more, bytes-joined, bytes-word}
-use Rattle.octets.proofs.Tests.{both}
-use Rattle.origin.proofs.Fresh.{flag-small}
+use Rattle.octets.proofs.Tests.{both, flag-small}
 use Rattle.pdu.specs.declared.Header.{Header}
 use Rattle.pdu.specs.declared.Reading.the-variants.{Pdu}
 use Rattle.pdu.specs.declared.Destination.the-variants.{Address}

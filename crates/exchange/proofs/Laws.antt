@@ -8,11 +8,10 @@ use lib.Dec.{eqb, ltb}
 use lib.ListN.{length, take, drop, length-append, length-drop}
 use lib.Seq.{take-add, length-take-le, take-at, drop-at, take-all}
 use borrow.Author.Tests.{ltb-true, ltb-false, eqb-true, not-false}
-use Rattle.octets.specs.Numbers.{flag}
 use Rattle.octets.specs.Octets.{at}
 use Rattle.octets.specs.Octets.{AllBytes}
 use Rattle.octets.proofs.Numbering.{orElse-zero, gives-zero}
-use Rattle.octets.proofs.Tests.{both}
+use Rattle.octets.proofs.Tests.{both, flag-small}
 use Rattle.pdu.specs.declared.Header.{Header}
 use Rattle.pdu.specs.declared.Reading.the-variants.{Pdu}
 use Rattle.pdu.specs.Header.{isSet, protocol, pathBit, pathCountPlace, headerOf}
@@ -42,10 +41,6 @@ number-long number = go (ltb number 128) refl
     go true e = omega (arith, written-short number (ltb-true number 128 e))
     go false e = omega (arith, written-long number (ltb-false number 128 e))
 
-flag-le : (t : Bool) → flag t ≤ 1
-flag-le true = omega arith
-flag-le false = omega arith
-
 count-le : (t : Bool) (count : ℕ) → count < 256 → cond t count 0 ≤ 255
 count-le true count h = omega arith
 count-le false count h = omega arith
@@ -55,7 +50,7 @@ header-short bytes small =
     omega (
       arith,
       length-shown bytes,
-      flag-le (eqb (protocol (at bytes 0)) 1),
+      flag-small (eqb (protocol (at bytes 0)) 1),
       count-le (isSet (pathBit (at bytes 0)))
           (at bytes (pathCountPlace (at bytes 0))) (small (pathCountPlace (at bytes 0))),
     )

@@ -2,7 +2,7 @@
 use mathlib.Core.Path.{_≡_, refl, ap, sym, _∙_}
 use mathlib.Core.Bool.{Bool, true, false, cond}
 use mathlib.Core.List.{List, [], _∷_, _++_, append-nil}
-use Prim.Native.Nat.{ℕ, _≤_, _<_}
+use Prim.Native.Nat.{ℕ, _<_}
 use native.Mathlib.Omega.{arith}
 use lib.Dec.{eqb}
 use lib.ListN.{length}
@@ -13,17 +13,18 @@ use Rattle.pdu.specs.declared.Destination.the-variants.{Everyone, Address}
 use Rattle.pdu.specs.declared.Header.{Header}
 use Rattle.pdu.specs.declared.Reading.the-variants.{Pdu}
 use Rattle.pdu.specs.Header.{headerOf}
-use Rattle.pdu.specs.Sizes.{destinationFlag, pduLength}
+use Rattle.pdu.specs.Sizes.{pduLength}
 use Rattle.pdu.specs.Reading.{readOf}
 use Rattle.pdu.specs.Parts.{pathIn}
 use Rattle.writing.specs.Writing.{fixedPart, destinationBytes, onlyIf, headerBytes, pathBytes, encode}
 use Rattle.pdu.proofs.Inversion.{shown}
 use Rattle.pdu.proofs.Exact.{is-exact}
+use Rattle.pdu.proofs.Showing.{destination-small}
 use Rattle.octets.proofs.Words.{bytes-none, bytes-more, bytes-joined, bytes-word}
+use Rattle.octets.proofs.Tests.{flag-small}
 use Rattle.origin.specs.declared.Settings.{Settings}
 use Rattle.origin.specs.Origination.{freshHeader, fresh}
 use Rattle.origin.proofs.Deciding.{Accepted, accepted}
-use Rattle.origin.proofs.Fresh.{flag-small}
 use Rattle.origin.proofs.ReadBack.{length-fresh, fresh-back}
 use Rattle.flood.specs.Air.{sourceOf, pathOf, hopOf, Begins, Originated}
 
@@ -40,10 +41,6 @@ bytes-if false byte h = bytes-none
 bytes-destination : (to : Destination) → ((a : ℕ) → to ≡ Address a → a < 65536) → AllBytes (destinationBytes to)
 bytes-destination Everyone h = bytes-none
 bytes-destination (Address a) h = bytes-word a (h a refl)
-
-flag-destination : (to : Destination) → destinationFlag to ≤ 1
-flag-destination Everyone = omega arith
-flag-destination (Address a) = omega arith
 
 either-small : (reliable : Bool) (id : ℕ) → id < 256 → cond reliable id 0 < 256
 either-small true id h = h
@@ -62,7 +59,7 @@ module _ (settings : Settings) (payload : List ℕ) (room : ℕ) (message : Orig
         flag-small (settings .reliable),
         flag-small (settings .«time_stamp_request»),
         flag-small (settings .«with_path»),
-        flag-destination (settings .destination),
+        destination-small (settings .destination),
       ))
       (omega (arith, takes .port, flag-small (settings .encrypted))) (omega (arith, takes .hop, takes .payload-limit)) (omega arith)
       (bytes-word (settings .source) (message .source-fits))

@@ -1,13 +1,12 @@
 -- A fresh PDU: within its bits, and written part by part.
 use Prim.Native.Nat.{ℕ, _+_, _≤_}
 use native.Mathlib.Omega.{arith}
-use mathlib.Core.Bool.{Bool, true, false}
 use mathlib.Core.List.{List, append-nil}
 use mathlib.Core.Path.{_≡_, refl}
 use lib.ListN.{length}
-use Rattle.octets.specs.Numbers.{flag}
 use Rattle.octets.specs.Octets.{over, placed}
 use Rattle.octets.proofs.Placing.{more}
+use Rattle.octets.proofs.Tests.{flag-small}
 use Rattle.pdu.specs.declared.Header.{Header}
 use Rattle.pdu.specs.declared.Written.{Written}
 use Rattle.pdu.specs.Sizes.{pathStart, pduLength}
@@ -17,10 +16,6 @@ use Rattle.writing.proofs.Within.{all-within}
 use Rattle.origin.specs.declared.Settings.{Settings}
 use Rattle.origin.specs.Origination.{settingsFault, freshHeader, fresh, originated, originatedOutput}
 use Rattle.origin.proofs.Deciding.{enough, Accepted, accepted, not-refused, done}
-
-pub flag-small : (bit : Bool) → flag bit ≤ 1
-flag-small true = omega arith
-flag-small false = omega arith
 
 module _ {settings : Settings} {payload : List ℕ} {room : ℕ} (a : Accepted settings payload room) where
   pub fresh-within : fieldFault (freshHeader settings (length payload)) ≡ 0

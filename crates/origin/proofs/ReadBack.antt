@@ -7,6 +7,7 @@ use mathlib.Core.Path.{_≡_, refl, sym, _∙_}
 use lib.ListN.{length, drop}
 use Rattle.octets.specs.Numbers.{flag}
 use Rattle.octets.specs.Octets.{over}
+use Rattle.octets.proofs.Tests.{flag-small}
 use Rattle.pdu.specs.declared.Header.{Header}
 use Rattle.pdu.specs.declared.Reading.the-variants.{Pdu}
 use Rattle.pdu.specs.declared.Sender.the-variants.{Known}
@@ -19,7 +20,6 @@ use Rattle.writing.proofs.Back.{length-encode, read-encode, path-encode, payloa
 use Rattle.origin.specs.declared.Settings.{Settings}
 use Rattle.origin.specs.Origination.{freshHeader, fresh, originationNumber, originatedOutput}
 use Rattle.origin.proofs.Deciding.{Accepted, accepted}
-use Rattle.origin.proofs.Fresh.{flag-small}
 
 flag-addressed : (reliable : Bool) (present : ℕ) → (reliable ≡ true → present ≡ 1) → flag reliable ≤ present
 flag-addressed true present h = omega (arith, h refl)

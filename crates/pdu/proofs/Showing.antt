@@ -1,5 +1,5 @@
 -- The header that bytes show, from fields found one by one, and its length by its bytes.
-use Prim.Native.Nat.{ℕ, zero, suc, _+_, _*_, _<_}
+use Prim.Native.Nat.{ℕ, zero, suc, _+_, _*_, _<_, _≤_}
 use native.Mathlib.Omega.{arith}
 use mathlib.Core.Bool.{Bool, true, false, cond}
 use mathlib.Core.List.{List}
@@ -47,6 +47,10 @@ pub destination-flag : (bit address : ℕ) → bit < 2 → destinationFlag (cond
 destination-flag zero address h = refl
 destination-flag (suc zero) address h = refl
 destination-flag (suc (suc n)) address h = absurd (omega arith)
+
+pub destination-small : (destination : Destination) → destinationFlag destination ≤ 1
+destination-small Everyone = omega arith
+destination-small (Address address) = omega arith
 
 entries-twice : (bit count : ℕ) → cond (isSet bit) (cond (isSet bit) count 0) 0 ≡ cond (isSet bit) count 0
 entries-twice bit count = go (isSet bit)

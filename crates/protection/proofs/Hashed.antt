@@ -1,7 +1,6 @@
 -- The bytes of a header that enter the hash, by its fields: neither the hop limit nor the path count is among them.
 use Prim.Native.Nat.{ℕ, _+_, _-_, _*_, _/_, _%_, _≤_, _<_}
 use native.Mathlib.Omega.{arith}
-use mathlib.Core.Bool.{Bool, true, false}
 use mathlib.Core.List.{List, [], _∷_, _++_, append-assoc}
 use mathlib.Core.Path.{_≡_, refl, ap, ap₂, sym, _∙_}
 use lib.Dec.{eqb}
@@ -9,6 +8,7 @@ use lib.ListN.{length, take, drop, length-append, take-append-drop}
 use lib.Seq.{take-at}
 use Rattle.octets.specs.Numbers.{flag}
 use Rattle.octets.specs.Octets.{at, AllBytes, wordBytes}
+use Rattle.octets.proofs.Tests.{flag-small}
 use Rattle.pdu.specs.declared.Header.{Header}
 use Rattle.pdu.specs.declared.Reading.the-variants.{Pdu}
 use Rattle.pdu.specs.Header.{hopLimit, sourcePlace, pathCountPlace}
@@ -36,10 +36,6 @@ hashedFields header =
     ∷ (header .«payload_length» % 256)
     ∷ (wordBytes (header .source) ++ optional header)
 
-flag-le : (bit : Bool) → flag bit ≤ 1
-flag-le true = omega arith
-flag-le false = omega arith
-
 masked-is : (top hop low : ℕ) → top ≤ 1 → hop < 8 → low < 16 → maskedByte (top * 128 + hop * 16 + low) ≡ top * 128 + low
 masked-is top hop low t h l =
     let is : hopLimit (top * 128 + hop * 16 + low) ≡ hop = omega arith in
@@ -61,7 +57,7 @@ fields-hashed header known hop short =
       length-destination (header .destination),
       length-onlyIf (eqb (header .protocol) 1) (header .«pdu_id»),
     ) in
-    let masked = masked-is (flag (header .«added_header»)) (header .«hop_limit») (header .«payload_length» / 256) (flag-le (header .«added_header»)) hop
+    let masked = masked-is (flag (header .«added_header»)) (header .«hop_limit») (header .«payload_length» / 256) (flag-small (header .«added_header»)) hop
     (omega arith) in
     rw (masked, take-at fields count (place - sourcePlace) size)
 

@@ -11,6 +11,7 @@ use Rattle.octets.specs.Numbers.{flag}
 use Rattle.octets.proofs.Numbering.{orElse-zero}
 use Rattle.octets.specs.Octets.{AllBytes}
 use Rattle.octets.proofs.Words.{bytes-take, bytes-drop}
+use Rattle.octets.proofs.Tests.{flag-small}
 use Rattle.pdu.specs.declared.Sender.{Sender}
 use Rattle.pdu.specs.declared.Sender.the-variants.{Unknown, Known}
 use Rattle.pdu.specs.Header.{headerOf}
@@ -60,10 +61,6 @@ with-last : (lines : List (List ℕ)) (last : List ℕ) → characters (lines ++
 unfolding flatten
 with-last [] last = omega (arith, one-more last [], none)
 with-last (line ∷ later) last = one-more line (later ++ (last ∷ [])) ∙ omega (arith, with-last later last, one-more line later)
-
-flag-within : (bit : Bool) → flag bit ≤ 1
-flag-within true = omega arith
-flag-within false = omega arith
 
 -- no number of a PDU's answer is above 42
 fault-within : (list : List ℕ) → faultOf list ≤ 42
@@ -152,7 +149,7 @@ module _ (node : Node) (batch : List ℕ) (bytes : AllBytes batch) (number offse
       let one : repeatedOrNone node received ≡ repeated (node .settings .own) received = rw e in
       let long = ap length one ∙ length-repeated received [] (node .settings .own) (r .header) (s .is) (s .ends) ∙ ap repeatedLength (s .is) in
       let hex = shown-within (repeatedOrNone node received) (repeatedLength (headerOf received)) (omega (arith, long)) (omega arith) in
-      omega (arith, line-within, hex, length-decimal 0 repeatOf (omega arith), sender-read read, flag-within (headerOf received .«path_bit»))
+      omega (arith, line-within, hex, length-decimal 0 repeatOf (omega arith), sender-read read, flag-small (headerOf received .«path_bit»))
 
   -- of a PDU that was read: 6 characters a byte
   line-of-read : listOrReadingFault node received ≡ 0
@@ -164,7 +161,7 @@ module _ (node : Node) (batch : List ℕ) (bytes : AllBytes batch) (number offse
 
       go : (yes : Bool) → eqb repeatOf 0 ≡ yes → length (lineAt node batch number offset) ≤ 6 * taken node received
       go true e = omega (arith, line-repeated z e, size)
-      go false e = omega (arith, line-not-repeated e, sender-read z, flag-within (headerOf received .«path_bit»), size)
+      go false e = omega (arith, line-not-repeated e, sender-read z, flag-small (headerOf received .«path_bit»), size)
 
   line-of-fault : (listOrReadingFault node received ≡ 0 → ⊥) → length (lineAt node batch number offset) ≤ 21
   unfolding repeatNumber stopFault

@@ -2,7 +2,7 @@
 use Prim.Native.Nat.{ℕ, _+_, _-_, _*_, _/_, _%_, _≤_, _<_}
 use native.Mathlib.Omega.{arith}
 use native.Mathlib.Nat.{mod-eq-of-lt}
-use mathlib.Core.Bool.{Bool, true, false, cond}
+use mathlib.Core.Bool.{cond}
 use mathlib.Core.List.{List, [], _∷_, _++_, append-assoc}
 use mathlib.Core.Path.{_≡_, refl, ap, ap₂, sym, _∙_}
 use lib.Dec.{eqb}
@@ -12,13 +12,12 @@ use borrow.Rule.Slice.PartMut.{putMid}
 use Rattle.octets.specs.Numbers.{flag}
 use Rattle.octets.specs.Octets.{at, AllBytes, over, placed, placeAfter}
 use Rattle.octets.proofs.Placing.{Begins, more, length-over}
+use Rattle.octets.proofs.Tests.{flag-small}
 use Rattle.aes.specs.Cipher.{keyExpansion}
 use Rattle.counter.specs.Counter.{stream, added, counterMode}
 use Rattle.counter.proofs.Streams.{length-added}
 use Rattle.sha1.specs.Sha1.{sha1}
 use Rattle.sha1.proofs.Feeding.{twenty}
-use Rattle.pdu.specs.declared.Destination.{Destination}
-use Rattle.pdu.specs.declared.Destination.the-variants.{Everyone, Address}
 use Rattle.pdu.specs.declared.Header.{Header}
 use Rattle.pdu.specs.declared.Reading.the-variants.{Pdu}
 use Rattle.pdu.specs.declared.Written.{Written}
@@ -27,6 +26,7 @@ use Rattle.pdu.specs.Sizes.{destinationFlag, pathEntries, pathStart, headerLeng
 use Rattle.pdu.specs.Reading.{readOf}
 use Rattle.pdu.specs.Parts.{pathIn, payloadIn}
 use Rattle.pdu.proofs.Inversion.{shown}
+use Rattle.pdu.proofs.Showing.{destination-small}
 use Rattle.writing.specs.Writing.{headerBytes, pathBytes, encode, fieldFault, headerWritten, headerOutput, WellFormed}
 use Rattle.writing.proofs.Encoding.{header-begins, length-header, length-pathIn}
 use Rattle.writing.proofs.Within.{within, all-within, shown-within}
@@ -46,23 +46,15 @@ hashed-before (a ∷ b ∷ c ∷ d ∷ rest) tail h p =
     let short : pathCountPlace a - sourcePlace ≤ length rest = omega arith in
     rw (take-append-le (pathCountPlace a - sourcePlace) rest tail short)
 
-flag-le : (bit : Bool) → flag bit ≤ 1
-flag-le true = omega arith
-flag-le false = omega arith
-
-destination-le : (destination : Destination) → destinationFlag destination ≤ 1
-destination-le Everyone = omega arith
-destination-le (Address address) = omega arith
-
 -- where the path count stands in a header's bytes
 pub count-place : (header : Header) → header .protocol ≤ 1
     → pathCountPlace (at (headerBytes header) 0) + flag (header .«path_bit») ≡ pathStart header
 unfolding headerBytes
 count-place header known =
     let byte0 = at (headerBytes header) 0 in
-    let stamp = flag-le (header .«time_stamp_request») in
-    let path = flag-le (header .«path_bit») in
-    let destination = destination-le (header .destination) in
+    let stamp = flag-small (header .«time_stamp_request») in
+    let path = flag-small (header .«path_bit») in
+    let destination = destination-small (header .destination) in
     let bit : byte0 % 2 ≡ destinationFlag (header .destination) = omega arith in
     let eighth : byte0 / 8 ≡ header .protocol = omega arith in
     let protocol : byte0 / 8 % 8 ≡ header .protocol = mod-eq-of-lt (omega (arith, eighth)) ∙ eighth in

@@ -11,6 +11,7 @@ use borrow.Author.Tests.{eqb-false}
 use Rattle.octets.specs.Numbers.{flag}
 use Rattle.octets.specs.Octets.{at, wordAt, wordBytes}
 use Rattle.octets.proofs.Words.{word-back}
+use Rattle.octets.proofs.Tests.{flag-small}
 use Rattle.pdu.specs.declared.Destination.{Destination}
 use Rattle.pdu.specs.declared.Destination.the-variants.{Everyone, Address}
 use Rattle.pdu.specs.declared.Header.{Header}
@@ -21,17 +22,10 @@ use Rattle.pdu.specs.Reading.{readOf}
 use Rattle.pdu.specs.Parts.{addressesAt, pathIn, payloadIn}
 use Rattle.writing.specs.Writing.{fixedPart, destinationBytes, onlyIf, headerBytes, pathBytes, encode, WellFormed}
 use Rattle.pdu.proofs.Inversion.{Whole, read-whole}
+use Rattle.pdu.proofs.Showing.{destination-small}
 use Rattle.writing.proofs.Encoding.{length-destination, length-onlyIf, length-header, length-path}
 
 -- a bit from a test, and back
-flag-le : (bit : Bool) → flag bit ≤ 1
-flag-le true = omega arith
-flag-le false = omega arith
-
-destination-le : (destination : Destination) → destinationFlag destination ≤ 1
-destination-le Everyone = omega arith
-destination-le (Address address) = omega arith
-
 isSet-flag : (bit : ℕ) (set : Bool) → bit ≡ flag set → isSet bit ≡ set
 isSet-flag bit true e = rw e
 isSet-flag bit false e = rw e
@@ -139,12 +133,12 @@ module _ {header : Header} {path payload : List ℕ} (ok : WellFormed header pat
     shows : Shows header (headerBytes header ++ tail)
     unfolding headerBytes
     shows =
-        let stamp = flag-le (header .«time_stamp_request») in
-        let path = flag-le (header .«path_bit») in
-        let destination = destination-le (header .destination) in
-        let encrypted = flag-le (header .encrypted) in
-        let ack = flag-le (header .ack) in
-        let added = flag-le (header .«added_header») in
+        let stamp = flag-small (header .«time_stamp_request») in
+        let path = flag-small (header .«path_bit») in
+        let destination = destination-small (header .destination) in
+        let encrypted = flag-small (header .encrypted) in
+        let ack = flag-small (header .ack) in
+        let added = flag-small (header .«added_header») in
         record {
           version-is = omega arith;
           protocol-is = omega arith;

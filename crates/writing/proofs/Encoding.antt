@@ -13,6 +13,7 @@ use Rattle.octets.specs.Numbers.{flag, _gives_, _orElse_}
 use Rattle.octets.specs.Octets.{wordAt, wordBytes, over, placed, placeAfter}
 use Rattle.octets.proofs.Placing.{Begins, first, more, room-after, is-after, placed-more, length-over, nothing-placed}
 use Rattle.octets.proofs.Numbering.{gives-last, gives-none, orElse-first, orElse-later}
+use Rattle.octets.proofs.Tests.{flag-small}
 use Rattle.pdu.specs.declared.Destination.{Destination}
 use Rattle.pdu.specs.declared.Destination.the-variants.{Everyone, Address}
 use Rattle.pdu.specs.declared.Header.{Header}
@@ -22,16 +23,9 @@ use Rattle.pdu.specs.Parts.{addressesAt, pathIn, payloadIn}
 use Rattle.writing.specs.Writing.{fixedPart, destinationBytes, onlyIf, headerBytes, pathBytes, encode}
 use Rattle.writing.specs.Writing.{fieldFault, headerNumber, headerWritten, headerOutput}
 use Rattle.pdu.proofs.Paths.{length-addresses}
+use Rattle.pdu.proofs.Showing.{destination-small}
 
 -- lengths
-flag-small : (bit : Bool) → flag bit ≤ 1
-flag-small true = omega arith
-flag-small false = omega arith
-
-destination-small : (destination : Destination) → destinationFlag destination ≤ 1
-destination-small Everyone = omega arith
-destination-small (Address address) = omega arith
-
 pub length-destination : (destination : Destination) → length (destinationBytes destination) ≡ 2 * destinationFlag destination
 length-destination Everyone = refl
 length-destination (Address address) = refl
