@@ -1,7 +1,7 @@
 -- The table's one operation, asked what a delivered PDU asks, and the response to its effect, do what the definitions say.
 use native.Mathlib.Omega.{arith}
 use mathlib.Core.Path.{_≡_, refl, sym, _∙_, ap, subst}
-use Prim.Native.Nat.{ℕ, zero, suc, _+_, _<_, _≤_}
+use Prim.Native.Nat.{ℕ, _+_, _<_, _≤_}
 use native.Mathlib.Nat.{le-refl}
 use mathlib.Core.Bool.{Bool, true, false, not, cond, _&&_}
 use mathlib.Core.List.{List, [], _∷_, _++_, append-nil}
@@ -12,7 +12,7 @@ use lib.Seq.{set-out}
 use borrow.Author.Tests.{eqb-true, ltb-false, le-leb, le-ltb, eq-eqb}
 use Rattle.octets.specs.Numbers.{_gives_, _orElse_}
 use Rattle.octets.specs.Octets.{over}
-use Rattle.octets.proofs.Numbering.{orElse-zero, gives-zero}
+use Rattle.octets.proofs.Numbering.{orElse-zero, gives-zero, gives-later, orElse-none, orElse-assoc}
 use Rattle.pdu.specs.declared.Header.{Header}
 use Rattle.pdu.specs.Header.{headerOf}
 use Rattle.pdu.specs.Sizes.{pathStart, pduLength}
@@ -34,20 +34,6 @@ use Rattle.retained.specs.Searching.{foundIn}
 use Rattle.answering.specs.Delivered.{isAcknowledgement, isAnswered, ackHeader, acknowledgement, answered, acknowledgeNumber, matching}
 use Rattle.answering.specs.Delivered.{acknowledge, tableAcknowledged, outputAcknowledged}
 use Rattle.answering.specs.Responding.{earlyNumber, lateNumber, askAcknowledge, responds, response, responded}
-
-assoc : (a b c : ℕ) → ((a orElse b) orElse c) ≡ (a orElse (b orElse c))
-unfolding _orElse_
-assoc zero b c = refl
-assoc (suc a) b c = refl
-
-zero-or : (x : ℕ) → ((false gives 73) orElse x) ≡ x
-unfolding _orElse_ _gives_
-zero-or x = refl
-
-or-zero : (a : ℕ) → (a orElse 0) ≡ a
-unfolding _orElse_
-or-zero zero = refl
-or-zero (suc a) = refl
 
 no-kind : (k : Bool) (a : Ask) (s : Seek) → kindNumber (cond k Free Nothing) a s ≡ 0
 no-kind true a s = refl
@@ -81,23 +67,14 @@ module _ (table : List Retained) (last : ℕ) (delivery : ℕ) (sending : Sendin
   number-is : decideNumber asked (foundIn table (exchanged (namesOf received)) last 0) ≡ N
   unfolding askAcknowledge decideNumber acknowledgeNumber
   number-is =
-      assoc ((D && ltb 7 (sending .«hop_limit»)) gives 10) ((D && ltb 15 (sending .port)) gives 11) _
+      orElse-assoc ((D && ltb 7 (sending .«hop_limit»)) gives 10) ((D && ltb 15 (sending .port)) gives 11) _
       ∙ ap (λ (x : ℕ). ((D && ltb 7 (sending .«hop_limit»)) gives 10) orElse (((D && ltb 15 (sending .port)) gives 11) orElse (tableFault table orElse x))) tail
     where
-      late : ℕ
-      late = lateNumber D room (pduLength (ackHeader sending (namesOf received)))
-
-      time : (t : Bool) (x : ℕ) → t ≡ false → ((t gives 73) orElse x) ≡ x
-      time t x e = simp e (plain x)
-        where
-          plain : (x : ℕ) → ((false gives 73) orElse x) ≡ x
-          plain x = zero-or x
-
       tail : ((ltb last last gives 73) orElse (lateNumber D room (pduLength (ackHeader sending (namesOf received))) orElse kindNumber
           (cond k Free Nothing) (askAcknowledge last delivery sending room received)
           (foundIn table (exchanged (namesOf received)) last 0))) ≡ lateNumber D room (pduLength (ackHeader sending (namesOf received)))
-      tail = time (ltb last last) _ (le-ltb last last (le-refl last))
-          ∙ ap (λ (x : ℕ). lateNumber D room (pduLength (ackHeader sending (namesOf received))) orElse x) (no-kind k _ _) ∙ or-zero _
+      tail = gives-later (ltb last last) 73 _ (le-ltb last last (le-refl last))
+          ∙ ap (λ (x : ℕ). lateNumber D room (pduLength (ackHeader sending (namesOf received))) orElse x) (no-kind k _ _) ∙ orElse-none _
 
   effect-is : effectOn asked table ≡ it (eqb N 0) k
   unfolding effectOn decideOf askAcknowledge

@@ -7,19 +7,10 @@ use mathlib.Core.Path.{_≡_, refl, ap, sym, _∙_}
 use lib.Dec.{ltb, leb}
 use borrow.Author.Tests.{le-leb, lt-leb, ltb-true, ltb-false, leb-true, leb-false}
 use Rattle.octets.specs.Numbers.{_gives_, _orElse_}
+use Rattle.octets.proofs.Numbering.{orElse-none, orElse-assoc}
 use Rattle.elements.specs.Elements.{typeAt, valuePlace, elementEnd, beginnings, elementsIn, isRun, firstOf, elementFault, runFault}
 use Rattle.elements.specs.Order.{Element, ownFault, eachOf, reachedAt, reached, firstOwn, Ordered}
 use Rattle.elements.proofs.Runs.{end-after, value-after, value-within, nothing-left, none-left, one-more}
-
-orElse-assoc : (a b c : ℕ) → ((a orElse b) orElse c) ≡ (a orElse (b orElse c))
-unfolding _orElse_
-orElse-assoc zero b c = refl
-orElse-assoc (suc a) b c = refl
-
-orElse-zero-right : (a : ℕ) → (a orElse 0) ≡ a
-unfolding _orElse_
-orElse-zero-right zero = refl
-orElse-zero-right (suc a) = refl
 
 module _ (bytes : List ℕ) where
   own-append : (a b : List Element) → firstOwn bytes (a ++ b) ≡ (firstOwn bytes a orElse firstOwn bytes b)
@@ -50,7 +41,7 @@ module _ (bytes : List ℕ) where
 
   element-own : (levels end place : ℕ) → elementFault levels bytes end place ≡ firstOwn bytes (reachedAt levels bytes end place)
   unfolding elementFault reachedAt firstOwn ownFault
-  element-own zero end place = sym (orElse-zero-right 58)
+  element-own zero end place = sym (orElse-none 58)
   element-own (suc levels) end place =
       let after = elementEnd bytes place in
       let inner = elementsIn bytes (valuePlace bytes place) after in

@@ -10,6 +10,7 @@ use lib.ListN.{length, set}
 use borrow.Author.Tests.{eq-eqb, ne-eqb, lt-ltb, le-ltb, ltb-true, ltb-false}
 use Rattle.octets.specs.Numbers.{_gives_, _orElse_}
 use Rattle.octets.specs.Octets.{over}
+use Rattle.octets.proofs.Numbering.{orElse-none}
 use Rattle.pdu.specs.Header.{headerOf}
 use Rattle.pdu.specs.Sizes.{pduLength}
 use Rattle.retained.specs.declared.Names.{Names}
@@ -23,7 +24,7 @@ use Rattle.answering.specs.Delivered.{isAnswered, isAcknowledgement, matching, 
 use Rattle.answering.specs.Delivered.{acknowledgeNumber, acknowledge, tableAcknowledged, outputAcknowledged}
 use Rattle.ending.specs.First.{FirstAt, Nowhere}
 use Rattle.ending.proofs.First.{has-at, has-nowhere}
-use Rattle.ending.proofs.Lowest.{first-at, has-first, or-zero, no-match, some}
+use Rattle.ending.proofs.Lowest.{first-at, has-first, no-match, some}
 
 module _ (table : List Retained) (last delivery : ℕ) (sending : Sending) (received output : List ℕ) where
   abbrev room : ℕ
@@ -124,7 +125,7 @@ module _ (table : List Retained) (last delivery : ℕ) (sending : Sending) (rece
   module _ (a : asked ≡ false) where
     number-is : acknowledgeNumber table delivery sending room received ≡ cond (not (eqb (length table) 16)) 74 0
     unfolding acknowledgeNumber _gives_ _orElse_
-    number-is = simp a (or-zero (cond (not (eqb (length table) 16)) 74 0))
+    number-is = simp a (orElse-none (cond (not (eqb (length table) 16)) 74 0))
 
     other-74 : (length table ≡ 16 → ⊥) → acknowledgeNumber table delivery sending room received ≡ 74
     other-74 s = number-is ∙ simp (ne-eqb (length table) 16 s)

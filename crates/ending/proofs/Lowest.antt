@@ -6,7 +6,6 @@ use mathlib.Core.Logic.{_⊎_, inl, inr}
 use mathlib.Core.Bool.{Bool, true, false, cond, _&&_}
 use mathlib.Core.List.{List, [], _∷_}
 use lib.ListN.{length}
-use Rattle.octets.specs.Numbers.{_orElse_}
 use Rattle.retained.specs.declared.Retained.{Retained}
 use Rattle.retained.specs.Table.{first, has, recordAt}
 use Rattle.ending.specs.First.{FirstAt, Nowhere}
@@ -50,11 +49,6 @@ first-or-none test (r ∷ rs) = by (test r) refl (first-or-none test rs)
     by true e f = inl (0, record { within = omega arith; passes = e; none-before = λ earlier h. absurd (omega arith) })
     by false e (inl (k, f)) = inl (suc k, record { within = omega (arith, f .within); passes = f .passes; none-before = before k e f })
     by false e (inr f) = inr (none e f)
-
-pub or-zero : (n : ℕ) → (n orElse 0) ≡ n
-unfolding _orElse_
-or-zero zero = refl
-or-zero (suc n) = refl
 
 pub no-match : (x y : Bool) → y ≡ false → (x && y) ≡ false
 no-match true y e = e

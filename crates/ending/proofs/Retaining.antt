@@ -23,7 +23,7 @@ use Rattle.answering.specs.Delivered.{isAnswered, isAcknowledgement, matching, 
 use Rattle.answering.specs.Delivered.{acknowledgeNumber, acknowledge, tableAcknowledged, outputAcknowledged}
 use Rattle.ending.specs.First.{FirstAt, Nowhere}
 use Rattle.ending.proofs.First.{has-at, has-nowhere}
-use Rattle.ending.proofs.Lowest.{first-at, has-first, or-zero, no-match, some}
+use Rattle.ending.proofs.Lowest.{first-at, has-first, no-match, some}
 
 module _ (table : List Retained) (last now : ℕ) (bytes : List ℕ) where
   abbrev Refuses : ℕ → Type 0

@@ -1,5 +1,5 @@
 -- A node whose lists are looked at apart: what it answers, from the numbers that its parts gave, and that it is the node with those lists.
-use Prim.Native.Nat.{ℕ, zero, suc}
+use Prim.Native.Nat.{ℕ}
 use native.Mathlib.Omega.{arith}
 use mathlib.Core.Bool.{Bool, true, false, cond}
 use mathlib.Core.List.{List}
@@ -9,7 +9,7 @@ use lib.ListN.{length}
 use borrow.Author.Tests.{ne-eqb, eqb-true, eqb-false}
 use Rattle.octets.specs.Numbers.{_gives_, _orElse_}
 use Rattle.octets.specs.Octets.{over}
-use Rattle.octets.proofs.Numbering.{orElse-zero, orElse-first, orElse-later}
+use Rattle.octets.proofs.Numbering.{orElse-zero, orElse-first, orElse-later, orElse-none}
 use Rattle.pdu.specs.declared.Header.{Header}
 use Rattle.pdu.specs.declared.Reading.the-variants.{Pdu}
 use Rattle.pdu.specs.declared.Sender.{Sender}
@@ -27,11 +27,6 @@ use Rattle.node.specs.Repeat.{repeated, repeatedLength}
 use Rattle.node.specs.Answers.{listOrReadingFault, roomFault, stopFault, deliveryNumber, repeatNumber, taken, heardFrom}
 use Rattle.node.specs.Answers.{answerOf, twice, outputAfter, Hears, unlisted, answerGiven, outputGiven, HearsGiven}
 use Rattle.node.proofs.Answering.{read-sender, unread-sender, given-twice, refusal-given, is-readable, stopped}
-
-orElse-none : (n : ℕ) → (n orElse 0) ≡ n
-unfolding _orElse_
-orElse-none zero = refl
-orElse-none (suc n) = refl
 
 module _ (settings : Settings) where
   abbrev alone : Node

@@ -9,7 +9,7 @@ use lib.ListN.{length}
 use borrow.Author.Tests.{lt-ltb, le-ltb, ltb-false, ne-eqb}
 use Rattle.octets.specs.Numbers.{_gives_, _orElse_}
 use Rattle.octets.specs.Octets.{over}
-use Rattle.octets.proofs.Numbering.{orElse-zero, gives-zero}
+use Rattle.octets.proofs.Numbering.{orElse-zero, gives-zero, orElse-first, orElse-later}
 use Rattle.pdu.specs.declared.Destination.{Destination}
 use Rattle.pdu.specs.declared.Destination.the-variants.{Everyone, Address}
 use Rattle.pdu.specs.declared.Written.{Written}
@@ -21,16 +21,6 @@ use Rattle.origin.specs.Origination.{freshHeader, fresh, settingsFault, 
 -- the room that the PDU takes
 abbrev pub enough : Settings → List ℕ → ℕ
 enough settings payload = pduLength (freshHeader settings (length payload))
-
-orElse-some : (n later : ℕ) → 0 < n → (n orElse later) ≡ n
-unfolding _orElse_
-orElse-some zero later h = absurd (omega arith)
-orElse-some (suc n) later h = refl
-
-orElse-none : (n later : ℕ) → n ≡ 0 → (n orElse later) ≡ later
-unfolding _orElse_
-orElse-none zero later e = refl
-orElse-none (suc n) later e = absurd (omega arith)
 
 -- a test that failed though its first part holds
 addressed-from : (reliable : Bool) (flag : ℕ) → (reliable && eqb flag 0) ≡ false → reliable ≡ true → 0 < flag
@@ -125,15 +115,15 @@ module _ (settings : Settings) (payload : List ℕ) (room : ℕ) where
 
   pub refused-early : (number : ℕ) → number ≡ settingsFault settings payload → 0 < number → originationNumber settings payload room ≡ number
   unfolding originationNumber
-  refused-early number e h = rw (← e) (orElse-some _ _ h)
+  refused-early number e h = rw (← e) (orElse-first number _ (λ z. omega arith))
 
   pub refused-room : settingsFault settings payload ≡ 0 → room < enough settings payload → originationNumber settings payload room ≡ 14
   unfolding originationNumber _gives_
-  refused-room e h = orElse-none _ _ e ∙ simp (lt-ltb _ _ h)
+  refused-room e h = orElse-later _ _ e ∙ simp (lt-ltb _ _ h)
 
   pub not-refused : settingsFault settings payload ≡ 0 → enough settings payload ≤ room → originationNumber settings payload room ≡ 0
   unfolding originationNumber _gives_
-  not-refused e h = orElse-none _ _ e ∙ simp (le-ltb _ _ h)
+  not-refused e h = orElse-later _ _ e ∙ simp (le-ltb _ _ h)
 
 -- the answer and the output with a refusal, and without
 module _ (settings : Settings) (payload output : List ℕ) where

@@ -5,14 +5,9 @@ use mathlib.Core.List.{List, [], _∷_, _++_}
 use mathlib.Core.Path.{_≡_, refl, ap, sym, _∙_}
 use lib.ListN.{length, getD}
 use Rattle.octets.specs.Numbers.{_gives_, _orElse_}
-use Rattle.octets.proofs.Numbering.{orElse-zero, orElse-first, orElse-later}
+use Rattle.octets.proofs.Numbering.{orElse-zero, orElse-first, orElse-later, orElse-assoc}
 use Rattle.lists.specs.Lists.{lowAboveHigh, faultOf, firstFault, listsOf, listFault}
 use Rattle.seasons.specs.Choosing.{two, eightOf, eightFault}
-
-orElse-assoc : (a b c : ℕ) → ((a orElse b) orElse c) ≡ (a orElse (b orElse c))
-unfolding _orElse_
-orElse-assoc zero b c = refl
-orElse-assoc (suc a) b c = refl
 
 pub first-of-joined : (before after : List (List ℕ)) → firstFault (before ++ after) ≡ (firstFault before orElse firstFault after)
 unfolding firstFault _orElse_

@@ -8,7 +8,7 @@ use lib.Dec.{eqb}
 use lib.ListN.{length, drop, replicate, length-replicate}
 use borrow.Author.Tests.{eqb-true, eqb-false, ne-eqb, lt-leb}
 use Rattle.octets.specs.Numbers.{_orElse_, _gives_}
-use Rattle.octets.proofs.Numbering.{orElse-zero, orElse-first, orElse-later}
+use Rattle.octets.proofs.Numbering.{orElse-zero, orElse-first, orElse-later, orElse-none}
 use Rattle.pdu.specs.declared.Sender.the-variants.{Unknown}
 use Rattle.lists.specs.Lists.{lowAboveHigh, faultOf, firstFault, Lists, listsOf, listFault}
 use Rattle.decision.specs.Decision.{Node, nodeOf}
@@ -84,14 +84,9 @@ chosen-without-fault node none =
     (chosen-right (node .settings .«destination_pass») (node .lists .destinationPass) (right .destination-pass))
     (chosen-right (node .settings .«destination_reject») (node .lists .destinationReject) (right .destination-reject))
 
-or-none : (n : ℕ) → (n orElse 0) ≡ n
-unfolding _orElse_
-or-none zero = refl
-or-none (suc n) = refl
-
 alone : (list : List ℕ) → listFault (listsOf list [] [] []) ≡ faultOf list
 unfolding firstFault _orElse_
-alone list = rw empty-right (or-none (faultOf list))
+alone list = rw empty-right (orElse-none (faultOf list))
 
 -- the lists that it answers by: those chosen, or one that has the fault of the eight
 abbrev faulty : SeasonNode → Lists
