@@ -15,6 +15,7 @@ use Rattle.octets.proofs.Tests.{not-both}
 use Rattle.pdu.specs.declared.Destination.the-variants.{Everyone}
 use Rattle.pdu.specs.Header.{headerOf}
 use Rattle.pdu.specs.Parts.{payloadIn, lastOr}
+use Rattle.pdu.proofs.Senders.{last-none, last-behind}
 use Rattle.chains.specs.Chains.{Chain, Shortest}
 use Rattle.chains.proofs.Steps.{chain-none, chain-is-none, chain-next, chain-last, shortest-before}
 use Rattle.decision.proofs.Dropping.{passed}
@@ -33,15 +34,6 @@ use Rattle.flood.proofs.Runs.{stays, heard-said}
 use Rattle.coverage.specs.Hearing.{senderOf, Taken, ByNoOther}
 use Rattle.coverage.specs.Delivery.{Delivered}
 use Rattle.coverage.proofs.Carried.{Carries, node-carries, delivers}
-
-last-snoc : (otherwise : ℕ) (path : List ℕ) (a : ℕ) → lastOr otherwise (path ++ (a ∷ [])) ≡ a
-unfolding lastOr
-last-snoc otherwise [] a = refl
-last-snoc otherwise (x ∷ path) a = last-snoc x path a
-
-last-none : (otherwise : ℕ) → lastOr otherwise [] ≡ otherwise
-unfolding lastOr
-last-none otherwise = refl
 
 -- a node at the source address of what it received, echo on, delivers nothing
 not-to-originator : (n : Repeater) (received : List ℕ) → n .node .settings .echo ≡ true → sourceOf received ≡ address n
@@ -90,10 +82,10 @@ module _ (hears : ℕ → ℕ → Bool) (nodes : List Repeater) (all : Nodes nod
 
     -- who sent a transmission: of one without a path the originator, of another its last address
     sent-first : (t : List ℕ) → List·Memᴰ t log → pathOf t ≡ [] → senderOf t ≡ sourceOf first
-    sent-first t m e = ap (lastOr (sourceOf t)) e ∙ last-none (sourceOf t) ∙ carries t m .sound .same-source
+    sent-first t m e = ap (lastOr (sourceOf t)) e ∙ last-none (sourceOf t) [] refl ∙ carries t m .sound .same-source
 
     sent-again : (t : List ℕ) (p : List ℕ) (a : ℕ) → pathOf t ≡ p ++ (a ∷ []) → senderOf t ≡ a
-    sent-again t p a e = ap (lastOr (sourceOf t)) e ∙ last-snoc (sourceOf t) p a
+    sent-again t p a e = ap (lastOr (sourceOf t)) e ∙ last-behind (sourceOf t) p a
 
     -- a node that takes a transmission hears its sender
     taker-hears : ByNoOther hears nodes first receptions

@@ -10,7 +10,7 @@ use borrow.Author.Tests.{eqb-true, eq-eqb, ltb-false, not-false, not-true}
 use Rattle.octets.specs.Numbers.{flag, _gives_, _orElse_}
 use Rattle.octets.specs.Octets.{AllBytes, wordBytes}
 use Rattle.octets.proofs.Numbering.{orElse-zero, gives-zero}
-use Rattle.octets.proofs.Words.{bytes-none, bytes-more, bytes-joined, bytes-word}
+use Rattle.octets.proofs.Words.{bytes-none, bytes-more, bytes-joined, bytes-word, bytes-four}
 use Rattle.octets.proofs.Tests.{both, flag-small}
 use Rattle.pdu.specs.declared.Header.{Header}
 use Rattle.pdu.specs.declared.Reading.the-variants.{Pdu}
@@ -54,10 +54,6 @@ fit-is bytes u =
 pub no-entries : (header : Header) (bytes : List ℕ) → pathEntries header ≡ 0 → pathIn header bytes ≡ []
 unfolding addressesAt
 no-entries header bytes e = ap (λ (n : ℕ). addressesAt bytes (pathStart header) n) e
-
-bytes-four : (a b c d : ℕ) (later : List ℕ) → a < 256 → b < 256 → c < 256 → d < 256 → AllBytes later → AllBytes (a ∷ b ∷ c ∷ d ∷ later)
-bytes-four a b c d later ha hb hc hd h =
-    bytes-more a (b ∷ c ∷ d ∷ later) ha (bytes-more b (c ∷ d ∷ later) hb (bytes-more c (d ∷ later) hc (bytes-more d later hd h)))
 
 -- the acknowledgement
 module _ (sending : Sending) (names : Names) (hop : sending .«hop_limit» ≤ 7) (port : sending .port ≤ 15) where

@@ -20,7 +20,7 @@ use Rattle.writing.specs.Writing.{fixedPart, destinationBytes, onlyIf, headerBy
 use Rattle.pdu.proofs.Inversion.{shown}
 use Rattle.pdu.proofs.Exact.{is-exact}
 use Rattle.pdu.proofs.Showing.{destination-small}
-use Rattle.octets.proofs.Words.{bytes-none, bytes-more, bytes-joined, bytes-word}
+use Rattle.octets.proofs.Words.{bytes-none, bytes-more, bytes-joined, bytes-word, bytes-four}
 use Rattle.octets.proofs.Tests.{flag-small}
 use Rattle.origin.specs.declared.Settings.{Settings}
 use Rattle.origin.specs.Origination.{freshHeader, fresh}
@@ -29,11 +29,6 @@ use Rattle.origin.proofs.ReadBack.{length-fresh, fresh-back}
 use Rattle.flood.specs.Air.{sourceOf, pathOf, hopOf, Begins, Originated}
 
 -- the parts of a header
-bytes-four : (a b c d : ℕ) (later : List ℕ) → a < 256 → b < 256 → c < 256 → d < 256 → AllBytes later
-    → AllBytes (a ∷ b ∷ c ∷ d ∷ later)
-bytes-four a b c d later ha hb hc hd h =
-    bytes-more a (b ∷ c ∷ d ∷ later) ha (bytes-more b (c ∷ d ∷ later) hb (bytes-more c (d ∷ later) hc (bytes-more d later hd h)))
-
 bytes-if : (called : Bool) (byte : ℕ) → byte < 256 → AllBytes (onlyIf called (byte ∷ []))
 bytes-if true byte h = bytes-more byte [] h bytes-none
 bytes-if false byte h = bytes-none
