@@ -1,7 +1,7 @@
 -- W-203 from its parts.
 use Prim.Native.Nat.{ℕ, _≤_}
 use native.Mathlib.Omega.{arith}
-use mathlib.Core.Bool.{Bool, true, false, _&&_}
+use mathlib.Core.Bool.{Bool, true, false, _&&_, and-false}
 use mathlib.Core.List.{List, [], List·Nodup}
 use mathlib.Core.Logic.{_⊎_, inl, inr, ⊎-elim}
 use mathlib.Core.Path.{_≡_, refl, subst, _∙_}
@@ -34,10 +34,6 @@ use Rattle.flood.proofs.Examples as examples
 use Rattle.flood.proofs.Others as others-law
 use Rattle.flood.proofs.Sent.{originator-silent}
 use Rattle.own_report.specs.OwnReport.{OwnReport, report, two}
-
-no-second : (echo : Bool) → (echo && false) ≡ false
-no-second true = refl
-no-second false = refl
 
 neither : (echo rest : Bool) → echo ≡ false → (echo && rest) ≡ false
 neither echo rest off = rw off
@@ -101,7 +97,7 @@ module _ (node : Node) (received : List ℕ) where
   not-own : (node .settings .echo ≡ false) ⊎ (headerOf received .source ≡ node .settings .own → ⊥)
       → isOwnReport (node .settings) (headerOf received) ≡ false
   not-own (inl off) = neither _ _ off
-  not-own (inr another) = rw (ne-eqb _ _ another) (no-second (node .settings .echo))
+  not-own (inr another) = rw (ne-eqb _ _ another) (and-false (node .settings .echo))
 
   unchanged : isOwnReport (node .settings) (headerOf received) ≡ false
       → dropFault node (headerOf received) received

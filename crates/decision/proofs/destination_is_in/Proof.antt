@@ -1,5 +1,5 @@
 use mathlib.Core.Path.{sym}
-use Rattle.decision.proofs.Tests.{and-false}
+use mathlib.Core.Bool.{and-false}
 use borrow.Author.Needs.{needs}
 use Rattle.decision.proofs.destination_is_in.Statement.{statement}
 use Rattle.decision.proofs.destination_is_in.Tie as tie
