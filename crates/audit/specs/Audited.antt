@@ -1,4 +1,4 @@
--- Where an auditor begins: all that is claimed, by name. Each record is a file of its own, in the crate of that name, to be read beside its place in
+-- Where an auditor begins: the demands and the requests, by name. Each record is a file of its own, in the crate of that name, to be read beside its place in
 -- documents 01 and 02. W-204 claims nothing that is new: no answer, byte or promise changed. What every public function's promise must be, and that it
 -- is so, is crate `promises`.
 use Rattle.checked_by_hand.specs.Examples.{CheckedByHand}

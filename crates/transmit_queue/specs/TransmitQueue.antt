@@ -40,7 +40,7 @@ abbrev pub batch : ℕ → ℕ → ℕ → Batch
 batch number pdus bytes = record { number = number; pdus = pdus; bytes = bytes }
 
 pub record TransmitQueue : Type 0 where
-  -- a memory of 2,052 bytes or more has room for 2,048; one that keeps 0 for the bytes held, its bytes 2 and 3, is an empty queue
+  -- a memory of 2,052 bytes or more has room for 2,048; one that keeps 0 for the bytes held, its bytes 2 and 3, holds none
   pub room-for-2048 : (memory : List ℕ) → 2052 ≤ length memory → capacity memory ≡ 2048
   pub empty : (memory : List ℕ) → wordAt memory 2 ≡ 0 → heldIn memory ≡ []
   -- any memory holds at most 32, of at most 2,048 bytes, and each is exactly one PDU
@@ -80,7 +80,8 @@ pub record TransmitQueue : Type 0 where
       (take size (outputAfterTake memory output) ≡ flatten (front (length output) (heldIn memory)))
       × (drop size (outputAfterTake memory output) ≡ drop size output)
   pub released : (room : ℕ) (memory : List ℕ) → heldIn (memoryAfterTake room memory) ≡ back room (heldIn memory)
-  -- after any adds, takes and clears from an empty queue: what was accepted is what was taken and cleared, as the sequence goes, and then what is held
+  -- after any adds, takes and clears from an empty queue, both numbers of its memory 0: what was accepted is what was taken and cleared, as the sequence
+  -- goes, and then what is held
   pub in-order : (memory : List ℕ) → wordAt memory 0 ≡ 0 → wordAt memory 2 ≡ 0 → (deeds : List Deed)
       → accepted memory deeds ≡ takenAndCleared memory deeds ++ heldIn (memoryAfter memory deeds)
   -- the memory is as long as it was, and its bytes 2 and 3 say how many bytes are held
