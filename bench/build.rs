@@ -7,6 +7,7 @@ use std::process::{Command, Stdio};
 
 fn main() {
     println!("cargo:rerun-if-changed=plain.c");
+    println!("cargo:rerun-if-changed=plain");
     println!("cargo:rerun-if-changed=openssl.c");
     println!("cargo:rustc-check-cfg=cfg(openssl)");
     println!("cargo:rerun-if-env-changed=CC");
