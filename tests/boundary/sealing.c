@@ -1,0 +1,96 @@
+#include "boundary.h"
+
+/* Document 002's key, and its example sealed under number 850. */
+static const MantKey key = {{0x6B, 0x65, 0x65, 0x70, 0x20, 0x6D, 0x65, 0x20, 0x73, 0x65, 0x63, 0x72, 0x65, 0x74, 0x21, 0x21}};
+static const uint8_t sealed[27] = {0x03, 0x08, 0x10, 0x12, 0x03, 0xE8, 0x06, 0x40, 0x00, 0x00, 0x03, 0x52, 0x11, 0x46,
+                                   0xDF, 0x21, 0xA1, 0xE0, 0xFB, 0x1E, 0x42, 0x5C, 0x93, 0x1A, 0x7C, 0x62, 0x50};
+
+static bool is_written(MantWritten w, uint8_t number, size_t length)
+{
+    return w.number == number && w.length == length;
+}
+
+static void sealing(void)
+{
+    static uint8_t longest[6 + 4089] = {0, 0, 0x0F, 0xF8, 0, 5}, output[6 + 4095 + 1];
+    uint8_t stamped[20], untouched[28];
+    memset(output, 77, sizeof output);
+    memset(untouched, 77, sizeof untouched);
+    CHECK(is_written(mant_seal(key, 850, NULL, 0, NULL, 0), MANT_TOO_SHORT, 0) && is_written(mant_seal(key, 850, example, 20, NULL, 0), 87, 0));
+    CHECK(is_written(mant_seal(key, 850, example, 19, output, 99), MANT_PAYLOAD_CUT, 0) && is_written(mant_seal(key, 850, sealed, 27, output, 99), 88, 0));
+    CHECK(is_written(mant_seal(key, 16777216, example, 20, output, 26), 86, 0) && is_written(mant_seal(key, UINT64_MAX, example, 20, output, 99), 86, 0));
+    CHECK(is_written(mant_seal(key, 850, example, 20, output, 26), 87, 0) && memcmp(output, untouched, 28) == 0);
+    CHECK(is_written(mant_seal(key, 850, example, 20, output, 27), 0, 27) && memcmp(output, sealed, 27) == 0 && output[27] == 77);
+    memcpy(stamped, example, 20);
+    stamped[0] |= 4;
+    CHECK(is_written(mant_seal(key, 850, stamped, 20, output, 99), 0, 27) && memcmp(output, sealed, 27) == 0);
+    CHECK(is_written(mant_seal(key, 0, longest, 6 + 4088, output, 6 + 4094), 87, 0));
+    CHECK(is_written(mant_seal(key, MANT_NUMBER_LIMIT, longest, 6 + 4088, output, sizeof output), 0, 6 + 4095) && output[6 + 4095] == 77);
+    longest[3] = 0xF9;
+    CHECK(is_written(mant_seal(key, 16777216, longest, sizeof longest, output, 0), 85, 0));
+    longest[1] = 8;
+    CHECK(is_written(mant_seal(key, 16777216, longest, sizeof longest, output, 0), 88, 0));
+}
+
+static bool is_record(const uint32_t *record, uint32_t held, uint32_t source, uint32_t number)
+{
+    return record[0] == held && record[1] == source && record[2] == number;
+}
+
+static void opening(void)
+{
+    uint32_t record[MANT_SOURCE_WORDS] = {0};
+    uint8_t output[12], untouched[12], repeated[29], changed[27];
+    memset(output, 77, sizeof output);
+    memset(untouched, 77, sizeof untouched);
+    memcpy(changed, sealed, 27);
+    changed[26] ^= 1;
+    CHECK(is_written(mant_open(key, NULL, 0, NULL, 0, NULL, 0), MANT_TOO_SHORT, 0) && is_written(mant_open(key, NULL, 0, example, 20, NULL, 0), 80, 0));
+    CHECK(is_written(mant_open(key, NULL, 0, changed, 27, NULL, 0), 83, 0) && is_written(mant_open(key, NULL, 0, sealed, 27, NULL, 0), 84, 0));
+    CHECK(is_written(mant_open(key, record, MANT_SOURCE_WORDS, changed, 27, output, 12), MANT_HASH_DIFFERS, 0));
+    CHECK(is_written(mant_open(key, record, MANT_SOURCE_WORDS, sealed, 27, output, 10), 87, 0) && is_record(record, 0, 0, 0));
+    CHECK(memcmp(output, untouched, 12) == 0);
+    CHECK(is_written(mant_open(key, record, MANT_SOURCE_WORDS, sealed, 27, output, 11), 0, 11) && is_record(record, 1, 1000, 850));
+    CHECK(memcmp(output, example + 9, 11) == 0 && output[11] == 77);
+    memset(output, 77, sizeof output);
+    CHECK(is_written(mant_open(key, record, MANT_SOURCE_WORDS, sealed, 27, output, 12), 82, 0) && memcmp(output, untouched, 12) == 0);
+    CHECK(is_written(mant_open(key, record, MANT_SOURCE_WORDS, changed, 27, output, 12), 82, 0));
+    const uint8_t *number = sealed + mant_read(EDITION, sealed, 27).header_length;
+    CHECK((number[0] << 16 | number[1] << 8 | number[2]) == 850);
+    CHECK(mant_hear(EDITION, node, NO_LISTS, sealed, 27, repeated, sizeof repeated).repeated_length == 29);
+    record[2] = 849;
+    CHECK(is_written(mant_open(key, record, MANT_SOURCE_WORDS, repeated, 29, output, 12), 0, 11) && memcmp(output, example + 9, 11) == 0);
+}
+
+/* Payloads of 6 and of 7 bytes, the second an empty one sealed; a full record, one that is too short, and one that tells of too many. */
+static void records(void)
+{
+    const uint8_t shorter[12] = {0, 8, 0, 6, 0x03, 0xE8}, empty[6] = {0, 0, 0, 0, 0x03, 0xE8};
+    uint32_t record[MANT_SOURCE_WORDS + 1] = {MANT_SOURCE_LIMIT}, small[5] = {9, 70000, 0, 1000, 3};
+    uint8_t output[13];
+    bool kept = true;
+    for (uint32_t i = 1; i < MANT_SOURCE_WORDS; i += 2) {
+        record[i] = 2000 + i;
+    }
+    record[MANT_SOURCE_WORDS] = 77;
+    CHECK(is_written(mant_open(key, record, MANT_SOURCE_WORDS, shorter, 12, NULL, 0), 81, 0));
+    CHECK(is_written(mant_seal(key, 5, empty, 6, output, 13), 0, 13));
+    CHECK(is_written(mant_open(key, record, MANT_SOURCE_WORDS + 1, output, 13, NULL, 0), 84, 0) && is_record(record, 64, 2001, 0));
+    record[127] = 1000;
+    CHECK(is_written(mant_open(key, record, MANT_SOURCE_WORDS + 1, output, 13, NULL, 0), 0, 0) && record[127] == 1000 && record[128] == 5);
+    for (uint32_t i = 1; i < 127; i += 2) {
+        kept = kept && record[i] == 2000 + i && record[i + 1] == 0;
+    }
+    CHECK(kept && record[0] == 64 && record[MANT_SOURCE_WORDS] == 77);
+    CHECK(is_written(mant_open(key, small, 3, output, 13, NULL, 0), 84, 0) && is_record(small, 9, 70000, 0));
+    CHECK(is_written(mant_open(key, small, 5, output, 13, NULL, 0), 0, 0) && is_record(small, 2, 70000, 0) && small[3] == 1000 && small[4] == 5);
+    small[0] = 0;
+    CHECK(is_written(mant_open(key, small, 4, output, 13, NULL, 0), 0, 0) && is_record(small, 1, 1000, 5) && small[3] == 1000);
+}
+
+void sealing_and_opening(void)
+{
+    sealing();
+    opening();
+    records();
+}
