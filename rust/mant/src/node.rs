@@ -1,30 +1,8 @@
-//! What a node is set to, and its lists, two of each kind (02, W-211).
+//! What a node is set to, and what it answers for one PDU or over a batch.
 
-use crate::raw::{self, FIRST_LIST, NO_LIST, SECOND_LIST};
-use crate::Refusal;
-
-/// Which of a kind's two lists a node reads.
-#[derive(Clone, Copy, Debug, Default, PartialEq, Eq)]
-pub enum Choice {
-    /// None: the kind is off.
-    #[default]
-    None,
-    /// The first.
-    First,
-    /// The second.
-    Second,
-}
-
-impl Choice {
-    /// Its number in the library.
-    fn number(self) -> u8 {
-        match self {
-            Choice::None => NO_LIST,
-            Choice::First => FIRST_LIST,
-            Choice::Second => SECOND_LIST,
-        }
-    }
-}
+use crate::raw;
+use crate::{Choice, Cursor, Lists, Refusal};
+use std::ops::Range;
 
 /// What a node is set to. A pass list that is chosen and empty passes nothing.
 #[derive(Clone, Copy, Debug, Default, PartialEq, Eq)]
@@ -60,53 +38,118 @@ impl Node {
     }
 }
 
-/// The two lists of a kind, each low, high, low, high and so on, both ends
-/// included, in any order and of 128 values at most; overlaps are allowed.
-#[derive(Clone, Copy, Debug, Default, PartialEq, Eq)]
-pub struct TwoLists<'a> {
-    /// The first.
-    pub first: &'a [u16],
-    /// The second.
-    pub second: &'a [u16],
+/// What a node answers for one PDU.
+#[derive(Clone, Debug, PartialEq, Eq)]
+pub struct Answer {
+    /// Where the delivered payload lies, counted from the PDU's first byte.
+    pub delivery: Result<Range<usize>, Refusal>,
+    /// How many bytes of the repeated PDU were written to the output.
+    pub repeat: Result<usize, Refusal>,
+    /// Where the next PDU begins, counted from this one's first byte; 0 where
+    /// this one was not read: the edition is unknown, a list is at fault, or
+    /// there is no PDU.
+    pub taken: usize,
+    /// Who the PDU was heard from, whenever it was read: the last path
+    /// address, or the source if the path is empty. None where it is unknown.
+    pub last_sender: Option<u16>,
 }
 
-/// The lists of a node. All eight are checked, whichever are chosen.
-#[derive(Clone, Copy, Debug, Default, PartialEq, Eq)]
-pub struct Lists<'a> {
-    /// Sources that pass.
-    pub source_pass: TwoLists<'a>,
-    /// Sources that are rejected.
-    pub source_reject: TwoLists<'a>,
-    /// Destinations that pass.
-    pub destination_pass: TwoLists<'a>,
-    /// Destinations that are rejected.
-    pub destination_reject: TwoLists<'a>,
-}
+impl Answer {
+    pub(crate) fn of(answer: raw::Answer) -> Answer {
+        let place = answer.delivered_place;
+        Answer {
+            delivery: Refusal::check(answer.delivery)
+                .map(|()| place..place + answer.delivered_length),
+            repeat: Refusal::check(answer.repeat).map(|()| answer.repeated_length),
+            taken: answer.taken,
+            last_sender: answer.has_last_sender.then_some(answer.last_sender),
+        }
+    }
 
-impl<'a> Lists<'a> {
-    /// In the order of the library.
-    pub(crate) fn in_order(&self) -> raw::Lists<'a> {
-        [
-            self.source_pass.first,
-            self.source_pass.second,
-            self.source_reject.first,
-            self.source_reject.second,
-            self.destination_pass.first,
-            self.destination_pass.second,
-            self.destination_reject.first,
-            self.destination_reject.second,
-        ]
+    /// The library's own, as `of` was given it.
+    pub(crate) fn raw(&self) -> raw::Answer {
+        let number = |refusal: &Refusal| refusal.number();
+        let delivered = self.delivery.clone().unwrap_or(0..0);
+        raw::Answer {
+            delivery: self.delivery.as_ref().map_or_else(number, |_| 0),
+            repeat: self.repeat.as_ref().map_or_else(number, |_| 0),
+            has_last_sender: self.last_sender.is_some(),
+            last_sender: self.last_sender.unwrap_or(0),
+            delivered_place: delivered.start,
+            delivered_length: delivered.len(),
+            repeated_length: self.repeat.unwrap_or(0),
+            taken: self.taken,
+        }
     }
 }
 
-/// The first fault of the eight lists, kind by kind, first before second: in
-/// each 22, 21, then 20.
-pub fn list_fault(lists: &Lists) -> Result<(), Refusal> {
-    Refusal::check(raw::list_fault(lists.in_order()))
+/// What one step of a walk over a batch finds.
+#[derive(Clone, Debug, PartialEq, Eq)]
+pub enum Step {
+    /// The answer for the PDU at the cursor, and the cursor of the next.
+    Answered(Answer, Cursor),
+    /// No more PDU.
+    Ended,
+    /// The batch is above 16,384 bytes, 54, and every step says so.
+    Refused(Refusal),
 }
 
-/// Whether an address is in some range of a list. An empty list holds none; a
-/// last value without a partner is no range.
-pub fn list_holds(list: &[u16], address: u16) -> bool {
-    raw::list_holds(list, address)
+/// What a node answers for the PDU at the start of the received bytes.
+///
+/// Refusals of delivery and repeat alike, the first that applies: 17, 20 to 22
+/// for a fault of the lists, 1 to 6 where there is no PDU, 30 and 42 with echo
+/// on, 31 to 34 by the lists that are chosen, and 40 where the output is too
+/// short for the repeated PDU, which then is not delivered either. Of delivery
+/// alone: 35 and 39; of repeat alone: 36 to 38 and 41. The output is written to
+/// only where repeat is `Ok`; it may be empty where nothing is to be repeated.
+pub fn hear(
+    edition: u64,
+    node: &Node,
+    lists: &Lists,
+    received: &[u8],
+    output: &mut [u8],
+) -> Answer {
+    let (node, lists) = (node.raw(), lists.in_order());
+    Answer::of(raw::hear(edition, node, lists, received, output))
+}
+
+/// One step of the walk over PDUs that lie back to back: what [`hear`] answers
+/// for the PDU at the cursor, with the same refusals and the same output. A walk
+/// begins with `Cursor::default()`.
+///
+/// After 17, 20 to 22 and 1 to 6 the next cursor has ended. Of the step that
+/// answered `answer` and `next`, the PDU began at `next.place - answer.taken`,
+/// and the ranges of the answer count from there.
+///
+/// ```
+/// use mant::{step, Cursor, Lists, Node, Step, EDITION_1_2};
+///
+/// let node = Node { own: 2000, echo: true, repeating: true, ..Node::default() };
+/// let batch = [2, 0, 0x10, 1, 3, 0xE8, 0, 0x2A, 2, 0, 0x10, 1, 0x0B, 0xB8, 0, 0x2B];
+/// let (mut cursor, mut repeated, mut payloads) = (Cursor::default(), [0; 4615], vec![]);
+/// while let Step::Answered(answer, next) =
+///     step(EDITION_1_2, &node, &Lists::default(), &batch, cursor, &mut repeated)
+/// {
+///     let pdu = &batch[next.place - answer.taken..];
+///     payloads.extend(answer.delivery.map(|range| &pdu[range]));
+///     cursor = next;
+/// }
+/// assert_eq!(payloads, [[0x2A], [0x2B]]);
+/// assert_eq!(cursor.place, batch.len());
+/// ```
+pub fn step(
+    edition: u64,
+    node: &Node,
+    lists: &Lists,
+    batch: &[u8],
+    cursor: Cursor,
+    output: &mut [u8],
+) -> Step {
+    let (node, lists) = (node.raw(), lists.in_order());
+    let step = raw::step(edition, node, lists, batch, cursor, output);
+    match step.kind {
+        raw::ANSWERED => Step::Answered(Answer::of(step.answer), step.next),
+        raw::ENDED => Step::Ended,
+        _ => Step::Refused(Refusal::BatchTooLong),
+    }
 }

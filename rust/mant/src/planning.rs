@@ -1,0 +1,34 @@
+//! How often one report can go out at most; the sizes.
+
+use crate::raw;
+use crate::{Limits, Refusal};
+
+/// The most transmissions that one fresh PDU with a path and this hop limit
+/// can cause among so many repeating nodes, all with echo on; the node at its
+/// source address is not one of them. None: 64 bits do not hold it. Refusal: 10
+/// where the hop limit is above 7.
+///
+/// ```
+/// assert_eq!(mant::most_transmissions(5, 3), Ok(Some(86)));
+/// assert_eq!(mant::most_bytes(5, 3, 20), Ok(Some(2170)));
+/// assert_eq!(mant::most_transmissions(5, 8), Err(mant::Refusal::HopLimitAbove7));
+/// ```
+pub fn most_transmissions(nodes: u64, hop_limit: u64) -> Result<Option<u64>, Refusal> {
+    bound(raw::most_transmissions(nodes, hop_limit))
+}
+
+/// The most bytes that those transmissions have together, where the fresh PDU
+/// has this size. None: 64 bits do not hold it. Refusal: 10 where the hop limit
+/// is above 7.
+pub fn most_bytes(nodes: u64, hop_limit: u64, size: u64) -> Result<Option<u64>, Refusal> {
+    bound(raw::most_bytes(nodes, hop_limit, size))
+}
+
+/// The sizes, as the library has them.
+pub fn limits() -> Limits {
+    raw::limits()
+}
+
+fn bound(bound: raw::Bound) -> Result<Option<u64>, Refusal> {
+    Refusal::check(bound.number).map(|()| (!bound.too_large).then_some(bound.value))
+}

@@ -1,0 +1,76 @@
+use super::*;
+
+/// A command from 1000 to 1600 with ID 7, and what it is known by.
+const COMMAND: [u8; 10] = [0x09, 0, 0x30, 1, 0x03, 0xE8, 0x06, 0x40, 7, 99];
+const NAMES: Names = Names {
+    source: 1000,
+    destination: 1600,
+    pdu_id: 7,
+};
+
+/// A table that has retained the command at 100 seconds.
+fn retaining() -> Reliable {
+    let mut table = Reliable::new();
+    assert_eq!(table.retain(100, &COMMAND), Ok(Deed::Retained(0, NAMES)));
+    table
+}
+
+#[test]
+fn a_command_is_sent_again_and_fails() {
+    let (mut table, mut output) = (retaining(), [0xAA; 11]);
+    assert_eq!(table.retry(129, 30, 1, &mut output), Ok(Deed::Nothing));
+    assert_eq!(table.last(), 129);
+    let before = table.clone();
+    let earlier = table.retry(128, 0, 1, &mut output);
+    assert_eq!(earlier.map_err(Refusal::number), Err(73));
+    let short = table.retry(130, 30, 1, &mut output[..9]);
+    assert_eq!(short.map_err(Refusal::number), Err(77));
+    assert_eq!((&table, output), (&before, [0xAA; 11]));
+    let sent = table.retry(130, 30, 1, &mut output);
+    assert_eq!(sent, Ok(Deed::SentAgain(0, NAMES, 10)));
+    assert_eq!((&output[..10], output[10]), (&COMMAND[..], 0xAA));
+    let record = table.records()[0];
+    assert_eq!((record.sent_at, record.count), (130, 1));
+    let failed = table.retry(160, 30, 1, &mut []);
+    assert_eq!(failed, Ok(Deed::Failed(0, NAMES)));
+    assert_eq!(
+        table,
+        Reliable::from_records(*Reliable::new().records(), 160)
+    );
+}
+
+#[test]
+fn a_command_is_acknowledged() {
+    let (mut base, mut gate) = (retaining(), Reliable::default());
+    let (lists, mut output) = (Lists::default(), [0xAA; 10]);
+    let sending = Sending {
+        hop_limit: 3,
+        ..Sending::default()
+    };
+    let answer = hear(EDITION_1_2, &node(1600), &lists, &COMMAND, &mut []);
+    let wrong = Sending {
+        hop_limit: 8,
+        ..sending
+    };
+    let refused = gate.acknowledge(&COMMAND, &answer, &wrong, &mut output);
+    assert_eq!(refused, Err(Refusal::HopLimitAbove7));
+    let acknowledged = gate.acknowledge(&COMMAND, &answer, &sending, &mut output);
+    assert_eq!(acknowledged, Ok(Deed::Acknowledged(NAMES, 9)));
+    let wanted = [0x09, 1, 0x30, 0, 0x06, 0x40, 0x03, 0xE8, 7, 0xAA];
+    assert_eq!((gate, output), (Reliable::new(), wanted));
+    let answer = hear(EDITION_1_2, &node(1000), &lists, &output[..9], &mut []);
+    let freed = base.acknowledge(&output[..9], &answer, &sending, &mut []);
+    assert_eq!(freed, Ok(Deed::Freed(0, NAMES)));
+    let again = base.acknowledge(&output[..9], &answer, &sending, &mut []);
+    assert_eq!((again, base.last()), (Ok(Deed::Nothing), 100));
+}
+
+#[test]
+fn what_is_not_retained() {
+    let mut table = retaining();
+    let before = table.clone();
+    for (bytes, number) in [(&COMMAND[..9], 75), (&example(), 75), (&COMMAND, 71)] {
+        let refused = table.retain(100, bytes).map_err(Refusal::number);
+        assert_eq!((refused, &table), (Err(number), &before));
+    }
+}
