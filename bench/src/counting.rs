@@ -1,9 +1,8 @@
 //! Counting in a full table of stations, all of them held.
 
-use crate::inputs::{self, EDITION, NODE, SETTINGS};
+use crate::inputs::{self, EDITION, NODE, NO_LISTS, SETTINGS};
 use crate::plain;
-use crate::timing::{measure, Measured};
-use crate::{copy, NO_LISTS, ROOM};
+use crate::timing::{copy, measure, Measured};
 use mant::raw::{self, Heard, STATION_LIMIT, STATION_WORDS};
 use reference::{hear_and_count, Lists, Stations};
 use std::hint::black_box;
@@ -101,7 +100,6 @@ pub fn counting() -> [Measured; 4] {
     let [mut first, mut second, mut third] = [Turns::new(), Turns::new(), Turns::new()];
     measure(
         &[7; STATION_BYTES],
-        ROOM,
         [
             &mut |_: &[u8], _: &mut [u8]| {
                 black_box(raw::count_heard(&mut library, first.turn()));
@@ -129,7 +127,6 @@ pub fn hearing_and_counting() -> [Measured; 4] {
     let length = pdu.len();
     measure(
         &pdu,
-        ROOM,
         [
             &mut |input: &[u8], output: &mut [u8]| {
                 let (edition, node) = (black_box(EDITION), black_box(NODE));

@@ -2,8 +2,7 @@
 
 use crate::inputs;
 use crate::plain;
-use crate::timing::{measure, Measured};
-use crate::{copy, ROOM};
+use crate::timing::{copy, measure, Measured};
 use mant::raw::{self, EXCHANGE_LIMIT};
 use std::hint::black_box;
 
@@ -22,7 +21,6 @@ pub fn reading() -> [Measured; 4] {
     let length = exchange.len();
     measure(
         &exchange,
-        ROOM,
         [
             &mut |input: &[u8], _: &mut [u8]| {
                 black_box(raw::read_exchange(input));
@@ -42,7 +40,6 @@ pub fn writing() -> [Measured; 4] {
     let length = pdu.len();
     measure(
         &pdu,
-        ROOM,
         [
             &mut |input: &[u8], output: &mut [u8]| {
                 black_box(raw::write_exchange(input, output));

@@ -6,6 +6,9 @@ use reference::{Choice, Origination, Settings, EDITION_1_2};
 /// All is measured under edition 1.2.
 pub const EDITION: u64 = EDITION_1_2;
 
+/// Eight lists that are empty.
+pub const NO_LISTS: raw::Lists = [&[]; 8];
+
 /// The payload of 01's example.
 pub const PAYLOAD: [u8; 11] = [
     0x70, 0x01, 0x08, 0x12, 0x12, 0x03, 0x24, 0x13, 0x22, 0x02, 0x76,

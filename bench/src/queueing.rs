@@ -2,8 +2,7 @@
 
 use crate::inputs;
 use crate::plain;
-use crate::timing::{measure, Measured};
-use crate::{copy, ROOM};
+use crate::timing::{copy, measure, Measured, ROOM};
 use mant::raw::{self, Level, QUEUE_BYTES, QUEUE_LENGTH, QUEUE_PDUS};
 use reference::Queue;
 use std::hint::black_box;
@@ -93,7 +92,6 @@ pub fn level(held: usize) -> [Measured; 4] {
     } = Queues::holding(held);
     measure(
         &[7; size_of::<Level>()],
-        ROOM,
         [
             &mut |_: &[u8], _: &mut [u8]| {
                 black_box(raw::queue_level(black_box(&library)));
@@ -122,7 +120,6 @@ pub fn adding_and_taking(held: usize, count: usize, length: usize) -> [Measured;
     let bytes = count * length;
     measure(
         &pdu,
-        ROOM,
         [
             &mut |input: &[u8], output: &mut [u8]| {
                 for _ in 0..count {
@@ -163,7 +160,6 @@ pub fn adding_and_clearing(length: usize) -> [Measured; 4] {
     } = Queues::holding(0);
     measure(
         &pdu(length),
-        ROOM,
         [
             &mut |input: &[u8], _: &mut [u8]| {
                 black_box(raw::queue_add(&mut library, input));

@@ -1,8 +1,7 @@
 //! Reliable messages: a table of retained PDUs that is nearly full.
 
 use crate::plain;
-use crate::timing::{measure, Measured};
-use crate::{copy, ROOM};
+use crate::timing::{copy, measure, Measured};
 use mant::raw::{self, Answer, Outcome, Retained, Sending, RECORDS};
 use reference::{Done, Table};
 use std::hint::black_box;
@@ -130,7 +129,6 @@ pub fn retaining_and_freeing(length: usize) -> [Measured; 4] {
     let answer = acknowledgement(99);
     measure(
         &command(99, length),
-        ROOM,
         [
             &mut |input: &[u8], output: &mut [u8]| {
                 black_box(raw::retain(&mut library, 1_000, 1_000, input));
@@ -167,7 +165,6 @@ pub fn stepping(length: usize, delay: u64) -> [Measured; 4] {
     let (times, settings) = ((1_000, 1_000), (delay, u64::MAX));
     measure(
         &command(0, length),
-        ROOM,
         [
             &mut |_: &[u8], output: &mut [u8]| {
                 black_box(raw::retry(&mut library, times, settings, output));

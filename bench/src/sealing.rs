@@ -2,8 +2,7 @@
 
 use crate::inputs;
 use crate::plain;
-use crate::timing::{measure, Measured};
-use crate::{copy, ROOM};
+use crate::timing::{copy, measure, Measured, ROOM};
 use mant::raw::{self, Key, SOURCE_WORDS};
 use reference::Accepted;
 use std::hint::black_box;
@@ -33,7 +32,6 @@ pub fn sealing(payload: usize) -> [Measured; 4] {
     let length = pdu.len();
     measure(
         &pdu,
-        ROOM,
         [
             &mut |input: &[u8], output: &mut [u8]| {
                 black_box(raw::seal(black_box(KEY), 850, input, output));
@@ -55,7 +53,6 @@ pub fn opening(payload: usize) -> [Measured; 4] {
     let length = pdu.len();
     measure(
         &pdu,
-        ROOM,
         [
             &mut |input: &[u8], output: &mut [u8]| {
                 let mut record = [0; SOURCE_WORDS];
@@ -83,10 +80,9 @@ pub fn openssl(payload: usize) -> Option<Measured> {
     let first = [3, 0xE8, 0, 3, 82, 0, 0, 0, 0, 0, 0, 0, 0, 0, 0, 0];
     let [measured] = measure(
         &bytes,
-        ROOM,
         [&mut |input: &[u8], output: &mut [u8]| {
-            black_box(plain::openssl_sha1(input));
-            plain::openssl_counter_mode(black_box(&KEY.bytes), &first, input, output);
+            black_box(crate::openssl::sha1(input));
+            crate::openssl::counter_mode(black_box(&KEY.bytes), &first, input, output);
         }],
     );
     Some(measured)

@@ -1,14 +1,15 @@
 //! The plain C version is measured as an equal, so it must answer as the
 //! reference does.
 
+mod retaining;
+
 use crate::plain;
 use generator::{
-    edition, eight_lists, empty_record, exchange, exchanged_pdu, habits, openings, origination,
-    output, pace, payload_to_send, queue_deed, received, reliable_deed, room, settings_for,
-    to_seal, QueueDeed, Random, ReliableDeed,
+    edition, eight_lists, empty_record, exchange, exchanged_pdu, openings, origination, output,
+    pace, payload_to_send, queue_deed, received, room, settings_for, to_seal, QueueDeed, Random,
 };
 use mant::raw;
-use reference::{Accepted, Choice, Done, Lists, Queue, Sending, Stations, Table};
+use reference::{Accepted, Choice, Queue, Stations};
 
 const INPUTS: usize = 20_000;
 
@@ -160,91 +161,6 @@ fn plain_writes_exchanges_as_the_reference_does() {
         assert_eq!((written.number, written.length), wanted);
         assert_eq!(one, other);
     }
-}
-
-#[test]
-fn plain_retains_as_the_reference_does() {
-    let mut random = Random::from_seed(10);
-    for _ in 0..INPUTS / 20 {
-        let (habits, mut table) = (habits(&mut random), Table::free());
-        let mut plain = [raw::Retained::FREE; raw::RECORDS];
-        for _ in 0..habits.turns {
-            let deed = reliable_deed(&mut random, &habits, &table);
-            let (outcome, wanted) = retained(&mut plain, &mut table, deed);
-            let number = wanted.err().unwrap_or(0);
-            assert_eq!((outcome.number, outcome.last), (number, table.last()));
-            let deed = wanted.map_or(0, |done| match done {
-                Done::Nothing => 0,
-                Done::Retained(..) => 1,
-                Done::SentAgain(..) => 2,
-                Done::Failed(..) => 3,
-                Done::Acknowledged(..) => 4,
-                Done::Answered(..) => 5,
-            });
-            assert_eq!(outcome.deed, deed);
-            for (plain, record) in plain.iter().zip(table.records()) {
-                let pdu = record.as_ref().map_or(&[][..], |record| &record.pdu);
-                assert_eq!(&plain.pdu[..plain.length], pdu);
-                let numbers = record.as_ref().map(|record| (record.sent_at, record.count));
-                assert_eq!((plain.sent_at, plain.count), numbers.unwrap_or((0, 0)));
-            }
-        }
-    }
-}
-
-/// A deed with the plain table and the reference's.
-fn retained(
-    plain: &mut [raw::Retained],
-    table: &mut Table,
-    deed: ReliableDeed,
-) -> (raw::Outcome, Result<Done, u8>) {
-    let last = table.last();
-    match deed {
-        ReliableDeed::Retain(time, pdu) => {
-            let outcome = plain::retain(plain, last, time, &pdu);
-            (outcome, table.retain(time, &pdu))
-        }
-        ReliableDeed::Step(time, delay, tries, room) => {
-            let (mut one, mut other) = (vec![0; room], vec![0; room]);
-            let outcome = plain::retry(plain, (last, time), (delay, tries), &mut one);
-            let wanted = table.step(time, delay, tries, &mut other);
-            assert_eq!(one, other);
-            (outcome, wanted)
-        }
-        ReliableDeed::Hear(settings, bytes, sending, room) => {
-            let answer = reference::hear(12, &settings, &Lists::EMPTY, &bytes, &mut [0; 5_000]);
-            heard((plain, table), (&bytes, answer.delivery), &sending, room)
-        }
-        ReliableDeed::Answer(bytes, delivery, sending, room) => {
-            heard((plain, table), (&bytes, delivery), &sending, room)
-        }
-    }
-}
-
-/// A PDU that was answered with this delivery number.
-fn heard(
-    (plain, table): (&mut [raw::Retained], &mut Table),
-    (bytes, delivery): (&[u8], u8),
-    sending: &Sending,
-    room: usize,
-) -> (raw::Outcome, Result<Done, u8>) {
-    let (mut one, mut other) = (vec![0; room], vec![0; room]);
-    let answer = raw::Answer {
-        delivery,
-        taken: usize::from(delivery == 0),
-        ..raw::Answer::default()
-    };
-    let settings = raw::Sending {
-        hop_limit: sending.hop,
-        port: sending.port,
-        time_stamp_request: sending.time_stamp_request,
-        with_path: sending.path,
-    };
-    let last = table.last();
-    let outcome = plain::acknowledge(plain, last, bytes, answer, settings, &mut one);
-    let wanted = table.heard(bytes, delivery, sending, &mut other);
-    assert_eq!(one, other);
-    (outcome, wanted)
 }
 
 #[test]

@@ -22,8 +22,8 @@ pub const OFFSETS: [(usize, usize); 9] = [
 pub const ROUNDS: usize = 90;
 /// About how long a contender runs in one round, in ns.
 const SLICE: f64 = 2_000_000.0;
-/// Room of the output.
-const ROOM: usize = 5_000;
+/// Room of the output: the largest that a case copies.
+pub const ROOM: usize = 16_384;
 /// Room of the two buffers, at a whole page each.
 const BUFFER: usize = 8 * PAGE;
 
@@ -54,6 +54,13 @@ fn hidden_mut(bytes: &mut [u8]) -> &mut [u8] {
     unsafe { slice::from_raw_parts_mut(black_box(bytes.as_mut_ptr()), black_box(bytes.len())) }
 }
 
+/// Copies so many bytes, the number not known to the compiler.
+pub fn copy(from: &[u8], to: &mut [u8], count: usize) {
+    let count = black_box(count).min(from.len()).min(to.len());
+    // SAFETY: both slices have so many bytes, and don't overlap.
+    unsafe { std::ptr::copy_nonoverlapping(from.as_ptr(), to.as_mut_ptr(), count) };
+}
+
 /// Best and median, in ns for one run.
 #[derive(Clone, Copy, Debug)]
 pub struct Measured {
@@ -64,12 +71,8 @@ pub struct Measured {
 }
 
 /// Measures the contenders side by side on the same input.
-pub fn measure<const N: usize>(
-    input: &[u8],
-    room: usize,
-    contenders: [&mut dyn Contender; N],
-) -> [Measured; N] {
-    let mut buffers = Buffers::new(input, room.max(ROOM));
+pub fn measure<const N: usize>(input: &[u8], contenders: [&mut dyn Contender; N]) -> [Measured; N] {
+    let mut buffers = Buffers::new(input);
     let mut times = contenders.map(|contender| (contender, vec![], 1));
     for (contender, _, count) in &mut times {
         *count = calibrate(*contender, &mut buffers);
@@ -106,16 +109,14 @@ fn summed_up(mut rounds: Vec<f64>) -> Measured {
 /// The two buffers.
 struct Buffers<'a> {
     input: &'a [u8],
-    room: usize,
     from: Vec<u8>,
     to: Vec<u8>,
 }
 
 impl Buffers<'_> {
-    fn new(input: &[u8], room: usize) -> Buffers<'_> {
+    fn new(input: &[u8]) -> Buffers<'_> {
         Buffers {
             input,
-            room,
             from: vec![0; BUFFER],
             to: vec![0; BUFFER],
         }
@@ -127,7 +128,7 @@ impl Buffers<'_> {
         let to = page_start(&self.to) + offsets.1;
         let input = &mut self.from[from..from + self.input.len()];
         input.copy_from_slice(self.input);
-        let output = &mut self.to[to..to + self.room];
+        let output = &mut self.to[to..to + ROOM];
         contender.run(count / 16 + 1, input, output);
         let started = Instant::now();
         contender.run(count, input, output);
