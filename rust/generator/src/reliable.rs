@@ -1,25 +1,16 @@
 //! Reliable messages (02, W-210): what is done with a table of retained PDUs,
-//! and records that hold one (include/mant.h, "Reliable messages").
+//! and records that hold one.
+
+mod pdus;
+mod records;
 
 use crate::output::room;
 use crate::random::Random;
-use crate::received::{cut, damaged, received};
 use crate::settings::{setting, settings};
-use crate::shape::{address, shape, Shape};
-use reference::{read, Sending, Settings, Table, MOST_RETAINED, RECORDS};
-
-/// A record as it lies in memory, in use or not.
-#[derive(Clone, Debug, PartialEq, Eq)]
-pub struct Record {
-    /// The PDU in the first bytes.
-    pub pdu: [u8; MOST_RETAINED],
-    /// How many bytes the PDU has.
-    pub length: usize,
-    /// When it was last sent.
-    pub sent_at: u64,
-    /// How often it was sent again.
-    pub count: u64,
-}
+use crate::shape::address;
+use pdus::{answer_to, heard, to_retain};
+pub use records::{records, Record};
+use reference::{Sending, Settings, Table, MOST_RETAINED};
 
 /// What is done with a table.
 #[derive(Clone, Debug, PartialEq, Eq)]
@@ -62,47 +53,6 @@ pub fn habits(random: &mut Random) -> Habits {
         ids: random.pick(&[2, 6, 20, 256]),
         delay: random.pick(&[0, 1, 2, 5, 30, 30]),
         tries: random.pick(&[0, 1, 1, 2, 3, u64::MAX]),
-    }
-}
-
-/// Records that hold a table, mostly 16 of them: all zeros, any bytes, or PDUs
-/// to and from the node of a history, with any times and counts.
-pub fn records(random: &mut Random, habits: &Habits) -> Vec<Record> {
-    let count = match random.below(12) {
-        0 => random.pick(&[0, 1, 15, 17, 32]),
-        _ => RECORDS,
-    };
-    let kind = random.below(3);
-    (0..count).map(|_| record(random, habits, kind)).collect()
-}
-
-/// One record: of zeros, of any bytes, or put together by hand.
-fn record(random: &mut Random, habits: &Habits, kind: usize) -> Record {
-    let mut bytes = [0; MOST_RETAINED];
-    if kind == 0 {
-        return Record {
-            pdu: bytes,
-            length: 0,
-            sent_at: 0,
-            count: 0,
-        };
-    }
-    bytes.copy_from_slice(&random.bytes(MOST_RETAINED));
-    let mut length = random.between(0, 260);
-    if kind == 2 {
-        let pdu = to_retain(random, habits);
-        length = pdu.len();
-        let part = pdu.len().min(MOST_RETAINED);
-        bytes[..part].copy_from_slice(&pdu[..part]);
-    }
-    Record {
-        pdu: bytes,
-        length: match random.below(12) {
-            0 => random.pick(&[0, 255, 256, 257, 1 << 32, usize::MAX]),
-            _ => length,
-        },
-        sent_at: random.draw() >> random.below(65).min(63),
-        count: random.draw() >> random.below(65).min(63),
     }
 }
 
@@ -179,82 +129,6 @@ fn sending(random: &mut Random) -> Sending {
         time_stamp_request: random.flag(),
         path: random.flag(),
     }
-}
-
-/// A reliable PDU between the node of a history and one of the others.
-fn command(random: &mut Random, habits: &Habits) -> Shape {
-    let mut pdu = shape(random);
-    pdu.reliable = true;
-    pdu.ack = false;
-    pdu.source = habits.own_address;
-    pdu.destination = Some(random.pick(&habits.others));
-    pdu.pdu_id = random.below(habits.ids) as u8;
-    pdu.path = random.flag().then(Vec::new);
-    let header = pdu.header_length();
-    let length = match random.below(12) {
-        0 => 256,
-        1 => 255,
-        2 => 257,
-        3 => random.between(200, 300),
-        _ => header + random.below(20),
-    };
-    pdu.payload = random.bytes(length.saturating_sub(header));
-    pdu
-}
-
-/// Mostly a PDU that can be retained; else one with a path address or ACK set
-/// or best efforts, a damaged or a cut one, or one with a byte after it.
-fn to_retain(random: &mut Random, habits: &Habits) -> Vec<u8> {
-    let mut pdu = command(random, habits);
-    match random.below(24) {
-        0 => pdu.path = Some(vec![address(random)]),
-        1 => pdu.ack = true,
-        2 => pdu.reliable = false,
-        3 => return damaged(random),
-        4 => return cut(random),
-        5 => return [pdu.bytes(), random.bytes(1)].concat(),
-        6 => return received(random),
-        _ => {}
-    }
-    pdu.bytes()
-}
-
-/// What the node hears: an acknowledgement, a PDU to be acknowledged, or bytes
-/// of any kind.
-fn heard(random: &mut Random, habits: &Habits, table: &Table) -> Vec<u8> {
-    match random.one_in(6) {
-        true => received(random),
-        false => answer_to(random, habits, table).bytes(),
-    }
-}
-
-/// A reliable PDU to the node: often the acknowledgement of one retained, now
-/// and then with a field that does not match; at times with an added header or
-/// for another.
-fn answer_to(random: &mut Random, habits: &Habits, table: &Table) -> Shape {
-    let mut pdu = command(random, habits);
-    pdu.source = random.pick(&habits.others);
-    pdu.destination = Some(habits.own_address);
-    pdu.ack = random.flag();
-    pdu.added_header = random.one_in(8);
-    let used: Vec<_> = table.records().iter().flatten().collect();
-    if !used.is_empty() && !random.one_in(3) {
-        if let Ok(header) = read(&used[random.below(used.len())].pdu) {
-            pdu.ack = true;
-            pdu.source = header.destination.unwrap_or(0);
-            pdu.destination = Some(header.source);
-            pdu.pdu_id = header.pdu_id.unwrap_or(0);
-        }
-    }
-    match random.below(12) {
-        0 => pdu.source = address(random),
-        1 => pdu.destination = Some(address(random)),
-        2 => pdu.pdu_id = random.byte(),
-        3 => pdu.reliable = false,
-        4 => pdu.path = Some(vec![random.word()]),
-        _ => {}
-    }
-    pdu
 }
 
 #[cfg(test)]
