@@ -1,6 +1,7 @@
 //! 01, "Checked by hand": P1 to P14, the printed example of `relay`, and the
 //! cases without a P.
 
+use crate::{bytes, node, ASKED};
 use reference::*;
 
 /// The example of document 002, the first PDU of 01's job.
@@ -18,25 +19,8 @@ const PRINTED: &str = "relay 2000
 end 2 26
 ";
 
-fn hex(text: &str) -> Vec<u8> {
-    let digits: Vec<u32> = text.chars().filter_map(|c| c.to_digit(16)).collect();
-    digits
-        .chunks(2)
-        .map(|pair| (pair[0] * 16 + pair[1]) as u8)
-        .collect()
-}
-
 fn starting(first: u8) -> Vec<u8> {
     vec![first, 0, 0, 0, 0, 0]
-}
-
-fn node(own_address: u16, echo: bool) -> Settings {
-    Settings {
-        own_address,
-        echo,
-        repeating: true,
-        ..Settings::default()
-    }
 }
 
 /// Delivery number, repeat number and the repeated PDU, with ample room.
@@ -49,25 +33,21 @@ fn heard(settings: &Settings, received: &[u8]) -> (u8, u8, Vec<u8>) {
 
 fn origination(hop: u64) -> Origination {
     Origination {
-        edition: EDITION_1_2,
-        encrypted: false,
-        reliable: false,
-        time_stamp_request: false,
         path: true,
-        port: 0,
         hop,
         source: 1000,
         destination: Some(1600),
         pdu_id: 9,
+        ..ASKED
     }
 }
 
 /// A PDU with a path of so many entries and no payload, from node 5.
 fn with_path(count: u8) -> Vec<u8> {
-    let mut bytes = hex("020010000005");
-    bytes.push(count);
-    bytes.resize(7 + 2 * usize::from(count), 0xEE);
-    bytes
+    let mut pdu = bytes("020010000005");
+    pdu.push(count);
+    pdu.resize(7 + 2 * usize::from(count), 0xEE);
+    pdu
 }
 
 #[test]
@@ -77,10 +57,10 @@ fn p1_five_bytes() {
 
 #[test]
 fn p2_six_bytes() {
-    let bytes = hex("000000000005");
-    let header = read(&bytes).unwrap();
+    let received = bytes("000000000005");
+    let header = read(&received).unwrap();
     assert_eq!(header.source, 5);
-    assert_eq!(header.payload(&bytes), &[] as &[u8]);
+    assert_eq!(header.payload(&received), &[] as &[u8]);
 }
 
 #[test]
@@ -105,26 +85,20 @@ fn p6_destination_past_end() {
 
 #[test]
 fn p7_payload_past_end() {
-    assert_eq!(read(&hex("000000010005")), Err(6));
+    assert_eq!(read(&bytes("000000010005")), Err(6));
 }
 
 #[test]
 fn p8_example_at_node_2000() {
-    let answer = heard(&node(2000, true), &hex(EXAMPLE));
-    assert_eq!(answer, (39, 0, hex(REPEATED)));
+    let answer = heard(&node(2000), &bytes(EXAMPLE));
+    assert_eq!(answer, (39, 0, bytes(REPEATED)));
 }
 
 #[test]
 fn p9_example_at_its_destination() {
-    let received = hex(EXAMPLE);
+    let received = bytes(EXAMPLE);
     let mut out = [0xAA; MOST_PDU];
-    let answer = hear(
-        EDITION_1_2,
-        &node(1600, true),
-        &Lists::EMPTY,
-        &received,
-        &mut out,
-    );
+    let answer = hear(EDITION_1_2, &node(1600), &Lists::EMPTY, &received, &mut out);
     assert_eq!((answer.delivery, answer.repeat), (0, 41));
     assert_eq!(answer.delivered, (9, 11));
     assert_eq!(out, [0xAA; MOST_PDU]);
@@ -132,23 +106,27 @@ fn p9_example_at_its_destination() {
 
 #[test]
 fn p10_echo_before_hop_limit() {
-    let answer = heard(&node(2000, true), &hex(REPEATED));
+    let answer = heard(&node(2000), &bytes(REPEATED));
     assert_eq!(answer, (30, 30, vec![]));
 }
 
 #[test]
 fn p11_echo_off() {
-    let answer = heard(&node(2000, false), &hex(REPEATED));
+    let settings = Settings {
+        echo: false,
+        ..node(2000)
+    };
+    let answer = heard(&settings, &bytes(REPEATED));
     assert_eq!(answer, (39, 37, vec![]));
 }
 
 #[test]
 fn p12_hop_7_kept() {
-    let mut received = hex(EXAMPLE);
+    let mut received = bytes(EXAMPLE);
     received[2] = 0x70;
-    let mut repeated = hex(REPEATED);
+    let mut repeated = bytes(REPEATED);
     repeated[2] = 0x70;
-    assert_eq!(heard(&node(2000, true), &received), (39, 0, repeated));
+    assert_eq!(heard(&node(2000), &received), (39, 0, repeated));
 }
 
 #[test]
@@ -157,7 +135,7 @@ fn p13_hop_setting() {
     assert_eq!(originate(&origination(15), &[], &mut out), (10, 0));
     assert_eq!(out, [0xAA; 20]);
     assert_eq!(originate(&origination(7), &[], &mut out), (0, 9));
-    assert_eq!(out[..9], hex("0300700003E8064000"));
+    assert_eq!(out[..9], bytes("0300700003E8064000"));
     assert_eq!(out[9..], [0xAA; 11]);
 }
 
@@ -165,22 +143,22 @@ fn p13_hop_setting() {
 fn p14_empty_source_pass_list() {
     let settings = Settings {
         source_pass: Choice::First,
-        ..node(2000, true)
+        ..node(2000)
     };
-    assert_eq!(heard(&settings, &hex(EXAMPLE)), (31, 31, vec![]));
+    assert_eq!(heard(&settings, &bytes(EXAMPLE)), (31, 31, vec![]));
 }
 
 #[test]
 fn the_job_prints_what_01_prints() {
-    assert_eq!(relay(&hex(JOB)), PRINTED);
+    assert_eq!(relay(&bytes(JOB)), PRINTED);
 }
 
 #[test]
 fn path_of_254_is_repeated_and_255_is_not() {
-    let (delivery, repeat, repeated) = heard(&node(7, true), &with_path(254));
+    let (delivery, repeat, repeated) = heard(&node(7), &with_path(254));
     assert_eq!((delivery, repeat, repeated.len()), (0, 0, 7 + 510));
     assert_eq!((repeated[6], &repeated[515..]), (255, &[0, 7][..]));
-    assert_eq!(heard(&node(7, true), &with_path(255)), (0, 38, vec![]));
+    assert_eq!(heard(&node(7), &with_path(255)), (0, 38, vec![]));
 }
 
 #[test]

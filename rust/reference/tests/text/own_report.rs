@@ -1,27 +1,7 @@
 //! 02, W-203, sentence by sentence.
 
+use crate::{node, report};
 use reference::*;
-
-/// A node with echo and repeating on.
-fn node(own_address: u16) -> Settings {
-    Settings {
-        own_address,
-        echo: true,
-        repeating: true,
-        ..Settings::default()
-    }
-}
-
-/// A PDU for everyone from node 9 with this hop limit and path.
-fn report(hop_limit: u8, path: Option<&[u16]>) -> Vec<u8> {
-    let mut bytes = vec![0, 0, hop_limit << 4, 0, 0, 9];
-    if let Some(path) = path {
-        bytes[0] = 2;
-        bytes.push(path.len() as u8);
-        bytes.extend(path.iter().flat_map(|address| address.to_be_bytes()));
-    }
-    bytes
-}
 
 /// Heard with room: the two numbers and the repeated PDU.
 fn heard(settings: &Settings, lists: &Lists, received: &[u8]) -> (u8, u8, Vec<u8>) {
@@ -41,7 +21,7 @@ fn numbers(settings: &Settings, received: &[u8]) -> (u8, u8) {
 fn dropped_with_the_path_bit_or_without() {
     for hop_limit in 0..=7 {
         for path in [None, Some(&[][..]), Some(&[1, 2])] {
-            let received = report(hop_limit, path);
+            let received = report(9, hop_limit, path);
             assert_eq!(numbers(&node(9), &received), (42, 42));
         }
     }
@@ -67,9 +47,9 @@ fn nothing_is_delivered_and_it_is_taken() {
 
 #[test]
 fn directly_after_30() {
-    assert_eq!(numbers(&node(9), &report(7, Some(&[1, 9]))), (30, 30));
-    assert_eq!(numbers(&node(1), &report(7, Some(&[1, 9]))), (30, 30));
-    assert_eq!(numbers(&node(9), &report(7, Some(&[1]))), (42, 42));
+    assert_eq!(numbers(&node(9), &report(9, 7, Some(&[1, 9]))), (30, 30));
+    assert_eq!(numbers(&node(1), &report(9, 7, Some(&[1, 9]))), (30, 30));
+    assert_eq!(numbers(&node(9), &report(9, 7, Some(&[1]))), (42, 42));
 }
 
 #[test]
@@ -77,12 +57,12 @@ fn before_the_lists_and_after_their_faults_and_reading() {
     let every = [0, 65_535];
     let mut settings = node(9);
     settings.source_pass = Choice::First;
-    let passes_none = heard(&settings, &Lists::EMPTY, &report(7, None));
+    let passes_none = heard(&settings, &Lists::EMPTY, &report(9, 7, None));
     assert_eq!(passes_none, (42, 42, vec![]));
     settings = node(9);
     settings.source_reject = Choice::First;
     let rejects_all = Lists::firsts([&[], &every, &[], &[]]);
-    let rejected = heard(&settings, &rejects_all, &report(7, None));
+    let rejected = heard(&settings, &rejects_all, &report(9, 7, None));
     assert_eq!(rejected, (42, 42, vec![]));
     settings = node(9);
     settings.destination_pass = Choice::First;
@@ -90,7 +70,7 @@ fn before_the_lists_and_after_their_faults_and_reading() {
     let with_destination = [1, 0, 0x70, 0, 0, 9, 0, 8];
     assert_eq!(numbers(&settings, &with_destination), (42, 42));
     let fault = Lists::firsts([&[1], &[], &[], &[]]);
-    assert_eq!(heard(&settings, &fault, &report(7, None)).0, 21);
+    assert_eq!(heard(&settings, &fault, &report(9, 7, None)).0, 21);
     assert_eq!(numbers(&settings, &with_destination[..7]), (5, 5));
 }
 
@@ -98,26 +78,26 @@ fn before_the_lists_and_after_their_faults_and_reading() {
 fn neither_with_echo_off() {
     let mut settings = node(9);
     settings.echo = false;
-    assert_eq!(numbers(&settings, &report(7, None)), (0, 0));
-    assert_eq!(numbers(&settings, &report(7, Some(&[1, 9]))), (0, 0));
-    assert_eq!(numbers(&settings, &report(0, Some(&[]))), (0, 37));
+    assert_eq!(numbers(&settings, &report(9, 7, None)), (0, 0));
+    assert_eq!(numbers(&settings, &report(9, 7, Some(&[1, 9]))), (0, 0));
+    assert_eq!(numbers(&settings, &report(9, 0, Some(&[]))), (0, 37));
 }
 
 #[test]
 fn it_is_the_source_that_is_looked_at() {
-    assert_eq!(numbers(&node(8), &report(7, None)), (0, 0));
+    assert_eq!(numbers(&node(8), &report(9, 7, None)), (0, 0));
     let for_this_node = [1, 0, 0x70, 0, 0, 9, 0, 8];
     assert_eq!(numbers(&node(8), &for_this_node), (0, 41));
-    assert_eq!(numbers(&node(9 * 256), &report(7, None)), (0, 0));
+    assert_eq!(numbers(&node(9 * 256), &report(9, 7, None)), (0, 0));
 }
 
 #[test]
 fn the_table_counts_it_as_echo() {
     let mut stations = Stations::empty();
     for received in [
-        report(7, None),
-        report(7, Some(&[3])),
-        report(0, Some(&[9])),
+        report(9, 7, None),
+        report(9, 7, Some(&[3])),
+        report(9, 0, Some(&[9])),
     ] {
         let (_, number) = hear_and_count(
             EDITION_1_2,
@@ -136,7 +116,7 @@ fn the_table_counts_it_as_echo() {
 
 /// How often a report of node 9 goes out where every node hears everything.
 fn transmissions(nodes: &[Settings], hop_limit: u8) -> usize {
-    let mut sent = vec![report(hop_limit, Some(&[]))];
+    let mut sent = vec![report(9, hop_limit, Some(&[]))];
     let mut next = 0;
     while next < sent.len() && sent.len() < 1000 {
         let received = sent[next].clone();

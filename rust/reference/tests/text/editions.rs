@@ -1,5 +1,6 @@
 //! 02, W-209: what the editions show, and where 16 and 17 stand.
 
+use crate::ASKED;
 use reference::*;
 
 /// Numbers that are no edition: beside the two, and those that one of them
@@ -34,14 +35,10 @@ fn asked(edition: u64, encrypted: bool) -> Origination {
     Origination {
         edition,
         encrypted,
-        reliable: false,
-        time_stamp_request: false,
-        path: false,
         port: 15,
         hop: 7,
         source: 5,
-        destination: None,
-        pdu_id: 0,
+        ..ASKED
     }
 }
 

@@ -1,28 +1,14 @@
 //! 02, W-201, sentence by sentence.
 
+use crate::{node, report};
 use reference::*;
 
 /// Node 2000, echo and repeating on.
-const NODE: Settings = Settings {
-    own_address: 2000,
-    echo: true,
-    repeating: true,
-    source_pass: Choice::None,
-    source_reject: Choice::None,
-    destination_pass: Choice::None,
-    destination_reject: Choice::None,
-};
+const NODE: Settings = node(2000);
 
 /// A PDU for everyone from this source, with hop limit 7 and this path.
 fn pdu(source: u16, path: Option<&[u16]>) -> Vec<u8> {
-    let [high, low] = source.to_be_bytes();
-    let mut bytes = vec![0, 0, 0x70, 0, high, low];
-    if let Some(path) = path {
-        bytes[0] = 2;
-        bytes.push(path.len() as u8);
-        bytes.extend(path.iter().flat_map(|address| address.to_be_bytes()));
-    }
-    bytes
+    report(source, 7, path)
 }
 
 /// Heard at node 2000 with ample room: the delivery number and the table's.

@@ -1,14 +1,8 @@
 //! 02, W-212, sentence by sentence; the published vectors, and document 002's
 //! example.
 
+use crate::bytes;
 use reference::*;
-
-/// Bytes from hex digits; white space counts for nothing.
-fn bytes(hex: &str) -> Vec<u8> {
-    let digits: Vec<char> = hex.chars().filter(|c| !c.is_whitespace()).collect();
-    let byte = |pair: &[char]| u8::from_str_radix(&pair.iter().collect::<String>(), 16).unwrap();
-    digits.chunks(2).map(byte).collect()
-}
 
 /// 16 bytes from hex digits.
 fn block(hex: &str) -> [u8; 16] {

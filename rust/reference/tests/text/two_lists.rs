@@ -1,5 +1,6 @@
 //! 02, W-211: two lists of each kind.
 
+use crate::node;
 use reference::*;
 
 const CHOICES: [Choice; 3] = [Choice::None, Choice::First, Choice::Second];
@@ -11,13 +12,11 @@ const PDU: [u8; 8] = [1, 0, 0x20, 0, 0, 5, 0, 7];
 fn delivery(choices: [Choice; 4], lists: [&[u16]; 8]) -> u8 {
     let [source_pass, source_reject, destination_pass, destination_reject] = choices;
     let settings = Settings {
-        own_address: 9,
-        echo: true,
-        repeating: true,
         source_pass,
         source_reject,
         destination_pass,
         destination_reject,
+        ..node(9)
     };
     let answer = hear(EDITION_1_2, &settings, &Lists::of(lists), &PDU, &mut [0; 8]);
     answer.delivery

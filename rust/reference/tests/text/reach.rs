@@ -1,5 +1,6 @@
 //! 02, W-208, by flooding a report among nodes of the reading.
 
+use crate::{node, ASKED};
 use reference::*;
 use std::collections::BTreeMap;
 
@@ -10,16 +11,10 @@ use std::collections::BTreeMap;
 fn flooded(network: &Network) -> BTreeMap<u16, usize> {
     let mut fresh = [0; MOST_PDU];
     let settings = Origination {
-        edition: EDITION_1_2,
-        encrypted: false,
-        reliable: false,
-        time_stamp_request: false,
         path: true,
-        port: 0,
         hop: network.hop_limit as u64,
         source: network.lines[0][0],
-        destination: None,
-        pdu_id: 0,
+        ..ASKED
     };
     let (number, length) = originate(&settings, b"rain", &mut fresh);
     assert_eq!(number, 0);
@@ -52,16 +47,10 @@ fn hearers(network: &Network, sender: u16) -> Vec<u16> {
 /// What a node with echo and repeating on and empty lists makes of a
 /// transmission: the path count if it delivers it, and what it sends. Nodes
 /// have edition 1.1 or 1.2 (02, W-209), here by their address.
-fn heard(node: u16, sent: &[u8]) -> (Option<usize>, Option<Vec<u8>>) {
-    let settings = Settings {
-        own_address: node,
-        echo: true,
-        repeating: true,
-        ..Settings::default()
-    };
-    let edition = [EDITION_1_1, EDITION_1_2][usize::from(node % 2)];
+fn heard(own: u16, sent: &[u8]) -> (Option<usize>, Option<Vec<u8>>) {
+    let edition = [EDITION_1_1, EDITION_1_2][usize::from(own % 2)];
     let mut out = [0; MOST_PDU];
-    let answer = hear(edition, &settings, &Lists::EMPTY, sent, &mut out);
+    let answer = hear(edition, &node(own), &Lists::EMPTY, sent, &mut out);
     let count = read(sent).unwrap().path.unwrap().len();
     let (place, length) = answer.delivered;
     if answer.delivery == 0 {
