@@ -22,7 +22,7 @@ fn plain_retains_as_the_reference_does() {
                 Done::Retained(..) => 1,
                 Done::SentAgain(..) => 2,
                 Done::Failed(..) => 3,
-                Done::Acknowledged(..) => 4,
+                Done::Freed(..) => 4,
                 Done::Answered(..) => 5,
             });
             assert_eq!(outcome.deed, deed);

@@ -2,7 +2,7 @@
 //! an answer, and nothing outside them is touched.
 
 use crate::same::{node, Input};
-use crate::table::{answer_for, in_library, in_reference, is_read, Table, NOT_HELD};
+use crate::table::{answer_for, in_reference, is_read, Table, NOT_HELD};
 use crate::Compared;
 use generator::{any_table, good_eight_lists, settings, source_near, Deed, Hearing, Random};
 use mant::raw::{self, Found, Station};
@@ -161,7 +161,7 @@ fn counted(known: Option<Station>, heard: raw::Heard) -> Station {
     let mut stations = Stations::holding(1, &held);
     let path_count = heard.path_bit.then_some(u16::from(heard.path_count));
     stations.count(heard.source, heard.echo, path_count);
-    in_library(stations.list()[0])
+    differential::station(stations.list()[0])
 }
 
 /// The stations with the counted one in the place of one that is as it was

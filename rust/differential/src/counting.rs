@@ -2,9 +2,10 @@
 //! that the table shows after each.
 
 use crate::output::Output;
-use crate::same::{answer, lists, node, wrapped, wrapped_node, Input};
-use crate::table::{answer_for, in_library, in_reference, is_read, Table, NOT_HELD};
+use crate::same::{lists, node, number, wrapped, wrapped_node, Input};
+use crate::table::{answer_for, in_reference, is_read, Table, NOT_HELD};
 use crate::Compared;
+use differential::answer;
 use generator::{address, history, source_near, Deed, Hearing, Random};
 use mant::raw::{self, Found};
 use reference::{counts_as_echo, hear, hear_and_count, read, Stations};
@@ -61,7 +62,11 @@ impl Tables {
 
     /// What the reference lists.
     fn listed(&self) -> Vec<raw::Station> {
-        self.reference.list().into_iter().map(in_library).collect()
+        self.reference
+            .list()
+            .into_iter()
+            .map(differential::station)
+            .collect()
     }
 
     /// Does a deed in all tables, and tells whether it is one that changes them.
@@ -201,11 +206,6 @@ impl Tables {
     }
 }
 
-/// The number of the wrapper's answer.
-fn number(answered: Result<(), mant::Refusal>) -> u8 {
-    answered.map_or_else(mant::Refusal::number, |()| 0)
-}
-
 /// All that a table shows: how many it holds, the whole listing, places past
 /// it, and stations by address, held and not.
 fn compare_shown(random: &mut Random, input: &Input, tables: &Tables) -> Compared {
@@ -227,7 +227,7 @@ fn compare_shown(random: &mut Random, input: &Input, tables: &Tables) -> Compare
     }
     let near = source_near(random, words);
     for address in [near, address(random), random.word()] {
-        let wanted = tables.reference.get(address).map(in_library);
+        let wanted = tables.reference.get(address).map(differential::station);
         let wanted = wanted.map_or(NOT_HELD, found);
         input.same("by address", raw::station_of(words, address), wanted)?;
     }

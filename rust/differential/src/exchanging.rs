@@ -1,8 +1,9 @@
 //! Exchanges with a separate decoder: read, written, and each from the other.
 
 use crate::output::Output;
-use crate::same::{written, Input};
+use crate::same::{length_or_number, Input};
 use crate::Compared;
+use differential::written;
 use generator::{exchange, exchanged_pdu, levels_down, room, short_exchange, Random};
 use mant::raw::{self, EXCHANGE_LIMIT};
 use reference::{read_exchange, write_exchange, Exchange};
@@ -41,30 +42,17 @@ fn compare_read(bytes: &[u8]) -> Compared {
         rest: &"an exchange to be read",
     };
     let shown = read_exchange(bytes);
-    input.same("exchange", raw::read_exchange(bytes), in_library(&shown))?;
+    input.same(
+        "exchange",
+        raw::read_exchange(bytes),
+        differential::exchange(&shown),
+    )?;
     let wrapped = mant::read_exchange(bytes).map_err(mant::Refusal::number);
     let wanted = shown.map(|parts| mant::Exchange {
         header: &bytes[parts.header],
         payload: &bytes[parts.payload],
     });
     input.same("wrapped exchange", wrapped, wanted)
-}
-
-/// An exchange as the library shows it; all 0 after a refusal.
-fn in_library(shown: &Result<Exchange, u8>) -> raw::Exchange {
-    match shown {
-        Ok(Exchange { header, payload }) => raw::Exchange {
-            number: 0,
-            header_place: header.start,
-            header_length: header.len(),
-            payload_place: payload.start,
-            payload_length: payload.len(),
-        },
-        Err(number) => raw::Exchange {
-            number: *number,
-            ..raw::Exchange::default()
-        },
-    }
 }
 
 /// What was read is written as the one encoding of its PDU, and that is read
@@ -102,15 +90,11 @@ pub fn compare_writing(random: &mut Random) -> Compared {
     let mut reference = library.clone();
     let mut wrapper = library.clone();
     let answered = raw::write_exchange(&bytes, library.room());
-    let wanted = written(write_exchange(&bytes, reference.room()));
-    input.same("exchange written", answered, wanted)?;
+    let wanted = write_exchange(&bytes, reference.room());
+    input.same("exchange written", answered, written(wanted))?;
     input.same_bytes("output", library.all(), reference.all())?;
     let wrapped = mant::write_exchange(&bytes, wrapper.room()).map_err(mant::Refusal::number);
-    let wanted = match wanted.number {
-        0 => Ok(wanted.length),
-        number => Err(number),
-    };
-    input.same("wrapped", wrapped, wanted)?;
+    input.same("wrapped", wrapped, length_or_number(wanted))?;
     input.same_bytes("wrapped output", wrapper.all(), reference.all())?;
     match answered.number {
         0 => compare_read(&library.room()[..answered.length]),

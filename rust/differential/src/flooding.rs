@@ -4,8 +4,9 @@
 //! count (02, W-203), and has edition 1.1 or 1.2 (W-209). Each answer is
 //! compared with the reference's.
 
-use crate::same::{answer, fresh, hex, lists, wrapped, wrapped_node};
+use crate::same::{hex, lists, wrapped, wrapped_node};
 use crate::Compared;
+use differential::{answer, fresh};
 use generator::{
     address, good_edition, good_eight_lists, origination, settings, EightLists, Random,
 };

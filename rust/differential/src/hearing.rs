@@ -1,8 +1,9 @@
 //! One PDU at one node.
 
 use crate::output::Output;
-use crate::same::{answer, lists, node, wrapped, wrapped_node, Input};
+use crate::same::{lists, node, wrapped, wrapped_node, Input};
 use crate::Compared;
+use differential::answer;
 use generator::{edition, eight_lists, good_eight_lists, received, room, settings_for, Random};
 use mant::raw;
 use reference::{hear, read};

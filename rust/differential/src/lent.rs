@@ -62,7 +62,7 @@ impl Lent {
                 table[place].sent_at = *time;
                 table[place].count += 1;
             }
-            (_, Ok(Done::Failed(place, _) | Done::Acknowledged(place, _))) => {
+            (_, Ok(Done::Failed(place, _) | Done::Freed(place, _))) => {
                 table[place] = Retained::FREE;
             }
             _ => {}

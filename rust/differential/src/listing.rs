@@ -1,6 +1,6 @@
 //! The lists.
 
-use crate::same::{lists, Input};
+use crate::same::{lists, number, Input};
 use crate::Compared;
 use generator::{address, bad_list, eight_lists, good_list, EightLists, Random};
 use reference::{holds, list_fault};
@@ -22,8 +22,7 @@ pub fn compare(random: &mut Random) -> Compared {
     let library = mant::raw::list_fault(eight.lists().in_order());
     input.same("list fault", library, wanted)?;
     let wrapped = mant::list_fault(&lists(&eight.lists()));
-    let number = wrapped.map_or_else(mant::Refusal::number, |()| 0);
-    input.same("wrapped list fault", number, wanted)?;
+    input.same("wrapped list fault", number(wrapped), wanted)?;
     for list in &eight.0 {
         let near = list.get(random.below(list.len().max(1))).copied();
         let near = near.unwrap_or(0);

@@ -10,6 +10,7 @@ mod by_hand;
 mod counting;
 mod exchanging;
 mod flooding;
+mod guarded;
 mod hearing;
 mod lent;
 mod listing;

@@ -1,6 +1,6 @@
-//! The memory of a queue inside a larger buffer, so that a byte written before
-//! or after it shows too, and the reading of it that `include/mant.h` gives.
+//! The memory of a queue, and the reading of it that `include/mant.h` gives.
 
+use crate::guarded::Guarded;
 use generator::Random;
 use mant::raw::{Level, QUEUE_BYTES, QUEUE_PDUS};
 use reference::read;
@@ -8,43 +8,29 @@ use reference::read;
 /// The two numbers before the PDUs have so many bytes.
 const NUMBERS: usize = 4;
 
-/// Bytes on each side of the memory.
-const GUARD: usize = 24;
-
 /// A queue's memory and what surrounds it.
 #[derive(Clone, Debug, PartialEq, Eq)]
-pub struct Memory {
-    bytes: Vec<u8>,
-    start: usize,
-    length: usize,
-}
+pub struct Memory(Guarded<u8>);
 
 impl Memory {
-    /// These bytes at any place modulo 8, between any bytes.
+    /// These bytes between any bytes.
     pub fn of(random: &mut Random, bytes: &[u8]) -> Memory {
-        let start = GUARD + random.below(8);
-        let mut all = random.bytes(start + bytes.len() + GUARD);
-        all[start..start + bytes.len()].copy_from_slice(bytes);
-        Memory {
-            bytes: all,
-            start,
-            length: bytes.len(),
-        }
+        Memory(Guarded::of(random, bytes, Random::bytes))
     }
 
     /// The memory itself.
     pub fn bytes(&self) -> &[u8] {
-        &self.bytes[self.start..self.start + self.length]
+        self.0.elements()
     }
 
     /// The same to be changed.
     pub fn change(&mut self) -> &mut [u8] {
-        &mut self.bytes[self.start..self.start + self.length]
+        self.0.change()
     }
 
     /// How many bytes of PDUs there is room for.
     pub fn capacity(&self) -> usize {
-        self.length.saturating_sub(NUMBERS).min(QUEUE_BYTES)
+        self.0.length().saturating_sub(NUMBERS).min(QUEUE_BYTES)
     }
 
     /// The two numbers as they stand; a byte that is not there counts as 0.
@@ -76,7 +62,7 @@ impl Memory {
 
     /// Is there room for the two numbers?
     pub fn has_numbers(&self) -> bool {
-        self.length >= NUMBERS
+        self.0.length() >= NUMBERS
     }
 
     /// The memory, which has the two numbers, once it holds these PDUs, the

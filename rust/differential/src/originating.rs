@@ -1,8 +1,9 @@
 //! Origination.
 
 use crate::output::Output;
-use crate::same::{fresh, written, Input};
+use crate::same::{length_or_number, Input};
 use crate::Compared;
+use differential::{fresh, written};
 use generator::{origination, payload_to_send, room, Random};
 use mant::raw;
 use reference::originate;
@@ -25,8 +26,8 @@ pub fn compare(random: &mut Random) -> Compared {
     let mut reference = library.clone();
     let mut wrapper = library.clone();
     let answered = raw::originate(asked, &payload, library.room());
-    let wanted = written(originate(&settings, &payload, reference.room()));
-    input.same("origination", answered, wanted)?;
+    let wanted = originate(&settings, &payload, reference.room());
+    input.same("origination", answered, written(wanted))?;
     input.same_bytes("output", library.all(), reference.all())?;
     let fresh = mant::Fresh {
         edition: settings.edition,
@@ -41,10 +42,7 @@ pub fn compare(random: &mut Random) -> Compared {
         encrypted: settings.encrypted,
     };
     let wrapped = mant::originate(&fresh, &payload, wrapper.room());
-    let wanted = match wanted.number {
-        0 => Ok(wanted.length),
-        number => Err(number),
-    };
-    input.same("wrapped", wrapped.map_err(mant::Refusal::number), wanted)?;
+    let wrapped = wrapped.map_err(mant::Refusal::number);
+    input.same("wrapped", wrapped, length_or_number(wanted))?;
     input.same_bytes("wrapped output", wrapper.all(), reference.all())
 }

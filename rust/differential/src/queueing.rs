@@ -3,13 +3,14 @@
 
 use crate::memory::Memory;
 use crate::output::Output;
-use crate::same::{node, Input};
+use crate::same::{node, number, Input};
 use crate::Compared;
+use differential::level;
 use generator::{
     any_queue, empty_queue, good_edition, good_eight_lists, pace, queue_deed, settings_for, Pace,
     QueueDeed, Random,
 };
-use mant::raw::{self, Level, QUEUE_LENGTH};
+use mant::raw::{self, QUEUE_LENGTH};
 use mant::Cursor;
 use reference::{Queue, Taken, MOST_PDU};
 
@@ -119,13 +120,11 @@ impl Queues {
 
     /// Bytes are added.
     fn added(&mut self, input: &Input, bytes: &[u8]) -> Result<bool, String> {
-        let number = raw::queue_add(self.library.change(), bytes);
+        let added = raw::queue_add(self.library.change(), bytes);
         let wanted = self.reference.add(bytes);
-        input.same("number of adding", number, wanted)?;
+        input.same("number of adding", added, wanted)?;
         if let Some(queue) = &mut self.wrapper {
-            let added = queue.add(bytes);
-            let number = added.map_or_else(mant::Refusal::number, |()| 0);
-            input.same("wrapped adding", number, wanted)?;
+            input.same("wrapped adding", number(queue.add(bytes)), wanted)?;
         }
         if wanted == 0 {
             self.accepted.push(bytes.to_vec());
@@ -139,7 +138,7 @@ impl Queues {
         let mut wrapper = output.clone();
         let batch = raw::queue_take(self.library.change(), library.room());
         let wanted = self.reference.take(reference.room());
-        input.same("batch", batch, in_library(wanted))?;
+        input.same("batch", batch, differential::batch(wanted))?;
         input.same_bytes("output", library.all(), reference.all())?;
         if let Some(queue) = &mut self.wrapper {
             let taken = queue.take(wrapper.room()).map_err(mant::Refusal::number);
@@ -177,23 +176,6 @@ impl Queues {
         let shown: Vec<&[u8]> = queue.iter().collect();
         let wanted: Vec<&[u8]> = held.iter().map(Vec::as_slice).collect();
         input.same("wrapper's PDUs", shown, wanted)
-    }
-}
-
-/// The level of the PDUs that are held.
-fn level(queue: &Queue) -> Level {
-    Level {
-        pdus: queue.held().len(),
-        bytes: queue.bytes(),
-    }
-}
-
-/// What was taken as the library gives it.
-fn in_library(taken: Taken) -> raw::Batch {
-    raw::Batch {
-        number: taken.number,
-        pdus: taken.pdus,
-        bytes: taken.bytes,
     }
 }
 

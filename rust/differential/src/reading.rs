@@ -1,8 +1,9 @@
 //! Reading, the path, and writing again.
 
 use crate::output::Output;
-use crate::same::{header, written, Input};
+use crate::same::Input;
 use crate::Compared;
+use differential::{header, written};
 use generator::{address, edition, received, room, Random};
 use mant::raw;
 use reference::{read, read_under, write_again, Bits, Header, Shown};

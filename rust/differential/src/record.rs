@@ -1,50 +1,35 @@
-//! The words of a record of last accepted numbers inside a larger buffer, so
-//! that a word written before or after them shows too, and the reading of them
-//! that `include/mant.h` gives.
+//! The words of a record of last accepted numbers, and the reading of them that
+//! `include/mant.h` gives.
 
+use crate::guarded::Guarded;
 use generator::Random;
 use mant::raw::SOURCE_LIMIT;
 use reference::Accepted;
 
-/// Words on each side of the record.
-const GUARD: usize = 6;
-
 /// A record's words and what surrounds them.
 #[derive(Clone, Debug, PartialEq, Eq)]
-pub struct Words {
-    words: Vec<u32>,
-    start: usize,
-    length: usize,
-}
+pub struct Words(Guarded<u32>);
 
 impl Words {
-    /// These words at any place modulo 2, between any words.
+    /// These words between any words.
     pub fn of(random: &mut Random, words: &[u32]) -> Words {
-        let start = GUARD + random.below(2);
-        let mut all: Vec<u32> = (0..start + words.len() + GUARD)
-            .map(|_| random.draw() as u32)
-            .collect();
-        all[start..start + words.len()].copy_from_slice(words);
-        Words {
-            words: all,
-            start,
-            length: words.len(),
-        }
+        let any = |random: &mut Random, count| (0..count).map(|_| random.draw() as u32).collect();
+        Words(Guarded::of(random, words, any))
     }
 
     /// The record's words.
     pub fn words(&self) -> &[u32] {
-        &self.words[self.start..self.start + self.length]
+        self.0.elements()
     }
 
     /// The same to be changed.
     pub fn change(&mut self) -> &mut [u32] {
-        &mut self.words[self.start..self.start + self.length]
+        self.0.change()
     }
 
     /// How many sources there is room for.
     fn room(&self) -> usize {
-        (self.length.saturating_sub(1) / 2).min(SOURCE_LIMIT)
+        (self.0.length().saturating_sub(1) / 2).min(SOURCE_LIMIT)
     }
 
     /// The entries that are held: source and number.

@@ -2,12 +2,13 @@
 
 use crate::lent::Lent;
 use crate::output::Output;
-use crate::same::{answer, node, Input};
+use crate::same::{node, Input};
 use crate::table::answer_for;
 use crate::Compared;
+use differential::{answer, names_of, outcome};
 use generator::{edition, habits, records, reliable_deed, Random, ReliableDeed};
 use mant::raw::{self, Outcome, RECORDS};
-use reference::{hear, Done, Lists, Names, Sending, Table, MOST_PDU};
+use reference::{hear, Done, Lists, Sending, Table, MOST_PDU};
 
 /// A table in the library, in the reference, and in the wrapper where it has
 /// 16 records.
@@ -149,7 +150,7 @@ impl Tables {
         let Asked {
             received, sending, ..
         } = asked;
-        let settings = in_library(sending);
+        let settings = differential::sending(sending);
         let (table, room) = (self.library.change(), library.room());
         let outcome = raw::acknowledge(table, self.last, received, asked.answer, settings, room);
         let room = reference.room();
@@ -190,59 +191,16 @@ impl Tables {
     }
 }
 
-/// What was done as the library answers it.
-fn outcome(done: Result<Done, u8>, last: u64) -> Outcome {
-    let none = Outcome {
-        last,
-        ..Outcome::default()
-    };
-    let (deed, place, names, length) = match done {
-        Err(number) => return Outcome { number, ..none },
-        Ok(Done::Nothing) => return none,
-        Ok(Done::Retained(place, names)) => (1, place, names, 0),
-        Ok(Done::SentAgain(place, names, length)) => (2, place, names, length),
-        Ok(Done::Failed(place, names)) => (3, place, names, 0),
-        Ok(Done::Acknowledged(place, names)) => (4, place, names, 0),
-        Ok(Done::Answered(names, length)) => (5, 0, names, length),
-    };
-    Outcome {
-        deed,
-        place,
-        names: names_in_library(names),
-        length,
-        ..none
-    }
-}
-
 /// What was done as the wrapper gives it.
 fn in_wrapper(done: Done) -> mant::Deed {
     match done {
         Done::Nothing => mant::Deed::Nothing,
-        Done::Retained(place, names) => mant::Deed::Retained(place, names_in_library(names)),
+        Done::Retained(place, names) => mant::Deed::Retained(place, names_of(names)),
         Done::SentAgain(place, names, length) => {
-            mant::Deed::SentAgain(place, names_in_library(names), length)
+            mant::Deed::SentAgain(place, names_of(names), length)
         }
-        Done::Failed(place, names) => mant::Deed::Failed(place, names_in_library(names)),
-        Done::Acknowledged(place, names) => mant::Deed::Freed(place, names_in_library(names)),
-        Done::Answered(names, length) => mant::Deed::Acknowledged(names_in_library(names), length),
-    }
-}
-
-/// The reference's names as the library gives them.
-fn names_in_library(names: Names) -> mant::Names {
-    mant::Names {
-        source: names.source,
-        destination: names.destination,
-        pdu_id: names.pdu_id,
-    }
-}
-
-/// The settings of an acknowledgement for the library.
-fn in_library(sending: &Sending) -> mant::Sending {
-    mant::Sending {
-        hop_limit: sending.hop,
-        port: sending.port,
-        time_stamp_request: sending.time_stamp_request,
-        with_path: sending.path,
+        Done::Failed(place, names) => mant::Deed::Failed(place, names_of(names)),
+        Done::Freed(place, names) => mant::Deed::Freed(place, names_of(names)),
+        Done::Answered(names, length) => mant::Deed::Acknowledged(names_of(names), length),
     }
 }

@@ -3,8 +3,9 @@
 
 use crate::output::Output;
 use crate::record::Words;
-use crate::same::{written, Input};
+use crate::same::{length_or_number, Input};
 use crate::Compared;
+use differential::written;
 use generator::{any_record, empty_record, openings, repeated, to_seal, Random, ToOpen};
 use mant::raw::{self, SOURCE_WORDS};
 use reference::{open, read, seal, Accepted, MOST_PAYLOAD};
@@ -33,7 +34,8 @@ pub fn compare_sealing(random: &mut Random) -> Compared {
     input.same("sealing", sealed, written(wanted))?;
     input.same_bytes("output", library.all(), reference.all())?;
     let wrapped = mant::seal(&key, asked.number, &asked.bytes, wrapper.room());
-    input.same("wrapped sealing", number_or(wrapped), in_wrapper(wanted))?;
+    let wrapped = wrapped.map_err(mant::Refusal::number);
+    input.same("wrapped sealing", wrapped, length_or_number(wanted))?;
     input.same_bytes("wrapped output", wrapper.all(), reference.all())?;
     match (sealed.number, read(&asked.bytes)) {
         (0, Ok(header)) => {
@@ -47,10 +49,14 @@ pub fn compare_sealing(random: &mut Random) -> Compared {
 /// A sealed PDU opens to its plain payload against an empty record.
 fn compare_given_back(input: &Input, key: &mant::Key, pdu: &[u8], plain: &[u8]) -> Compared {
     let (mut record, mut output) = (mant::Record::new(), [0; MOST_PAYLOAD]);
-    let opened = number_or(record.open(key, pdu, &mut output));
+    let opened = record
+        .open(key, pdu, &mut output)
+        .map_err(mant::Refusal::number);
     input.same("opened again", opened, Ok(plain.len()))?;
     input.same_bytes("payload given back", &output[..plain.len()], plain)?;
-    let again = number_or(record.open(key, pdu, &mut output));
+    let again = record
+        .open(key, pdu, &mut output)
+        .map_err(mant::Refusal::number);
     input.same("opened a second time", again, Err(82))
 }
 
@@ -123,8 +129,9 @@ impl Records {
         input.same("opening", opened, written(wanted))?;
         input.same_bytes("output", library.all(), reference.all())?;
         if let Some(record) = &mut self.wrapper {
-            let wrapped = number_or(record.open(&key, &asked.bytes, wrapper.room()));
-            input.same("wrapped opening", wrapped, in_wrapper(wanted))?;
+            let wrapped = record.open(&key, &asked.bytes, wrapper.room());
+            let wrapped = wrapped.map_err(mant::Refusal::number);
+            input.same("wrapped opening", wrapped, length_or_number(wanted))?;
             input.same_bytes("wrapped output", wrapper.all(), reference.all())?;
         }
         Ok(match (wanted.0, read(&asked.bytes)) {
@@ -149,18 +156,5 @@ impl Records {
             }
         }
         Ok(())
-    }
-}
-
-/// The wrapper's answer with a refusal's number.
-fn number_or(answered: Result<usize, mant::Refusal>) -> Result<usize, u8> {
-    answered.map_err(mant::Refusal::number)
-}
-
-/// The reference's answer as the wrapper gives it.
-fn in_wrapper((number, length): (u8, usize)) -> Result<usize, u8> {
-    match number {
-        0 => Ok(length),
-        number => Err(number),
     }
 }

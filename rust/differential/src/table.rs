@@ -1,12 +1,9 @@
-//! Tables of stations inside a larger buffer, so that a word written before or
-//! after one shows too, and the reading of their words that `include/mant.h`
+//! Tables of stations, and the reading of their words that `include/mant.h`
 //! gives.
 
+use crate::guarded::Guarded;
 use generator::Random;
 use mant::raw::{self, Found, Station, STATION_LIMIT};
-
-/// Words on each side of the table.
-const GUARD: usize = 12;
 
 /// What asking answers where no station is held.
 pub const NOT_HELD: Found = Found {
@@ -22,40 +19,28 @@ pub const NOT_HELD: Found = Found {
 
 /// A table and what surrounds it.
 #[derive(Clone, Debug, PartialEq, Eq)]
-pub struct Table {
-    words: Vec<u16>,
-    start: usize,
-    length: usize,
-}
+pub struct Table(Guarded<u16>);
 
 impl Table {
-    /// These words at any place modulo 4, between any words.
+    /// These words between any words.
     pub fn of(random: &mut Random, words: &[u16]) -> Table {
-        let start = GUARD + random.below(4);
-        let mut all: Vec<u16> = (0..start + words.len() + GUARD)
-            .map(|_| random.word())
-            .collect();
-        all[start..start + words.len()].copy_from_slice(words);
-        Table {
-            words: all,
-            start,
-            length: words.len(),
-        }
+        let any = |random: &mut Random, count| (0..count).map(|_| random.word()).collect();
+        Table(Guarded::of(random, words, any))
     }
 
     /// The table's words.
     pub fn words(&self) -> &[u16] {
-        &self.words[self.start..self.start + self.length]
+        self.0.elements()
     }
 
     /// The same to be changed.
     pub fn change(&mut self) -> &mut [u16] {
-        &mut self.words[self.start..self.start + self.length]
+        self.0.change()
     }
 
     /// How many stations there is room for.
     pub fn room(&self) -> usize {
-        (self.length.saturating_sub(1) / 4).min(STATION_LIMIT)
+        (self.0.length().saturating_sub(1) / 4).min(STATION_LIMIT)
     }
 
     /// The stations that are held.
@@ -93,17 +78,6 @@ fn station(words: &[u16]) -> Station {
 fn four_words(station: &Station) -> [u16; 4] {
     let path = u16::from(station.has_path) * (station.shortest_path + 1);
     [station.address, station.reads, station.echoes, path]
-}
-
-/// The reference's station as the library gives it.
-pub fn in_library(station: reference::Station) -> Station {
-    Station {
-        address: station.address,
-        reads: station.reads,
-        echoes: station.echoes,
-        has_path: station.shortest_path.is_some(),
-        shortest_path: station.shortest_path.unwrap_or(0),
-    }
 }
 
 /// The library's station for the reference.

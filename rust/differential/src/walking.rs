@@ -1,8 +1,9 @@
 //! Batches, stepped by the library against the reference's walk.
 
 use crate::output::Output;
-use crate::same::{answer, lists, node, wrapped, wrapped_node, Input};
+use crate::same::{lists, node, wrapped, wrapped_node, Input};
 use crate::Compared;
+use differential::answer;
 use generator::{batch, edition, eight_lists, good_eight_lists, settings_for, EightLists, Random};
 use mant::{raw, Cursor};
 use reference::numbers::BATCH_SIZE;

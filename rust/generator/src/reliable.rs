@@ -196,7 +196,7 @@ mod tests {
         often(&seen.heard, &[0, 10, 11, 77]);
         assert!(seen.count(|done| matches!(done, Done::SentAgain(..))) > 500);
         assert!(seen.count(|done| matches!(done, Done::Failed(..))) > 500);
-        assert!(seen.count(|done| matches!(done, Done::Acknowledged(..))) > 500);
+        assert!(seen.count(|done| matches!(done, Done::Freed(..))) > 500);
         assert!(seen.count(|done| matches!(done, Done::Answered(..))) > 500);
     }
 

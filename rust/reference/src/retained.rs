@@ -46,8 +46,8 @@ pub enum Done {
     SentAgain(usize, Names, usize),
     /// The PDU of the record at this place is reported failed.
     Failed(usize, Names),
-    /// The PDU of the record at this place was acknowledged.
-    Acknowledged(usize, Names),
+    /// The record at this place was freed: its PDU was acknowledged.
+    Freed(usize, Names),
     /// A delivered PDU was answered by an acknowledgement of so many bytes.
     Answered(Names, usize),
 }
@@ -162,7 +162,7 @@ impl Table {
         let delivered = read(received).ok().filter(|_| delivery == DONE);
         let reliable = delivered.filter(|header| header.protocol == 1);
         match reliable {
-            Some(header) if header.ack => self.acknowledged(names(&header)),
+            Some(header) if header.ack => self.free_first(names(&header)),
             Some(header) => self.answer(names(&header), sending, out),
             None => self.check_size().map(|()| Done::Nothing),
         }
@@ -170,14 +170,14 @@ impl Table {
 
     /// Frees the first record with the acknowledgement's ID and its addresses
     /// exchanged; one that matches nothing is ignored.
-    fn acknowledged(&mut self, heard: Names) -> Result<Done, u8> {
+    fn free_first(&mut self, heard: Names) -> Result<Done, u8> {
         self.check_size()?;
         let sent = exchanged(heard);
         let Some(place) = self.first(|record| has_names(record, sent)) else {
             return Ok(Done::Nothing);
         };
         self.records[place] = None;
-        Ok(Done::Acknowledged(place, sent))
+        Ok(Done::Freed(place, sent))
     }
 
     /// Writes the acknowledgement of a PDU.

@@ -69,7 +69,7 @@ fn the_first_free_record_notes_the_time_and_count_0() {
     let mut table = holding(3, 7);
     assert_eq!(table.last(), 7);
     let heard = table.heard(&acknowledgement(1, 0), 0, &SENDING, &mut []);
-    assert_eq!(heard, Ok(Done::Acknowledged(1, names(1))));
+    assert_eq!(heard, Ok(Done::Freed(1, names(1))));
     let done = table.retain(9, &command(77, 0));
     assert_eq!(done, Ok(Done::Retained(1, names(77))));
     let wanted = Retained {

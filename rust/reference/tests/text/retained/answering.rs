@@ -74,7 +74,7 @@ fn an_acknowledgement_frees_the_first_that_matches() {
         let mut other = acknowledgement(1, 0);
         other[place] ^= byte;
         let heard = holding(3, 5).heard(&other, 0, &SENDING, &mut []);
-        assert_ne!(heard, Ok(Done::Acknowledged(1, names(1))));
+        assert_ne!(heard, Ok(Done::Freed(1, names(1))));
     }
     let mut not_exchanged = command(1, 0);
     not_exchanged[1] = 1;
@@ -102,6 +102,6 @@ fn two_nodes() {
     let at_base = hear(EDITION_1_2, &node(1000), &Lists::EMPTY, &out[..9], &mut []);
     assert_eq!((at_base.delivery, at_base.delivered.1), (0, 0));
     let freed = base.heard(&out[..9], at_base.delivery, &SENDING, &mut []);
-    assert_eq!(freed, Ok(Done::Acknowledged(0, names(3))));
+    assert_eq!(freed, Ok(Done::Freed(0, names(3))));
     assert_eq!((gate, base), (Table::free(), Table::of(vec![None; 16], 5)));
 }
