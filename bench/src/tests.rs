@@ -4,23 +4,15 @@
 mod retaining;
 
 use crate::plain;
+use differential::{answer, batch, fresh, level, node, station, written};
 use generator::{
     edition, eight_lists, empty_record, exchange, exchanged_pdu, openings, origination, output,
     pace, payload_to_send, queue_deed, received, room, settings_for, to_seal, QueueDeed, Random,
 };
 use mant::raw;
-use reference::{Accepted, Choice, Queue, Stations};
+use reference::{Accepted, Queue, Stations};
 
 const INPUTS: usize = 20_000;
-
-/// A choice as the library takes it.
-fn number(choice: Choice) -> u8 {
-    match choice {
-        Choice::None => raw::NO_LIST,
-        Choice::First => raw::FIRST_LIST,
-        Choice::Second => raw::SECOND_LIST,
-    }
-}
 
 #[test]
 fn plain_reads_as_the_library_does() {
@@ -40,22 +32,9 @@ fn plain_originates_as_the_reference_does() {
         let room = room(&mut random, payload.len() + 9);
         let mut one = output(&mut random, room);
         let mut other = one.clone();
-        let fresh = raw::Fresh {
-            edition: asked.edition,
-            source: asked.source,
-            has_destination: asked.destination.is_some(),
-            destination: asked.destination.unwrap_or(7),
-            hop_limit: asked.hop,
-            port: asked.port,
-            time_stamp_request: asked.time_stamp_request,
-            with_path: asked.path,
-            reliable: asked.reliable,
-            pdu_id: asked.pdu_id,
-            encrypted: asked.encrypted,
-        };
-        let written = plain::originate(fresh, &payload, &mut one);
+        let plain = plain::originate(fresh(&asked, 7), &payload, &mut one);
         let wanted = reference::originate(&asked, &payload, &mut other);
-        assert_eq!((written.number, written.length), wanted);
+        assert_eq!(plain, written(wanted));
         assert_eq!(one, other);
     }
 }
@@ -70,28 +49,10 @@ fn plain_hears_as_the_reference_does() {
         let room = room(&mut random, bytes.len() + 2);
         let mut one = output(&mut random, room);
         let mut other = one.clone();
-        let node = raw::Node {
-            own: settings.own_address,
-            echo: settings.echo,
-            repeating: settings.repeating,
-            source_pass: number(settings.source_pass),
-            source_reject: number(settings.source_reject),
-            destination_pass: number(settings.destination_pass),
-            destination_reject: number(settings.destination_reject),
-        };
-        let eight = eight.lists();
-        let answer = plain::hear(edition, node, eight.in_order(), &bytes, &mut one);
+        let (node, eight) = (node(&settings, raw::NO_LIST), eight.lists());
+        let plain = plain::hear(edition, node, eight.in_order(), &bytes, &mut one);
         let wanted = reference::hear(edition, &settings, &eight, &bytes, &mut other);
-        assert_eq!(
-            (answer.delivery, answer.repeat),
-            (wanted.delivery, wanted.repeat)
-        );
-        let delivered = (answer.delivered_place, answer.delivered_length);
-        assert_eq!(delivered, wanted.delivered);
-        let lengths = (answer.repeated_length, answer.taken);
-        assert_eq!(lengths, (wanted.repeated_length, wanted.taken));
-        let sender = answer.has_last_sender.then_some(answer.last_sender);
-        assert_eq!(sender, wanted.last_sender);
+        assert_eq!(plain, answer(&wanted));
         assert_eq!(one, other);
     }
 }
@@ -115,14 +76,8 @@ fn plain_counts_as_the_reference_does() {
         refused += usize::from(wanted == 55);
     }
     assert!(refused > 100, "{refused}");
-    let listed = stations.list();
-    assert_eq!(plain.stations().len(), listed.len());
-    for (plain, wanted) in plain.stations().iter().zip(listed) {
-        let counts = (plain.address, plain.reads, plain.echoes);
-        assert_eq!(counts, (wanted.address, wanted.reads, wanted.echoes));
-        let shortest = plain.has_path.then_some(plain.shortest_path);
-        assert_eq!(shortest, wanted.shortest_path);
-    }
+    let listed: Vec<_> = stations.list().into_iter().map(station).collect();
+    assert_eq!(plain.stations(), listed);
 }
 
 #[test]
@@ -130,21 +85,8 @@ fn plain_reads_exchanges_as_the_reference_does() {
     let mut random = Random::from_seed(5);
     for _ in 0..INPUTS {
         let bytes = exchange(&mut random);
-        let plain = plain::read_exchange(&bytes);
-        let wanted = match reference::read_exchange(&bytes) {
-            Ok(parts) => raw::Exchange {
-                number: 0,
-                header_place: parts.header.start,
-                header_length: parts.header.len(),
-                payload_place: parts.payload.start,
-                payload_length: parts.payload.len(),
-            },
-            Err(number) => raw::Exchange {
-                number,
-                ..raw::Exchange::default()
-            },
-        };
-        assert_eq!(plain, wanted);
+        let wanted = differential::exchange(&reference::read_exchange(&bytes));
+        assert_eq!(plain::read_exchange(&bytes), wanted);
     }
 }
 
@@ -156,9 +98,9 @@ fn plain_writes_exchanges_as_the_reference_does() {
         let room = room(&mut random, bytes.len() + 11);
         let mut one = output(&mut random, room);
         let mut other = one.clone();
-        let written = plain::write_exchange(&bytes, &mut one);
+        let plain = plain::write_exchange(&bytes, &mut one);
         let wanted = reference::write_exchange(&bytes, &mut other);
-        assert_eq!((written.number, written.length), wanted);
+        assert_eq!(plain, written(wanted));
         assert_eq!(one, other);
     }
 }
@@ -178,10 +120,8 @@ fn plain_queues_as_the_reference_does() {
                 QueueDeed::Take(room) => {
                     let mut one = output(&mut random, room);
                     let mut other = one.clone();
-                    let batch = plain::queue_take(&mut ring, &mut one);
-                    let wanted = queue.take(&mut other);
-                    let taken = (batch.number, batch.pdus, batch.bytes);
-                    assert_eq!(taken, (wanted.number, wanted.pdus, wanted.bytes));
+                    let taken = plain::queue_take(&mut ring, &mut one);
+                    assert_eq!(taken, batch(queue.take(&mut other)));
                     assert_eq!(one, other);
                 }
                 QueueDeed::Clear => {
@@ -189,9 +129,7 @@ fn plain_queues_as_the_reference_does() {
                     queue.clear();
                 }
             }
-            let level = plain::queue_level(&ring);
-            let wanted = (queue.held().len(), queue.bytes());
-            assert_eq!((level.pdus, level.bytes), wanted);
+            assert_eq!(plain::queue_level(&ring), level(&queue));
         }
     }
 }
@@ -204,9 +142,9 @@ fn plain_seals_as_the_reference_does() {
         let mut one = output(&mut random, asked.room);
         let mut other = one.clone();
         let key = raw::Key { bytes: asked.key };
-        let written = plain::seal(key, asked.number, &asked.bytes, &mut one);
+        let plain = plain::seal(key, asked.number, &asked.bytes, &mut one);
         let wanted = reference::seal(&asked.key, asked.number, &asked.bytes, &mut other);
-        assert_eq!((written.number, written.length), wanted);
+        assert_eq!(plain, written(wanted));
         assert_eq!(one, other);
     }
 }
@@ -223,9 +161,9 @@ fn plain_opens_as_the_reference_does() {
             let mut one = output(&mut random, asked.room);
             let mut other = one.clone();
             let key = raw::Key { bytes: asked.key };
-            let written = plain::open(key, &mut words, &asked.bytes, &mut one);
+            let plain = plain::open(key, &mut words, &asked.bytes, &mut one);
             let wanted = reference::open(&asked.key, &mut accepted, &asked.bytes, &mut other);
-            assert_eq!((written.number, written.length), wanted);
+            assert_eq!(plain, written(wanted));
             assert_eq!(one, other);
         }
     }

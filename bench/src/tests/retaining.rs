@@ -2,6 +2,7 @@
 
 use super::INPUTS;
 use crate::plain;
+use differential::outcome;
 use generator::{habits, reliable_deed, Random, ReliableDeed};
 use mant::raw;
 use reference::{Done, Lists, Sending, Table};
@@ -14,18 +15,8 @@ fn plain_retains_as_the_reference_does() {
         let mut plain = [raw::Retained::FREE; raw::RECORDS];
         for _ in 0..habits.turns {
             let deed = reliable_deed(&mut random, &habits, &table);
-            let (outcome, wanted) = retained(&mut plain, &mut table, deed);
-            let number = wanted.err().unwrap_or(0);
-            assert_eq!((outcome.number, outcome.last), (number, table.last()));
-            let deed = wanted.map_or(0, |done| match done {
-                Done::Nothing => 0,
-                Done::Retained(..) => 1,
-                Done::SentAgain(..) => 2,
-                Done::Failed(..) => 3,
-                Done::Freed(..) => 4,
-                Done::Answered(..) => 5,
-            });
-            assert_eq!(outcome.deed, deed);
+            let (answered, wanted) = retained(&mut plain, &mut table, deed);
+            assert_eq!(answered, outcome(wanted, table.last()));
             for (plain, record) in plain.iter().zip(table.records()) {
                 let pdu = record.as_ref().map_or(&[][..], |record| &record.pdu);
                 assert_eq!(&plain.pdu[..plain.length], pdu);
@@ -78,13 +69,7 @@ fn heard(
         taken: usize::from(delivery == 0),
         ..raw::Answer::default()
     };
-    let settings = raw::Sending {
-        hop_limit: sending.hop,
-        port: sending.port,
-        time_stamp_request: sending.time_stamp_request,
-        with_path: sending.path,
-    };
-    let last = table.last();
+    let (last, settings) = (table.last(), differential::sending(sending));
     let outcome = plain::acknowledge(plain, last, bytes, answer, settings, &mut one);
     let wanted = table.heard(bytes, delivery, sending, &mut other);
     assert_eq!(one, other);
