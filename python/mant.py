@@ -41,11 +41,12 @@ import dataclasses
 from typing import Iterator
 
 import mant_c
+import mant_given as given
 from mant_c import LibraryMissing, library
 from mant_numbers import Number, Refused
 from mant_reach import Reach, Reached, reach
-from mant_types import (ADDRESS, BYTE, CHOICES, EDITION_1_1, EDITION_1_2, FIRST_LIST, NO_LIST, SECOND_LIST, WORD_32, WORD_64, Answer, Exchange, Header, Limits,
-                        Lists, Node, Step, flag, whole)
+from mant_types import (ADDRESS, BYTE, EDITION_1_1, EDITION_1_2, EXCHANGE_LIMIT, FIRST_LIST, NO_LIST, SECOND_LIST, SOURCE_WORDS, WORD_64, Answer, Exchange,
+                        Header, Limits, Lists, Node, Record, Step, flag, whole)
 
 # `open` is left out, so that `from mant import *` does not take the place of Python's own
 __all__ = ['Answer', 'EDITION_1_1', 'EDITION_1_2', 'Exchange', 'FIRST_LIST', 'Header', 'LibraryMissing', 'Limits', 'Lists', 'NO_LIST', 'Node',
@@ -53,95 +54,8 @@ __all__ = ['Answer', 'EDITION_1_1', 'EDITION_1_2', 'Exchange', 'FIRST_LIST', 'He
            'most_transmissions', 'originate', 'path', 'reach', 'read', 'read_exchange', 'seal', 'walk', 'write_exchange']
 
 # known by this module's name, whichever file they stand in
-for _known in (Answer, Exchange, Header, LibraryMissing, Limits, Lists, Node, Number, Reach, Reached, Refused, Step, reach):
+for _known in (Answer, Exchange, Header, LibraryMissing, Limits, Lists, Node, Number, Reach, Reached, Record, Refused, Step, reach):
     _known.__module__ = 'mant'
-
-MOST_EXCHANGE = 4626  # MANT_EXCHANGE_LIMIT
-RECORD_WORDS = 129  # MANT_SOURCE_WORDS
-
-
-class Record:
-    """The last message number accepted from each of up to 64 sources, for `open`. `words` can be kept over a restart, and all
-    129 given to a new one; without them it is empty.
-
-    >>> Record().words[:3]
-    (0, 0, 0)
-    """
-
-    def __init__(self, words=()):
-        words = [whole('a word of the record', word, WORD_32) for word in words]
-        if len(words) not in (0, RECORD_WORDS):
-            raise ValueError(f'a record has {RECORD_WORDS} words, not {len(words)}; a new one is made without words')
-        self._words = (ctypes.c_uint32 * RECORD_WORDS)(*words)
-
-    @property
-    def words(self):
-        return tuple(self._words)
-
-
-def _bytes(name, value):
-    try:
-        return memoryview(value).tobytes()
-    except TypeError:
-        hint = '; for hex digits bytes.fromhex(..)' if isinstance(value, str) else ''
-        raise TypeError(f'{name} is {_kind(value)}; give bytes{hint}') from None
-
-
-def _kind(value):
-    return f'of type {type(value).__name__}'
-
-
-def _slice(name, value):
-    """Bytes as the library takes them, with their length."""
-    value = _bytes(name, value)
-    return value, len(value)
-
-
-def _a(kind, name, value):
-    if not isinstance(value, kind):
-        raise TypeError(f'{name} is {_kind(value)}; give a mant.{kind.__name__}')
-    return value
-
-
-def _list(name, values):
-    """A list's values as the library takes them, with their count."""
-    values = [whole(f'a value of {name}', value, ADDRESS) for value in values]
-    return (ctypes.c_uint16 * len(values))(*values), len(values)
-
-
-def _eight(lists):
-    _a(Lists, 'lists', lists)
-    return [part for field in dataclasses.fields(lists) for part in _list(field.name, getattr(lists, field.name))]
-
-
-def _node(node):
-    _a(Node, 'node', node)
-    choices = {name: getattr(node, name) for name in CHOICES}
-    return mant_c.Node(own=whole('own', node.own, ADDRESS), echo=flag('echo', node.echo), repeating=flag('repeating', node.repeating), **choices)
-
-
-def _key(key):
-    key = _bytes('key', key)
-    if len(key) != 16:
-        raise ValueError(f'a key has 16 bytes, not {len(key)}')
-    return mant_c.Key((ctypes.c_uint8 * 16)(*key))
-
-
-def _room(length=None):
-    """An output with room for every PDU, or for so many bytes."""
-    length = limits().pdu if length is None else length
-    return ctypes.create_string_buffer(length), length
-
-
-def _checked(number):
-    if number:
-        raise Refused(number)
-
-
-def _written(written, output):
-    """The bytes that were written to an output."""
-    _checked(written.number)
-    return ctypes.string_at(output[0], written.length)
 
 
 def limits():
@@ -164,9 +78,9 @@ def read(pdu, edition=EDITION_1_2):
         ...
     mant.Refused: 1: too short: every PDU has 6 bytes or more
     """
-    pdu = _bytes('pdu', pdu)
+    pdu = given.content('pdu', pdu)
     found = library().mant_read(whole('edition', edition, WORD_64), pdu, len(pdu))
-    _checked(found.number)
+    given.checked(found.number)
     return Header(
         protocol=found.protocol, time_stamp_request=found.time_stamp_request, port=found.port, encrypted=found.encrypted if found.has_encrypted else None,
         reserved=found.reserved, ack=found.ack, added_header=found.added_header, hop_limit=found.hop_limit, source=found.source,
@@ -202,8 +116,8 @@ def originate(payload, *, source, hop_limit, destination=None, port=0, time_stam
         destination=whole('destination', 0 if destination is None else destination, ADDRESS), hop_limit=whole('hop_limit', hop_limit, WORD_64),
         port=whole('port', port, WORD_64), time_stamp_request=flag('time_stamp_request', time_stamp_request), with_path=flag('with_path', with_path),
         reliable=flag('reliable', reliable), pdu_id=whole('pdu_id', pdu_id, BYTE), encrypted=flag('encrypted', encrypted))
-    output = _room()
-    return _written(library().mant_originate(fresh, *_slice('payload', payload), *output), output)
+    output = given.room()
+    return given.written(library().mant_originate(fresh, *given.sliced('payload', payload), *output), output)
 
 
 def list_fault(lists):
@@ -214,7 +128,7 @@ def list_fault(lists):
     >>> list_fault(Lists(source_pass=[1999, 1000]))
     <Number.LOW_ABOVE_HIGH: 20>
     """
-    return Number(library().mant_list_fault_eight(*_eight(lists)))
+    return Number(library().mant_list_fault_eight(*given.eight(lists)))
 
 
 def list_holds(values, address):
@@ -223,7 +137,7 @@ def list_holds(values, address):
     >>> list_holds([1000, 1999, 3000, 3000], 3000)
     True
     """
-    return library().mant_list_holds(*_list('the list', values), whole('address', address, ADDRESS))
+    return library().mant_list_holds(*given.listed('the list', values), whole('address', address, ADDRESS))
 
 
 def _answer(found, received, output):
@@ -243,8 +157,8 @@ def hear(received, node, lists=Lists(), edition=EDITION_1_2):
     >>> hear(b'short', Node(own=2000)).delivery
     <Number.TOO_SHORT: 1>
     """
-    received, output = _bytes('received', received), _room()
-    found = library().mant_hear_eight(whole('edition', edition, WORD_64), _node(node), *_eight(lists), received, len(received), *output)
+    received, output = given.content('received', received), given.room()
+    found = library().mant_hear_eight(whole('edition', edition, WORD_64), given.node(node), *given.eight(lists), received, len(received), *output)
     return _answer(found, received, output)
 
 
@@ -259,11 +173,11 @@ def walk(batch, node, lists=Lists(), edition=EDITION_1_2) -> Iterator[Step]:
     10 b'wind' 0 37
     20 None 1 1
     """
-    return _steps(_bytes('batch', batch), (whole('edition', edition, WORD_64), _node(node), *_eight(lists)))
+    return _steps(given.content('batch', batch), (whole('edition', edition, WORD_64), given.node(node), *given.eight(lists)))
 
 
 def _steps(batch, settings):
-    output, cursor = _room(), mant_c.Cursor()
+    output, cursor = given.room(), mant_c.Cursor()
     while True:
         found = library().mant_step_eight(*settings, batch, len(batch), cursor, *output)
         if found.kind == mant_c.REFUSED:
@@ -275,7 +189,7 @@ def _steps(batch, settings):
 
 
 def _bound(found):
-    _checked(found.number)
+    given.checked(found.number)
     if found.too_large:
         raise OverflowError('the bound is more than 64 bits hold')
     return found.value
@@ -308,9 +222,9 @@ def read_exchange(exchange):
     >>> read_exchange(write_exchange(bytes.fromhex('0000000203E8AABB')))
     Exchange(header=b'\\x00\\x00\\x00\\x02\\x03\\xe8', payload=b'\\xaa\\xbb', header_place=5, payload_place=14)
     """
-    exchange = _bytes('exchange', exchange)
+    exchange = given.content('exchange', exchange)
     found = library().mant_read_exchange(exchange, len(exchange))
-    _checked(found.number)
+    given.checked(found.number)
     header, payload = (exchange[place:place + length] for place, length in (
         (found.header_place, found.header_length), (found.payload_place, found.payload_length)))
     return Exchange(header, payload, found.header_place, found.payload_place)
@@ -322,8 +236,8 @@ def write_exchange(pdu):
     >>> write_exchange(bytes.fromhex('0000000203E8AABB')).hex()
     '140e8400060000000203e8840102aabb'
     """
-    output = _room(MOST_EXCHANGE)
-    return _written(library().mant_write_exchange(*_slice('pdu', pdu), *output), output)
+    output = given.room(EXCHANGE_LIMIT)
+    return given.written(library().mant_write_exchange(*given.sliced('pdu', pdu), *output), output)
 
 
 def seal(pdu, key, number):
@@ -333,8 +247,8 @@ def seal(pdu, key, number):
     >>> read(sealed).encrypted, len(read(sealed).payload)
     (True, 18)
     """
-    output = _room()
-    return _written(library().mant_seal(_key(key), whole('number', number, WORD_64), *_slice('pdu', pdu), *output), output)
+    output = given.room()
+    return given.written(library().mant_seal(given.key(key), whole('number', number, WORD_64), *given.sliced('pdu', pdu), *output), output)
 
 
 def open(pdu, key, record):
@@ -349,5 +263,5 @@ def open(pdu, key, record):
         ...
     mant.Refused: 82: its message number is not greater than the last accepted from its source
     """
-    output = _room()
-    return _written(library().mant_open(_key(key), _a(Record, 'record', record)._words, RECORD_WORDS, *_slice('pdu', pdu), *output), output)
+    output, key, words = given.room(), given.key(key), given.a(Record, 'record', record)._words
+    return given.written(library().mant_open(key, words, SOURCE_WORDS, *given.sliced('pdu', pdu), *output), output)

@@ -1,4 +1,5 @@
 """What the functions of mant.py take and answer, and the settings that C can hold."""
+import ctypes
 import operator
 from dataclasses import dataclass
 from typing import Optional, Sequence, Tuple
@@ -8,6 +9,7 @@ from mant_numbers import Number
 EDITION_1_1, EDITION_1_2 = 11, 12
 NO_LIST, FIRST_LIST, SECOND_LIST = 0, 1, 2
 CHOICES = ('source_pass', 'source_reject', 'destination_pass', 'destination_reject')
+EXCHANGE_LIMIT, SOURCE_WORDS = 4626, 129  # those of C without MANT_
 BYTE, ADDRESS, WORD_32, WORD_64 = 2**8 - 1, 2**16 - 1, 2**32 - 1, 2**64 - 1  # the most that a C type holds
 
 
@@ -134,6 +136,25 @@ class Limits:
     pdu: int
     list: int
     batch: int
+
+
+class Record:
+    """The last message number accepted from each of up to 64 sources, for `open`. `words` can be kept over a restart, and all
+    129 given to a new one; without them it is empty.
+
+    >>> Record().words[:3]
+    (0, 0, 0)
+    """
+
+    def __init__(self, words=()):
+        words = [whole('a word of the record', word, WORD_32) for word in words]
+        if len(words) not in (0, SOURCE_WORDS):
+            raise ValueError(f'a record has {SOURCE_WORDS} words, not {len(words)}; a new one is made without words')
+        self._words = (ctypes.c_uint32 * SOURCE_WORDS)(*words)
+
+    @property
+    def words(self):
+        return tuple(self._words)
 
 
 def whole(name, value, most):

@@ -107,7 +107,7 @@ def check_seal(words, answer):
 def check_record(words, answer):
     global record
     record = mant.Record()
-    return record.words, (0,) * mant.RECORD_WORDS
+    return record.words, (0,) * mant.SOURCE_WORDS
 
 
 def check_open(words, answer):
