@@ -1,6 +1,8 @@
 """The lines that `jobs lines` prints (rust/jobs/src/lines.rs): a call of the library from Python for each, beside what the independent reading answers."""
 import mant
 
+from trying import counted
+
 record = None  # what each opening is asked with
 
 
@@ -112,10 +114,6 @@ def check_record(words, answer):
 
 def check_open(words, answer):
     return refused_or(lambda: mant.open(bytes_of(words[1]), bytes_of(words[0]), record)), written(answer)
-
-
-def counted(number, what):
-    return f'{number} {what}' + ('' if number == 1 else 's')
 
 
 def said_of(node):
