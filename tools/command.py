@@ -1,5 +1,6 @@
-"""What ./relay, ./reach, ./plan and ./show share: the ways in which a command ends, its text written, and a program that it asks."""
+"""What ./relay, ./reach, ./plan and ./show share: the ways in which a command ends, what it is given, its text written, and a program that it asks."""
 import os
+import pathlib
 import subprocess
 import sys
 
@@ -8,6 +9,16 @@ import building
 
 class End(Exception):
     """An exit status, and why, in words; without words it ends silently."""
+
+
+def content_of(name):
+    """The bytes of a file, or of standard input for `-`."""
+    if name == '-' and sys.stdin is None:
+        raise End(2, 'standard input is closed')
+    try:
+        return sys.stdin.buffer.read() if name == '-' else pathlib.Path(name).read_bytes()
+    except OSError as error:
+        raise End(2, f'{name}: {error.strerror}') from error
 
 
 def write_out(text):
@@ -20,19 +31,24 @@ def write_out(text):
         raise End(5, '' if isinstance(error, BrokenPipeError) else f'the text could not be written: {error.strerror}') from error
 
 
-def asked(name, words, given=b''):
-    """What the program of this name, proved and built first, prints for these words and this standard input. What it refuses, by a line on standard error
-    with nothing printed, ends the command with those words."""
+def ran(name, words, given, **more):
+    """What the program of this name, proved and built first, prints for these words and this standard input, what it says on standard error where that is
+    caught, and its exit status."""
     program = building.TARGET / 'bin' / name
     with building.alone(name):
         building.programs(name, name)
         try:
-            with building.started([*building.words_for(program), *words], stdin=subprocess.PIPE, stdout=subprocess.PIPE, stderr=subprocess.PIPE) as child:
-                printed, said = child.communicate(given)
+            with building.started([*building.words_for(program), *words], stdin=subprocess.PIPE, stdout=subprocess.PIPE, **more) as child:
+                return (*child.communicate(given), child.returncode)
         except OSError as error:
             raise End(4, f'{program} cannot be run: {error.strerror}') from error
-    if child.returncode != 0:
-        raise End(4, f'the program ended with status {child.returncode}')
+
+
+def asked(name, words, given=b''):
+    """What a program prints. What it refuses, by a line on standard error with nothing printed, ends the command with those words."""
+    printed, said, status = ran(name, words, given, stderr=subprocess.PIPE)
+    if status != 0:
+        raise End(4, f'the program ended with status {status}')
     if said.startswith(f'{name}: '.encode()) and not printed:
         raise End(1, said.decode().removeprefix(f'{name}: ').rstrip('\n'))
     if said or not printed.endswith(b'\n'):
