@@ -1,7 +1,5 @@
 """The library for this machine's processor, where that is not x86-64, for the tests in Rust, the benchmark, Python and ./show. It is compiled from the
 very LLVM module that the Rattle kit makes of the proved library for x86-64, by the kit's own compiler, and is not delivered to anyone."""
-import os
-import pathlib
 import re
 import subprocess
 
