@@ -40,7 +40,7 @@ static size_t place_of(const Table *table, uint16_t address)
     return low;
 }
 
-uint8_t plain_count(Table *table, Heard heard)
+uint8_t plain_count_heard(Table *table, Heard heard)
 {
     size_t place = place_of(table, heard.source);
     Station *station = table->stations + place;
@@ -76,7 +76,7 @@ Listened plain_hear_and_count(uint64_t edition, Node node, const List lists[8], 
         size_t path_place = 6 + 2 * (size_t)(received[0] & 1) + (received[0] >> 3 & 1);
         bool echo = listened.answer.delivery == 30 || listened.answer.delivery == 42;
         Heard heard = {word(received + 4), echo, path_bit, path_bit ? received[path_place] : 0};
-        listened.table_number = plain_count(table, heard);
+        listened.table_number = plain_count_heard(table, heard);
     }
     return listened;
 }

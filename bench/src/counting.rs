@@ -29,7 +29,7 @@ impl Full {
             let heard = heard(place, place);
             assert_eq!(raw::count_heard(&mut full.library, heard), 0);
             assert_eq!(count_in_reference(&mut full.reference, heard), 0);
-            assert_eq!(plain::count(&mut full.plain, heard), 0);
+            assert_eq!(plain::count_heard(&mut full.plain, heard), 0);
         }
         full
     }
@@ -108,7 +108,7 @@ pub fn counting() -> [Measured; 4] {
                 black_box(count_in_reference(&mut reference, second.turn()));
             },
             &mut |_: &[u8], _: &mut [u8]| {
-                black_box(plain::count(&mut plain, third.turn()));
+                black_box(plain::count_heard(&mut plain, third.turn()));
             },
             &mut |input: &[u8], output: &mut [u8]| copy(input, output, STATION_BYTES),
         ],
@@ -161,13 +161,13 @@ pub fn check_plain() {
     for _ in 0..4_096 {
         let heard = turns.turn();
         let number = raw::count_heard(&mut full.library, heard);
-        assert_eq!(number, plain::count(&mut full.plain, heard));
+        assert_eq!(number, plain::count_heard(&mut full.plain, heard));
         assert_eq!(number, count_in_reference(&mut full.reference, heard));
         assert_eq!(number, 0);
     }
     let new = heard(STATION_LIMIT, 0);
     assert_eq!(raw::count_heard(&mut full.library, new), 55);
-    assert_eq!(plain::count(&mut full.plain, new), 55);
+    assert_eq!(plain::count_heard(&mut full.plain, new), 55);
     full.check();
     let (mut one, mut other) = ([0; 64], [0; 64]);
     let pdu = inputs::example();

@@ -64,12 +64,12 @@ fn main() {
         retaining::retaining_and_freeing(64),
     );
     row(
-        "step, 16 PDUs of 64 bytes, the first sent again",
-        retaining::stepping(64, 0),
+        "retry, 16 PDUs of 64 bytes, the first sent again",
+        retaining::retrying(64, 0),
     );
     row(
-        "step, 16 PDUs of 64 bytes, none due",
-        retaining::stepping(64, 1),
+        "retry, 16 PDUs of 64 bytes, none due",
+        retaining::retrying(64, 1),
     );
     row("queue level, 1 PDU of 64 bytes", queueing::level(1));
     row("queue level, 32 PDUs of 64 bytes", queueing::level(32));

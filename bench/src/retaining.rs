@@ -70,15 +70,15 @@ impl Tables {
         self.check(outcome, wanted, |table| table.retain(time, pdu))
     }
 
-    /// A step of each.
-    fn step(&mut self, time: u64, delay: u64, tries: u64, room: usize) -> Outcome {
+    /// A retry with each.
+    fn retry(&mut self, time: u64, delay: u64, tries: u64, room: usize) -> Outcome {
         let (mut one, mut other) = (vec![1; room], vec![1; room]);
         let times = (self.reference.last(), time);
         let outcome = raw::retry(&mut self.library, times, (delay, tries), &mut one);
         let wanted = plain::retry(&mut self.plain, times, (delay, tries), &mut other);
         assert_eq!(one, other);
-        let step = |table: &mut Table| table.step(time, delay, tries, &mut other);
-        self.check(outcome, wanted, step)
+        let retry = |table: &mut Table| table.step(time, delay, tries, &mut other);
+        self.check(outcome, wanted, retry)
     }
 
     /// Each hears a PDU that was delivered.
@@ -154,9 +154,9 @@ pub fn retaining_and_freeing(length: usize) -> [Measured; 4] {
     )
 }
 
-/// A step of a full table, with this delay: with 0 the first command is sent
+/// A retry with a full table, with this delay: with 0 the first command is sent
 /// again, with 1 none is due; memcpy copies a command.
-pub fn stepping(length: usize, delay: u64) -> [Measured; 4] {
+pub fn retrying(length: usize, delay: u64) -> [Measured; 4] {
     let Tables {
         mut library,
         mut reference,
@@ -190,16 +190,16 @@ pub fn check_plain() {
         assert_eq!(tables.retain(1_000, &command(99, 257)).number, 72);
         assert_eq!(tables.retain(999, &command(99, length)).number, 73);
         assert_eq!(tables.retain(1_000, &acknowledgement(99)).number, 75);
-        assert_eq!(tables.step(1_029, 30, 1, 256).deed, 0);
-        assert_eq!(tables.step(1_030, 30, 1, length - 1).number, 77);
+        assert_eq!(tables.retry(1_029, 30, 1, 256).deed, 0);
+        assert_eq!(tables.retry(1_030, 30, 1, length - 1).number, 77);
         for place in 0..RECORDS {
-            let outcome = tables.step(1_030, 30, 1, length);
+            let outcome = tables.retry(1_030, 30, 1, length);
             assert_eq!((outcome.deed, outcome.place), (2, place));
         }
         assert_eq!(tables.heard(&acknowledgement(5)).place, 5);
         assert_eq!(tables.heard(&acknowledgement(5)).deed, 0);
         assert_eq!(tables.heard(&command(5, length)).length, 10);
-        assert_eq!(tables.step(1_060, 30, 1, 0).deed, 3);
+        assert_eq!(tables.retry(1_060, 30, 1, 0).deed, 3);
         assert_eq!(tables.retain(1_060, &command(99, length)).place, 0);
     }
 }

@@ -72,7 +72,7 @@ fn plain_counts_as_the_reference_does() {
         };
         let path_count = heard.path_bit.then_some(u16::from(heard.path_count));
         let wanted = stations.count(heard.source, heard.echo, path_count);
-        assert_eq!(plain::count(&mut plain, heard), wanted);
+        assert_eq!(plain::count_heard(&mut plain, heard), wanted);
         refused += usize::from(wanted == 55);
     }
     assert!(refused > 100, "{refused}");

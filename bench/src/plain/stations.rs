@@ -28,18 +28,18 @@ impl Table {
 
 #[rustfmt::skip]
 extern "C" {
-    fn plain_count(table: *mut Table, heard: Heard) -> u8;
+    fn plain_count_heard(table: *mut Table, heard: Heard) -> u8;
     fn plain_hear_and_count(
         edition: u64, node: Node, lists: *const List, received: *const u8, length: usize, output: *mut u8, output_length: usize,
         table: *mut Table,
     ) -> Listened;
 }
 
-/// `plain_count`.
+/// `plain_count_heard`.
 #[inline]
-pub fn count(table: &mut Table, heard: Heard) -> u8 {
+pub fn count_heard(table: &mut Table, heard: Heard) -> u8 {
     // SAFETY: the table is laid out as in C and borrowed alone.
-    unsafe { plain_count(table, heard) }
+    unsafe { plain_count_heard(table, heard) }
 }
 
 /// `plain_hear_and_count`.

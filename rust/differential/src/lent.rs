@@ -2,7 +2,7 @@
 //! before or after them shows too, and the reading of them that
 //! `include/mant.h` gives.
 
-use generator::{Random, Record, ReliableDeed};
+use generator::{Random, ReliableDeed, RetainedRecord};
 use mant::raw::Retained;
 use reference::{Done, Table};
 
@@ -14,7 +14,7 @@ pub struct Lent {
 
 impl Lent {
     /// These records between two of any bytes.
-    pub fn of(random: &mut Random, records: &[Record]) -> Lent {
+    pub fn of(random: &mut Random, records: &[RetainedRecord]) -> Lent {
         let mut all = vec![any(random)];
         all.extend(records.iter().map(in_library));
         all.push(any(random));
@@ -84,7 +84,7 @@ fn any(random: &mut Random) -> Retained {
 }
 
 /// A record as the library has it.
-fn in_library(record: &Record) -> Retained {
+fn in_library(record: &RetainedRecord) -> Retained {
     Retained {
         pdu: record.pdu,
         length: record.length,

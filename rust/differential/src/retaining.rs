@@ -6,7 +6,7 @@ use crate::same::{node, Input};
 use crate::table::answer_for;
 use crate::Compared;
 use differential::{answer, names_of, outcome};
-use generator::{edition, habits, records, reliable_deed, Random, ReliableDeed};
+use generator::{edition, habits, reliable_deed, retained_records, Random, ReliableDeed};
 use mant::raw::{self, Outcome, RECORDS};
 use reference::{hear, Done, Lists, Sending, Table, MOST_PDU};
 
@@ -35,7 +35,7 @@ struct Asked<'a> {
 /// each deed.
 pub fn compare(random: &mut Random) -> Compared {
     let habits = habits(random);
-    let records = records(random, &habits);
+    let records = retained_records(random, &habits);
     let mut tables = Tables::of(random, &records);
     for _ in 0..habits.turns {
         let deed = reliable_deed(random, &habits, &tables.reference);
@@ -54,7 +54,7 @@ pub fn compare(random: &mut Random) -> Compared {
 
 impl Tables {
     /// The three tables in the records.
-    fn of(random: &mut Random, records: &[generator::Record]) -> Tables {
+    fn of(random: &mut Random, records: &[generator::RetainedRecord]) -> Tables {
         let library = Lent::of(random, records);
         let last = match random.flag() {
             true => 0,

@@ -33,7 +33,7 @@ pub use output::{output, room};
 pub use queue::{any_queue, empty_queue, pace, queue_deed, Pace, QueueDeed};
 pub use random::{splitmix64, Random};
 pub use received::{cut, damaged, random_bytes, received};
-pub use reliable::{habits, records, reliable_deed, Habits, Record, ReliableDeed};
+pub use reliable::{habits, reliable_deed, retained_records, Habits, ReliableDeed, RetainedRecord};
 pub use sealed::{
     any_key, any_record, empty_record, openings, repeated, to_seal, Openings, ToOpen, ToSeal,
 };

@@ -9,7 +9,7 @@ use crate::random::Random;
 use crate::settings::{setting, settings};
 use crate::shape::address;
 use pdus::{answer_to, heard, to_retain};
-pub use records::{records, Record};
+pub use records::{retained_records, RetainedRecord};
 use reference::{Sending, Settings, Table, MOST_RETAINED};
 
 /// What is done with a table.
@@ -206,7 +206,7 @@ mod tests {
         let (mut counts, mut used, mut free) = (vec![], 0, 0);
         for _ in 0..1_000 {
             let habits = habits(&mut random);
-            let records = records(&mut random, &habits);
+            let records = retained_records(&mut random, &habits);
             counts.push(records.len());
             for record in records {
                 let pdu = record.pdu.get(..record.length).unwrap_or(&[]);

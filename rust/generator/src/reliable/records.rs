@@ -7,7 +7,7 @@ use reference::{MOST_RETAINED, RECORDS};
 
 /// A record as it lies in memory, in use or not.
 #[derive(Clone, Debug, PartialEq, Eq)]
-pub struct Record {
+pub struct RetainedRecord {
     /// The PDU in the first bytes.
     pub pdu: [u8; MOST_RETAINED],
     /// How many bytes the PDU has.
@@ -20,7 +20,7 @@ pub struct Record {
 
 /// Records that hold a table, mostly 16 of them: all zeros, any bytes, or PDUs
 /// to and from the node of a history, with any times and counts.
-pub fn records(random: &mut Random, habits: &Habits) -> Vec<Record> {
+pub fn retained_records(random: &mut Random, habits: &Habits) -> Vec<RetainedRecord> {
     let count = match random.below(12) {
         0 => random.pick(&[0, 1, 15, 17, 32]),
         _ => RECORDS,
@@ -30,10 +30,10 @@ pub fn records(random: &mut Random, habits: &Habits) -> Vec<Record> {
 }
 
 /// One record: of zeros, of any bytes, or put together by hand.
-fn record(random: &mut Random, habits: &Habits, kind: usize) -> Record {
+fn record(random: &mut Random, habits: &Habits, kind: usize) -> RetainedRecord {
     let mut bytes = [0; MOST_RETAINED];
     if kind == 0 {
-        return Record {
+        return RetainedRecord {
             pdu: bytes,
             length: 0,
             sent_at: 0,
@@ -48,7 +48,7 @@ fn record(random: &mut Random, habits: &Habits, kind: usize) -> Record {
         let part = pdu.len().min(MOST_RETAINED);
         bytes[..part].copy_from_slice(&pdu[..part]);
     }
-    Record {
+    RetainedRecord {
         pdu: bytes,
         length: match random.below(12) {
             0 => random.pick(&[0, 255, 256, 257, 1 << 32, usize::MAX]),
