@@ -19,14 +19,11 @@ def struct(name, **fields):
     return type(name, (ctypes.Structure,), {'_fields_': list(fields.items())})
 
 
+Written = struct('MantWritten', number=c_uint8, length=c_size_t)
 Header = struct(
     'MantHeader', number=c_uint8, protocol=c_uint8, time_stamp_request=c_bool, path_bit=c_bool, has_destination=c_bool, port=c_uint8, has_encrypted=c_bool,
     encrypted=c_bool, reserved=c_uint8, ack=c_bool, added_header=c_bool, hop_limit=c_uint8, payload_length=c_uint16, source=c_uint16, destination=c_uint16,
     pdu_id=c_uint8, path_count=c_uint8, has_last_sender=c_bool, last_sender=c_uint16, header_length=c_size_t, pdu_length=c_size_t)
-Written = struct('MantWritten', number=c_uint8, length=c_size_t)
-Exchange = struct(
-    'MantExchange', number=c_uint8, header_place=c_size_t, header_length=c_size_t, payload_place=c_size_t, payload_length=c_size_t)
-Key = struct('MantKey', bytes=c_uint8 * 16)
 Fresh = struct(
     'MantFresh', edition=c_uint64, source=c_uint16, has_destination=c_bool, destination=c_uint16, hop_limit=c_uint64, port=c_uint64,
     time_stamp_request=c_bool, with_path=c_bool, reliable=c_bool, pdu_id=c_uint8, encrypted=c_bool)
@@ -38,6 +35,9 @@ Answer = struct(
     repeated_length=c_size_t, taken=c_size_t)
 Cursor = struct('MantCursor', place=c_size_t, ended=c_bool)
 Step = struct('MantStep', kind=c_uint8, answer=Answer, next=Cursor)
+Exchange = struct(
+    'MantExchange', number=c_uint8, header_place=c_size_t, header_length=c_size_t, payload_place=c_size_t, payload_length=c_size_t)
+Key = struct('MantKey', bytes=c_uint8 * 16)
 Bound = struct('MantBound', number=c_uint8, too_large=c_bool, value=c_uint64)
 Limits = struct('MantLimits', fixed=c_size_t, payload=c_size_t, path=c_size_t, header=c_size_t, pdu=c_size_t, list=c_size_t, batch=c_size_t)
 
@@ -49,13 +49,13 @@ EIGHT_LISTS = SLICE * 8
 FUNCTIONS = {
     'mant_read': (Header, c_uint64, *SLICE),
     'mant_path_address': (c_uint16, *SLICE, c_size_t),
-    'mant_read_exchange': (Exchange, *SLICE),
-    'mant_write_exchange': (Written, *SLICE, *SLICE),
     'mant_originate': (Written, Fresh, *SLICE, *SLICE),
     'mant_list_holds': (c_bool, *SLICE, c_uint16),
     'mant_list_fault_eight': (c_uint8, *EIGHT_LISTS),
     'mant_hear_eight': (Answer, c_uint64, Node, *EIGHT_LISTS, *SLICE, *SLICE),
     'mant_step_eight': (Step, c_uint64, Node, *EIGHT_LISTS, *SLICE, Cursor, *SLICE),
+    'mant_read_exchange': (Exchange, *SLICE),
+    'mant_write_exchange': (Written, *SLICE, *SLICE),
     'mant_seal': (Written, Key, c_uint64, *SLICE, *SLICE),
     'mant_open': (Written, Key, *SLICE, *SLICE, *SLICE),
     'mant_most_transmissions': (Bound, c_uint64, c_uint64),

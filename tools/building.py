@@ -1,5 +1,5 @@
-"""Builds from the present sources, for ./relay, ./show, tools/build and the tests: one build at a time in a clone, and none left running. What is built is for
-x86-64; on another processor it runs under the emulator of the Rattle kit, and a library is also made for that processor, to be tested and timed."""
+"""Builds from the present sources, for the commands at the top, tools/build and the tests: one build at a time in a clone, and none left running. What is
+built is for x86-64; on another processor it runs under the emulator of the Rattle kit, and a library is also made for that processor, to be tested and timed."""
 import contextlib
 import fcntl
 import hashlib
