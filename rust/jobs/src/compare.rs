@@ -1,64 +1,72 @@
-//! The built program and the reading on generated jobs.
+//! A built program and the reading on generated inputs.
 
-use generator::{damaged_job, job, random_job, Random};
+use generator::Random;
 use std::io::{self, Write};
 use std::process::{Command, Stdio};
 use std::thread;
 
 /// After so many differences the run stops.
-pub const MOST_DIFFERENCES: u64 = 10;
+const MOST_DIFFERENCES: u64 = 10;
 
 /// A comparison.
 pub struct Asked {
     /// The program's file.
     pub program: String,
-    /// The seed of the jobs.
+    /// The seed of the inputs.
     pub seed: u64,
-    /// How many jobs.
+    /// How many inputs.
     pub count: u64,
-    /// The first job.
+    /// The first input.
     pub first: u64,
 }
 
-/// Compares on all jobs, and says how many differ.
-pub fn compare_all(asked: &Asked) -> Result<(), String> {
-    let (mut done, mut refused, mut differ) = (0, 0, 0);
-    while done < asked.count && differ < MOST_DIFFERENCES {
-        let case = asked.first.wrapping_add(done);
-        let job = any_job(&mut Random::for_case(asked.seed, case));
-        let wanted = reference::relay(&job);
-        let printed = relayed(&asked.program, &job)
-            .map_err(|error| format!("{} cannot be run: {error}", asked.program))?;
-        if let Some(words) = difference(&printed, &wanted) {
-            differ += 1;
-            let again = format!("jobs compare {} {} 1 {case}", asked.program, asked.seed);
-            println!("{words}\nthe job: {}\nagain with `{again}`", hex(&job));
-        }
-        refused += u64::from(wanted.starts_with("refused"));
-        done += 1;
-    }
-    println!(
-        "generated jobs: {done} relayed and compared, {refused} of them refused, {differ} differ"
-    );
-    match differ {
-        0 if refused < done || asked.count < 10 => Ok(()),
-        0 => Err(String::from("every job was refused, which compares little")),
-        _ => Err(String::from("the program and the reading differ")),
-    }
+/// An input.
+pub struct Case {
+    /// Its bytes.
+    pub input: Vec<u8>,
+    /// What the reading prints for it.
+    pub wanted: String,
+    /// What is said of it where the program prints something else, a line.
+    pub shown: String,
 }
 
-/// Good jobs, jobs with one fault, and any bytes.
-fn any_job(random: &mut Random) -> Vec<u8> {
-    match random.below(5) {
-        0..=2 => job(random).bytes(),
-        3 => damaged_job(random).bytes,
-        _ => random_job(random),
+/// How many inputs there were.
+pub struct Counted {
+    /// In all.
+    pub done: u64,
+    /// Of them those whose text is as was asked for.
+    pub such: u64,
+    /// On which the program and the reading differ.
+    pub differ: u64,
+}
+
+/// Compares on all inputs; the verb is the one of `jobs` that asks for it.
+pub fn compare(
+    asked: &Asked,
+    verb: &str,
+    case_of: impl Fn(&mut Random) -> Case,
+    is_such: impl Fn(&str) -> bool,
+) -> Result<Counted, String> {
+    let (mut done, mut such, mut differ) = (0, 0, 0);
+    while done < asked.count && differ < MOST_DIFFERENCES {
+        let number = asked.first.wrapping_add(done);
+        let case = case_of(&mut Random::for_case(asked.seed, number));
+        let printed = printed_for(&asked.program, &case.input)
+            .map_err(|error| format!("{} cannot be run: {error}", asked.program))?;
+        if let Some(words) = difference(&printed, &case.wanted) {
+            differ += 1;
+            let again = format!("jobs {verb} {} {} 1 {number}", asked.program, asked.seed);
+            println!("{words}\n{}again with `{again}`", case.shown);
+        }
+        such += u64::from(is_such(&case.wanted));
+        done += 1;
     }
+    Ok(Counted { done, such, differ })
 }
 
 /// What the program prints for an input; its status, where that is not 0, is
 /// taken as text too.
-pub fn relayed(program: &str, job: &[u8]) -> io::Result<Vec<u8>> {
+fn printed_for(program: &str, bytes: &[u8]) -> io::Result<Vec<u8>> {
     let mut child = Command::new(program)
         .stdin(Stdio::piped())
         .stdout(Stdio::piped())
@@ -66,7 +74,7 @@ pub fn relayed(program: &str, job: &[u8]) -> io::Result<Vec<u8>> {
     let input = child.stdin.take();
     let output = thread::scope(|scope| {
         // A program that ends before it has read all is told by its text.
-        scope.spawn(move || input.map(|mut input| input.write_all(job)));
+        scope.spawn(move || input.map(|mut input| input.write_all(bytes)));
         child.wait_with_output()
     })?;
     let mut printed = output.stdout;
@@ -77,7 +85,7 @@ pub fn relayed(program: &str, job: &[u8]) -> io::Result<Vec<u8>> {
 }
 
 /// The first line that differs, if one does.
-pub fn difference(printed: &[u8], wanted: &str) -> Option<String> {
+fn difference(printed: &[u8], wanted: &str) -> Option<String> {
     if printed == wanted.as_bytes() {
         return None;
     }
@@ -100,17 +108,6 @@ fn shown(line: Option<&str>) -> String {
     })
 }
 
-/// The job in hex, as far as it is short enough to show.
-fn hex(job: &[u8]) -> String {
-    let shown: String = job
-        .iter()
-        .take(60)
-        .map(|byte| format!("{byte:02X}"))
-        .collect();
-    let more = if job.len() > 60 { ".." } else { "" };
-    format!("{shown}{more}, {} bytes", job.len())
-}
-
 #[cfg(test)]
 mod tests {
     use super::*;
@@ -128,18 +125,5 @@ mod tests {
             assert!(difference(short, "relay 1\nend 0 0\n").is_some());
         }
         assert!(difference(b"relay 1\nend 0 0\n\n", "relay 1\nend 0 0\n").is_some());
-    }
-
-    #[test]
-    fn jobs_of_every_kind_arise() {
-        let texts: Vec<String> = (0..400)
-            .map(|case| reference::relay(&any_job(&mut Random::for_case(1, case))))
-            .collect();
-        for number in [20, 50, 51, 52, 53, 54] {
-            let wanted = format!("refused {number}\n");
-            assert!(texts.contains(&wanted), "{number} never arose");
-        }
-        let refused = texts.iter().filter(|text| text.starts_with("refused"));
-        assert!((50..300).contains(&refused.count()));
     }
 }

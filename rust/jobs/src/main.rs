@@ -1,4 +1,5 @@
-//! Jobs of the program `relay` by the independent reading of document 01.
+//! The independent reading of document 01 beside the built programs, and asked
+//! for its answers.
 //!
 //! `jobs print` prints what `relay` must print for the job on standard input.
 //! `jobs compare PROGRAM [seed [count [first]]]` relays generated jobs by the
@@ -12,10 +13,12 @@
 mod compare;
 mod lines;
 mod networks;
+mod relaying;
 mod words;
 
-use compare::{compare_all, Asked};
+use compare::Asked;
 use networks::compare_networks;
+use relaying::compare_jobs;
 use std::io::{self, BufWriter, Read, Write};
 use std::process::ExitCode;
 
@@ -26,7 +29,7 @@ fn main() -> ExitCode {
     let words: Vec<String> = std::env::args().skip(1).collect();
     let done = match words.first().map(String::as_str) {
         Some("print") if words.len() == 1 => print().map_err(|error| error.to_string()),
-        Some("compare") => asked(&words[1..]).and_then(|asked| compare_all(&asked)),
+        Some("compare") => asked(&words[1..]).and_then(|asked| compare_jobs(&asked)),
         Some("reach") => asked(&words[1..]).and_then(|asked| compare_networks(&asked)),
         Some("lines") if words.len() == 3 => print_lines(&words[1], &words[2]),
         _ => Err(String::from(USE)),

@@ -1,6 +1,6 @@
 //! The built program `reach` and the reading on generated networks.
 
-use crate::compare::{difference, relayed, Asked, MOST_DIFFERENCES};
+use crate::compare::{compare, Asked, Case, Counted};
 use generator::{network, Random};
 use reference::reach;
 
@@ -9,29 +9,25 @@ const MOST_NODES: usize = 255;
 
 /// Compares on all networks, and says how many differ.
 pub fn compare_networks(asked: &Asked) -> Result<(), String> {
-    let (mut done, mut whole, mut differ) = (0, 0, 0);
-    while done < asked.count && differ < MOST_DIFFERENCES {
-        let case = asked.first.wrapping_add(done);
-        let mut random = Random::for_case(asked.seed, case);
-        let most = [6, 20, 60, MOST_NODES][random.below(4)];
-        let network = network(&mut random, most);
-        let wanted = reach(&network);
-        let printed = relayed(&asked.program, network.text().as_bytes())
-            .map_err(|error| format!("{} cannot be run: {error}", asked.program))?;
-        if let Some(words) = difference(&printed, &wanted) {
-            differ += 1;
-            let again = format!("jobs reach {} {} 1 {case}", asked.program, asked.seed);
-            println!("{words}\nagain with `{again}`");
-        }
-        whole += u64::from(wanted.contains("\n0 nodes out of reach\n"));
-        done += 1;
-    }
+    let is_whole = |text: &str| text.contains("\n0 nodes out of reach\n");
+    let counted = compare(asked, "reach", case, is_whole)?;
+    let Counted { done, such, differ } = counted;
     println!(
-        "generated networks: {done} asked and compared, {whole} of them reached whole, {differ} differ"
+        "generated networks: {done} asked and compared, {such} of them reached whole, {differ} differ"
     );
     match differ {
         0 => Ok(()),
         _ => Err(String::from("the program and the reading differ")),
+    }
+}
+
+fn case(random: &mut Random) -> Case {
+    let most = [6, 20, 60, MOST_NODES][random.below(4)];
+    let network = network(random, most);
+    Case {
+        input: network.text().into_bytes(),
+        wanted: reach(&network),
+        shown: String::new(),
     }
 }
 
