@@ -7,9 +7,9 @@ use Rattle.promises.proofs.View.{both as both-facts}
 use Rattle.reliable.proofs.search as search-contract
 use Rattle.reliable.proofs.lay as lay-contract
 use Rattle.reliable.proofs.resend as resend-contract
-use Rattle.mant.proofs.mant_retain as mant-retain-contract
-use Rattle.mant.proofs.mant_retry as mant-retry-contract
-use Rattle.mant.proofs.mant_acknowledge as mant-acknowledge-contract
+use Rattle.mant.proofs.reliable_messages.mant_retain as mant-retain-contract
+use Rattle.mant.proofs.reliable_messages.mant_retry as mant-retry-contract
+use Rattle.mant.proofs.reliable_messages.mant_acknowledge as mant-acknowledge-contract
 
 pub search : PromisedInLogic search-contract.ended (λ M 𝓤. search-contract.clauses 𝓤) (λ κs x. x)
 search =

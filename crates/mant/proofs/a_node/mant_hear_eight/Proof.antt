@@ -1,0 +1,33 @@
+use denote.Ref.{now}
+use Rattle.seasons.specs.Choosing.{two, eightOf}
+use Rattle.mant.proofs.Season.{heard-in-c}
+use borrow.Author.Needs.{needs}
+use Rattle.mant.proofs.a_node.mant_hear_eight.Statement.{statement}
+use Rattle.mant.proofs.a_node.mant_hear_eight.Tie as tie
+
+node-from-c-requires : tie.Need-node-from-c-requires
+node-from-c-requires c κs = search needs
+
+hear-requires : tie.Need-hear-requires
+hear-requires c κs = search needs
+
+answer-in-c-requires : tie.Need-answer-in-c-requires
+answer-in-c-requires c κs = search needs
+
+same-length : tie.Need-same-length
+same-length c = search needs
+
+returns : tie.Need-returns
+returns c =
+    let hears = c .before .before .before in
+    let from = hears .before .before in
+    let a = from .before .before .before .before .before .before .before .before .before .before .before .args in
+    let lists = eightOf (two (now (a .source-pass-first)) (now (a .source-pass-second)))
+    (two (now (a .source-reject-first)) (now (a .source-reject-second)))
+    (two (now (a .destination-pass-first)) (now (a .destination-pass-second)))
+    (two (now (a .destination-reject-first)) (now (a .destination-reject-second))) in
+    heard-in-c (a .edition) (a .settings) _ (from .node-from-c .ensures) lists (now (a .received)) (now (a .output)) _ _ _ (hears .hear .ensures)
+    (c .answer-in-c .ensures)
+
+pub mant-hear-eight-spec : {M : Type 1} → statement M
+mant-hear-eight-spec = tie.close (tie.spec node-from-c-requires hear-requires answer-in-c-requires same-length returns)

@@ -1,0 +1,120 @@
+// Stations heard: who was heard, how often, and over how short a path.
+use super::a_node::mant_hear_eight;
+use boundary::MantAnswer;
+use boundary::MantListened;
+use boundary::MantNode;
+use counting::Heard;
+use stations::Found;
+ghost use mathlib.Core.Path.{_≡_};
+ghost use lib.ListN.{length};
+ghost use Rattle.seasons.specs.Choosing.{two, eightOf, seasonNodeOf};
+ghost use Rattle.stations.specs.Table.{capacity, tableIn};
+ghost use Rattle.stations.specs.Asking.{stationOf, foundAt};
+ghost use Rattle.counting.specs.Counting.{countNumber, memoryAfterCount};
+ghost use Rattle.counting.specs.Removing.{removalNumber, memoryAfterRemoval};
+ghost use Rattle.listening.specs.Listening.{answerNumber, memoryAfterAnswer};
+ghost use Rattle.boundary.specs.Boundary.{nodeFromC, answerFromC, ListensInC};
+
+// How many stations a memory has room for: 128 in 513 words or more, fewer in less. Document 02, W-201.
+#[no_mangle]
+pub extern "C" fn mant_stations_capacity(table: &[u16]) -> usize
+    ensures { λ r. ⌜ r ≡ capacity (now (table .entry)) ⌝ }
+{
+    stations::capacity(table)
+}
+
+// How many stations a table holds. A memory that says more than it has room for is a full table. Document 02, W-201.
+#[no_mangle]
+pub extern "C" fn mant_stations_held(table: &[u16]) -> usize
+    ensures { λ r. ⌜ r ≡ length (tableIn (now (table .entry))) ⌝ }
+{
+    stations::held(table)
+}
+
+// The station at a place of the rising order of addresses, the lowest at 0; 56 from the number held on. Document 02, W-201.
+#[no_mangle]
+pub extern "C" fn mant_station_at(table: &[u16], place: usize) -> Found
+    ensures { λ r. ⌜ r ≡ foundAt place (tableIn (now (table .entry))) ⌝ }
+{
+    stations::station_at(table, place)
+}
+
+// The station of an address, or 56 where it is not held. Document 02, W-201.
+#[no_mangle]
+pub extern "C" fn mant_station_of(table: &[u16], address: u16) -> Found
+    ensures { λ r. ⌜ r ≡ stationOf address (tableIn (now (table .entry))) ⌝ }
+{
+    stations::station_of(table, address)
+}
+
+// Removes the station of an address: 0, or 56 where it is not held and the table stays as it was. Document 02, W-201.
+#[no_mangle]
+pub extern "C" fn mant_remove_station(table: &mut [u16], address: u16) -> u8
+    ensures { λ r. ⌜ (r ≡ removalNumber address (tableIn (now (table .entry))))
+        × (now (table .exit) ≡ memoryAfterRemoval address (now (table .entry))) ⌝ }
+{
+    counting::remove(table, address)
+}
+
+// Counts a PDU that was read: 0, or 55 where its source is new while there is no room for another, and the table stays as it was. Document 02, W-201.
+#[no_mangle]
+pub extern "C" fn mant_count_heard(table: &mut [u16], heard: Heard) -> u8
+    ensures { λ r. ⌜ (r ≡ countNumber heard (now (table .entry))) × (now (table .exit) ≡ memoryAfterCount heard (now (table .entry))) ⌝ }
+{
+    counting::count(table, heard)
+}
+
+// Counts the PDU at the start of `received` by what a node answered for it, as after a step of a walk; nothing where no PDU was read. Answers the
+// table's number, 0 or 55. Of an answer that is not for these bytes, what they hold is counted. Document 02, W-201.
+#[no_mangle]
+pub extern "C" fn mant_count_answer(table: &mut [u16], received: &[u8], answer: MantAnswer) -> u8
+    ensures { λ r. ⌜ (r ≡ answerNumber (answerFromC answer) (now (received .entry)) (now (table .entry)))
+        × (now (table .exit) ≡ memoryAfterAnswer (answerFromC answer) (now (received .entry)) (now (table .entry))) ⌝ }
+{
+    listening::count_answer(table, received, boundary::answer_from_c(answer))
+}
+
+// What `mant_hear_eight` answers and leaves, whatever the table holds; and the PDU counted in the table as by `mant_count_answer`, if it was read, so nothing
+// with 17 or a fault of the lists. The table's number stands beside the answer. Document 02, W-201, W-209 and W-211.
+#[no_mangle]
+pub extern "C" fn mant_hear_and_count_eight<'a>(
+    edition: u64,
+    settings: MantNode,
+    source_pass_first: &'a [u16],
+    source_pass_second: &'a [u16],
+    source_reject_first: &'a [u16],
+    source_reject_second: &'a [u16],
+    destination_pass_first: &'a [u16],
+    destination_pass_second: &'a [u16],
+    destination_reject_first: &'a [u16],
+    destination_reject_second: &'a [u16],
+    received: &[u8],
+    output: &mut [u8],
+    table: &mut [u16],
+) -> MantListened
+    ensures { λ r. ⌜ ListensInC edition (seasonNodeOf (nodeFromC settings) (eightOf
+        (two (now («source_pass_first» .entry)) (now («source_pass_second» .entry)))
+        (two (now («source_reject_first» .entry)) (now («source_reject_second» .entry)))
+        (two (now («destination_pass_first» .entry)) (now («destination_pass_second» .entry)))
+        (two (now («destination_reject_first» .entry)) (now («destination_reject_second» .entry)))))
+        (now (received .entry)) (now (output .entry)) (now (table .entry)) r (now (output .exit)) (now (table .exit)) ⌝ }
+{
+    let told = mant_hear_eight(
+        edition,
+        settings,
+        source_pass_first,
+        source_pass_second,
+        source_reject_first,
+        source_reject_second,
+        destination_pass_first,
+        destination_pass_second,
+        destination_reject_first,
+        destination_reject_second,
+        received,
+        output,
+    );
+    MantListened {
+        answer: told,
+        table_number: mant_count_answer(table, received, told),
+    }
+}
