@@ -3,5 +3,6 @@ pub mod Paths
 pub mod Inversion
 pub mod Faults
 pub mod Number
+pub mod Extents
 pub mod Exact
 pub mod Senders

@@ -5,6 +5,7 @@ use mathlib.Core.List.{List}
 use lib.Dec.{eqb, ltb}
 use lib.ListN.{length}
 use Rattle.octets.specs.Octets.{at}
+use Rattle.pdu.specs.declared.Extent.{Extent}
 use Rattle.pdu.specs.declared.Header.{Header}
 use Rattle.pdu.specs.declared.Refusal.{Refusal}
 use Rattle.pdu.specs.declared.Refusal.the-variants.{TooShort, WrongVersion, UnknownProtocol, NoDestination, HeaderCut, PayloadCut}
@@ -37,6 +38,20 @@ refusalNumber PayloadCut = 6
 abbrev pub readingNumber : Reading → ℕ
 readingNumber (Pdu header) = 0
 readingNumber (Refused refusal) = refusalNumber refusal
+
+-- how far a PDU reaches; of a refusal the number alone
+abbrev pub noExtent : ℕ → Extent
+noExtent number = record { number = number; «path_count» = 0; «payload_length» = 0; «header_length» = 0; «pdu_length» = 0 }
+
+abbrev pub extentOf : Reading → Extent
+extentOf (Pdu header) = record {
+  number = 0;
+  «path_count» = header .«path_count»;
+  «payload_length» = header .«payload_length»;
+  «header_length» = headerLength header;
+  «pdu_length» = pduLength header;
+}
+extentOf (Refused refusal) = noExtent (refusalNumber refusal)
 
 -- whether the bytes are exactly one PDU: it can be read, and no byte follows it
 unfoldable pub exactlyOne : List ℕ → Bool

@@ -9,7 +9,7 @@ ghost use Rattle.octets.specs.Numbers.{_gives_, _orElse_};
 ghost use Rattle.pdu.specs.Header.{isSet, version, protocol, pathBit, destinationBit, payloadLength};
 ghost use Rattle.pdu.specs.Header.{pduIdPlace, pathCountPlace, destinationIn, pduIdIn, pathCountIn, headerOf};
 ghost use Rattle.pdu.specs.Sizes.{limits, pathLimit, headerLimit, pduLimit, destinationFlag, pathEntries, pathStart, headerLength, pduLength};
-ghost use Rattle.pdu.specs.Reading.{readOf, refusalNumber, readingNumber};
+ghost use Rattle.pdu.specs.Reading.{readOf, refusalNumber, readingNumber, noExtent, extentOf};
 use octets::byte_value;
 use octets::word_value;
 
@@ -57,6 +57,16 @@ pub enum Refusal {
 pub enum Reading {
     Pdu(Header),
     Refused(Refusal),
+}
+
+// How far a PDU reaches: its path's addresses and its payload's bytes, and where header and PDU end, counted from its first byte. Of bytes that are no PDU
+// the number of the refusal, and 0 in every other field.
+pub struct Extent {
+    pub number: u8,
+    pub path_count: u8,
+    pub payload_length: u16,
+    pub header_length: usize,
+    pub pdu_length: usize,
 }
 
 // Document 01's sizes, in bytes; the path's in addresses.
@@ -179,22 +189,51 @@ pub fn read(bytes: &[u8]) -> Reading
 pub fn fault(bytes: &[u8]) -> u8
     ensures { λ r. ⌜ r ≡ readingNumber (readOf (now (bytes .entry))) ⌝ }
 {
+    extent_of(bytes).number
+}
+
+// How far the PDU at the start of `bytes` reaches, or the number, 1 to 6, of why there is none there. Any bytes get an answer; bytes after the PDU are
+// not looked at. Document 01, "Numbers answered", 1 to 6, and "Sizes".
+pub fn extent_of(bytes: &[u8]) -> Extent
+    ensures { λ r. ⌜ r ≡ extentOf (readOf (now (bytes .entry))) ⌝ }
+{
     if bytes.len() < Header::FIXED_LENGTH {
-        return 1;
+        return no_extent(1);
     }
     let byte0 = bytes[0];
     let first = first_byte_fault(byte0);
     if first != 0 {
-        return first;
+        return no_extent(first);
     }
-    let header_length = header_length_in(byte0, path_count_in(bytes));
+    let path_count = path_count_in(bytes);
+    let header_length = header_length_in(byte0, path_count);
     if bytes.len() < header_length {
-        return 5;
+        return no_extent(5);
     }
-    if bytes.len() < header_length + word_value(payload_length(bytes[2], bytes[3])) {
-        return 6;
+    let payload_length = payload_length(bytes[2], bytes[3]);
+    let pdu_length = header_length + word_value(payload_length);
+    if bytes.len() < pdu_length {
+        return no_extent(6);
     }
-    0
+    Extent {
+        number: 0,
+        path_count,
+        payload_length,
+        header_length,
+        pdu_length,
+    }
+}
+
+fn no_extent(number: u8) -> Extent
+    ensures { λ r. ⌜ r ≡ noExtent number ⌝ }
+{
+    Extent {
+        number,
+        path_count: 0,
+        payload_length: 0,
+        header_length: 0,
+        pdu_length: 0,
+    }
 }
 
 // What byte 0 alone is refused for: 2, 3 or 4, or 0.
