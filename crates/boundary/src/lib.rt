@@ -3,26 +3,14 @@ use batch::Cursor;
 use batch::Stepped;
 use bound::Bound;
 use node::Answer;
-use octets::byte_value;
-use octets::word_value;
 use pdu::Destination;
 use pdu::Sender;
 use seasons::Choice;
 use seasons::SeasonSettings;
 ghost use mathlib.Core.Path.{_≡_};
-ghost use mathlib.Core.Bool.{true, cond};
-ghost use Prim.Native.Nat.{_+_, _*_, _<_, _≤_};
-ghost use lib.ListN.{length};
-ghost use Rattle.octets.specs.Octets.{at, wordAt};
 ghost use Rattle.pdu.specs.declared.Sender.the-variants.{Unknown};
-ghost use Rattle.pdu.specs.Header.{isSet, pathBit, pduIdPlace, pathCountPlace, pathCountIn, headerOf};
-ghost use Rattle.pdu.specs.Sizes.{headerLength};
-ghost use Rattle.pdu.specs.Reading.{readOf, readingNumber};
-ghost use Rattle.pdu.specs.Parts.{lastSender};
-ghost use Rattle.editions.specs.Editions.{bitsUnder, shownWith, readUnder};
 ghost use Rattle.node.specs.Answers.{twice};
-ghost use Rattle.boundary.specs.Boundary.{refusedHeader, shownHeader, headerInC, destinationFromC, freshFromC};
-ghost use Rattle.boundary.specs.Boundary.{flagOf, reservedOf};
+ghost use Rattle.boundary.specs.Boundary.{destinationFromC, freshFromC};
 ghost use Rattle.boundary.specs.Boundary.{choiceFromC, nodeFromC};
 ghost use Rattle.boundary.specs.Boundary.{hasSender, senderAddress, senderFromC, answerInC, answerFromC};
 ghost use Rattle.boundary.specs.Boundary.{stepInC, boundInC, limitsInC};
@@ -137,166 +125,6 @@ pub struct MantLimits {
     pub pdu: usize,
     pub list: usize,
     pub batch: usize,
-}
-
-// What an edition shows of the PDU at the start of `bytes`, as C sees it: number 0, every field, the last sender, and the lengths of the header and the PDU;
-// or 17 for an edition that is not known, then 1 to 6 where there is no PDU. Each field is taken from its bytes. Bytes after the PDU are not looked at.
-// Document 01, "Header, byte by byte", "Sizes", and "Numbers answered", 1 to 6; document 02, W-205 and W-209.
-pub fn header_in_c(edition: u64, bytes: &[u8]) -> MantHeader
-    ensures { λ r. ⌜ r ≡ headerInC (readUnder edition (now (bytes .entry))) (now (bytes .entry)) ⌝ }
-{
-    if !editions::is_known(edition) {
-        return refused_header(17);
-    }
-    let number = pdu::fault(bytes);
-    if number != 0 {
-        return refused_header(number);
-    }
-    whole_header(edition, bytes)
-}
-
-// The fields of a PDU that is there whole.
-fn whole_header(edition: u64, bytes: &[u8]) -> MantHeader
-    requires { ⌜ readingNumber (readOf (now bytes)) ≡ 0 ⌝ }
-    ensures { λ r. ⌜ r ≡ shownHeader (shownWith (bitsUnder edition (at (now (bytes .entry)) 1)) (headerOf (now (bytes .entry))))
-        (lastSender (headerOf (now (bytes .entry))) (now (bytes .entry))) ⌝ }
-{
-    let byte0 = bytes[0];
-    let byte1 = bytes[1];
-    let byte2 = bytes[2];
-    let payload_length = word_of(byte2 % 16, bytes[3]);
-    let path_bit = byte0 / 2 % 2 == 1;
-    let count_place = path_count_place(byte0);
-    let path_count = byte_where(path_bit, bytes, count_place);
-    let header_length = count_place + byte_value(byte0 / 2 % 2) + 2 * byte_value(path_count);
-    MantHeader {
-        number: 0,
-        protocol: byte0 / 8 % 8,
-        time_stamp_request: byte0 / 4 % 2 == 1,
-        path_bit,
-        has_destination: byte0 % 2 == 1,
-        port: byte1 / 16,
-        has_encrypted: edition != 11,
-        encrypted: flag_in(edition, byte1),
-        reserved: reserved_in(edition, byte1),
-        ack: byte1 % 2 == 1,
-        added_header: byte2 / 128 == 1,
-        hop_limit: byte2 / 16 % 8,
-        payload_length,
-        source: word_in(bytes, 4),
-        destination: word_where(byte0 % 2 == 1, bytes, 6),
-        pdu_id: byte_where(byte0 / 8 % 8 == 1, bytes, pdu_id_place(byte0)),
-        path_count,
-        has_last_sender: path_bit,
-        last_sender: sender_in(bytes, path_bit, path_count, header_length),
-        header_length,
-        pdu_length: header_length + word_value(payload_length),
-    }
-}
-
-fn flag_in(edition: u64, byte1: u8) -> bool
-    ensures { λ r. ⌜ r ≡ flagOf (bitsUnder edition byte1) ⌝ }
-{
-    if edition == 11 {
-        false
-    } else {
-        byte1 / 8 % 2 == 1
-    }
-}
-
-fn reserved_in(edition: u64, byte1: u8) -> u8
-    ensures { λ r. ⌜ r ≡ reservedOf (bitsUnder edition byte1) ⌝ }
-{
-    if edition == 11 {
-        byte1 / 2 % 8
-    } else {
-        byte1 / 2 % 4
-    }
-}
-
-fn pdu_id_place(byte0: u8) -> usize
-    ensures { λ r. ⌜ (r ≡ pduIdPlace byte0) × (r ≤ 8) ⌝ }
-{
-    6 + 2 * byte_value(byte0 % 2)
-}
-
-fn path_count_place(byte0: u8) -> usize
-    ensures { λ r. ⌜ (r ≡ pathCountPlace byte0) × (r ≤ 9) ⌝ }
-{
-    pdu_id_place(byte0) + byte_value(octets::flag(byte0 / 8 % 8 == 1))
-}
-
-// The address of the last sender, 0 where it is unknown: of a path that is there whole, the two bytes before its end.
-fn sender_in(bytes: &[u8], path_bit: bool, path_count: u8, header_length: usize) -> u16
-    requires { ⌜ (readingNumber (readOf (now bytes)) ≡ 0)
-        × («path_bit» ≡ isSet (pathBit (at (now bytes) 0)))
-        × («path_count» ≡ pathCountIn (now bytes))
-        × («header_length» ≡ headerLength (headerOf (now bytes))) ⌝ }
-    ensures { λ r. ⌜ r ≡ senderAddress (lastSender (headerOf (now (bytes .entry))) (now (bytes .entry))) ⌝ }
-{
-    if !path_bit {
-        return 0;
-    }
-    if path_count == 0 {
-        return word_in(bytes, 4);
-    }
-    word_in(bytes, header_length - 2)
-}
-
-fn word_in(bytes: &[u8], place: usize) -> u16
-    requires { ⌜ place + 1 < length (now bytes) ⌝ }
-    ensures { λ r. ⌜ r ≡ wordAt (now (bytes .entry)) place ⌝ }
-{
-    word_of(bytes[place], bytes[place + 1])
-}
-
-fn word_of(high: u8, low: u8) -> u16
-    ensures { λ r. ⌜ r ≡ high * 256 + low ⌝ }
-{
-    high as u16 * 256 + low as u16
-}
-
-fn word_where(there: bool, bytes: &[u8], place: usize) -> u16
-    requires { ⌜ (there ≡ true → place + 1 < length (now bytes)) ⌝ }
-    ensures { λ r. ⌜ r ≡ cond there (wordAt (now (bytes .entry)) place) 0 ⌝ }
-{
-    if there { word_in(bytes, place) } else { 0 }
-}
-
-fn byte_where(there: bool, bytes: &[u8], place: usize) -> u8
-    requires { ⌜ (there ≡ true → place < length (now bytes)) ⌝ }
-    ensures { λ r. ⌜ r ≡ cond there (at (now (bytes .entry)) place) 0 ⌝ }
-{
-    if there { bytes[place] } else { 0 }
-}
-
-// A refusal of reading, as C sees it: its number, and 0 and false in every field. Document 01, "Numbers answered", 1 to 6; document 02, W-209, 17.
-fn refused_header(number: u8) -> MantHeader
-    ensures { λ r. ⌜ r ≡ refusedHeader number ⌝ }
-{
-    MantHeader {
-        number,
-        protocol: 0,
-        time_stamp_request: false,
-        path_bit: false,
-        has_destination: false,
-        port: 0,
-        has_encrypted: false,
-        encrypted: false,
-        reserved: 0,
-        ack: false,
-        added_header: false,
-        hop_limit: 0,
-        payload_length: 0,
-        source: 0,
-        destination: 0,
-        pdu_id: 0,
-        path_count: 0,
-        has_last_sender: false,
-        last_sender: 0,
-        header_length: 0,
-        pdu_length: 0,
-    }
 }
 
 fn has_sender(sender: Sender) -> bool

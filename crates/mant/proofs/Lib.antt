@@ -1,1 +1,2 @@
 pub mod Season
+pub mod Fields

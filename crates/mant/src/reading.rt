@@ -1,4 +1,5 @@
 // Reading: what the bytes of a PDU say.
+use super::header;
 use boundary::MantHeader;
 use pdu::Written;
 ghost use mathlib.Core.Path.{_≡_};
@@ -14,7 +15,14 @@ ghost use Rattle.boundary.specs.Boundary.{headerInC, pathAddressIn, pathHas};
 pub extern "C" fn mant_read(edition: u64, bytes: &[u8]) -> MantHeader
     ensures { λ r. ⌜ r ≡ headerInC (readUnder edition (now (bytes .entry))) (now (bytes .entry)) ⌝ }
 {
-    boundary::header_in_c(edition, bytes)
+    if !editions::is_known(edition) {
+        return header::refused_header(17);
+    }
+    let extent = pdu::extent_of(bytes);
+    if extent.number != 0 {
+        return header::refused_header(extent.number);
+    }
+    header::whole_header(edition, bytes, extent)
 }
 
 // The address at place `i` of the path of the PDU at the start of `bytes`, the first at 0. 0 past the last one, and where there is no PDU.

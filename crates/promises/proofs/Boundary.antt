@@ -1,8 +1,6 @@
 -- Every public function of `boundary`: its promise asks nothing of the caller and determines what the caller sees.
 use mathlib.Core.Path.{sym, _∙_}
 use Rattle.promises.specs.Promise.{Promised}
-use Rattle.boundary.proofs.header_in_c.Reads as header-in-c-reads
-use Rattle.boundary.proofs.header_in_c.Kinds as header-in-c-kinds
 use Rattle.boundary.proofs.fresh_from_c.Reads as fresh-from-c-reads
 use Rattle.boundary.proofs.fresh_from_c.Kinds as fresh-from-c-kinds
 use Rattle.boundary.proofs.node_from_c.Reads as node-from-c-reads
@@ -17,9 +15,6 @@ use Rattle.boundary.proofs.bound_in_c.Reads as bound-in-c-reads
 use Rattle.boundary.proofs.bound_in_c.Kinds as bound-in-c-kinds
 use Rattle.boundary.proofs.limits_in_c.Reads as limits-in-c-reads
 use Rattle.boundary.proofs.limits_in_c.Kinds as limits-in-c-kinds
-
-pub header-in-c : Promised 1 header-in-c-kinds.ps header-in-c-kinds.r header-in-c-reads.Asked header-in-c-reads.Post (λ κs x. x)
-header-in-c = (λ κs a. tt, λ κs a x y s t p q. p ∙ sym q)
 
 pub fresh-from-c : Promised 0 fresh-from-c-kinds.ps fresh-from-c-kinds.r fresh-from-c-reads.Asked fresh-from-c-reads.Post (λ κs x. x)
 fresh-from-c = (λ κs a. tt, λ κs a x y s t p q. p ∙ sym q)

@@ -16,6 +16,8 @@ use Rattle.pdu.proofs.read.Reads as read-reads
 use Rattle.pdu.proofs.read.Kinds as read-kinds
 use Rattle.pdu.proofs.fault.Reads as fault-reads
 use Rattle.pdu.proofs.fault.Kinds as fault-kinds
+use Rattle.pdu.proofs.extent_of.Reads as extent-of-reads
+use Rattle.pdu.proofs.extent_of.Kinds as extent-of-kinds
 use Rattle.pdu.proofs.refusal_number.Reads as refusal-number-reads
 use Rattle.pdu.proofs.refusal_number.Kinds as refusal-number-kinds
 use Rattle.pdu.proofs.reading_number.Reads as reading-number-reads
@@ -59,6 +61,9 @@ read = (λ κs a. tt, λ κs a x y s t p q. p ∙ sym q)
 
 pub fault : Promised 1 fault-kinds.ps fault-kinds.r fault-reads.Asked fault-reads.Post (λ κs x. x)
 fault = (λ κs a. tt, λ κs a x y s t p q. p ∙ sym q)
+
+pub extent-of : Promised 1 extent-of-kinds.ps extent-of-kinds.r extent-of-reads.Asked extent-of-reads.Post (λ κs x. x)
+extent-of = (λ κs a. tt, λ κs a x y s t p q. p ∙ sym q)
 
 pub refusal-number : Promised 0 refusal-number-kinds.ps refusal-number-kinds.r refusal-number-reads.Asked refusal-number-reads.Post (λ κs x. x)
 refusal-number = (λ κs a. tt, λ κs a x y s t p q. p ∙ sym q)

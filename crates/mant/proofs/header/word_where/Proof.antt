@@ -3,8 +3,8 @@ use mathlib.Core.Path.{ap, sym, _∙_}
 use denote.Ref.{now}
 use Rattle.octets.specs.Octets.{wordAt}
 use borrow.Author.Needs.{needs}
-use Rattle.boundary.proofs.word_where.Statement.{statement}
-use Rattle.boundary.proofs.word_where.Tie as tie
+use Rattle.mant.proofs.header.word_where.Statement.{statement}
+use Rattle.mant.proofs.header.word_where.Tie as tie
 
 word-in-requires : tie.Need-word-in-requires
 word-in-requires c κs = c .before .before .pre (c .if1 .taken)

@@ -1,6 +1,6 @@
 use borrow.Author.Tests.{eq-eqb, ne-eqb}
-use Rattle.boundary.proofs.flag_in.Statement.{statement}
-use Rattle.boundary.proofs.flag_in.Tie as tie
+use Rattle.mant.proofs.header.flag_in.Statement.{statement}
+use Rattle.mant.proofs.header.flag_in.Tie as tie
 
 returns : tie.Need-returns
 returns c = simp (eq-eqb _ _ (c .if1 .taken))

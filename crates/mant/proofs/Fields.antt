@@ -10,15 +10,17 @@ use borrow.Author.Tests.{eqb-true}
 use Rattle.octets.specs.Numbers.{flag}
 use Rattle.octets.specs.Octets.{at, wordAt}
 use Rattle.pdu.specs.declared.Destination.the-variants.{Everyone, Address}
+use Rattle.pdu.specs.declared.Extent.{Extent}
 use Rattle.pdu.specs.declared.Header.{Header}
 use Rattle.pdu.specs.declared.Sender.{Sender}
 use Rattle.pdu.specs.declared.Sender.the-variants.{Unknown, Known}
 use Rattle.pdu.specs.Header.{isSet, protocol, timeStampBit, pathBit, destinationBit, port, encryptedBit, reserved, ackBit, addedHeaderBit, hopLimit}
 use Rattle.pdu.specs.Header.{payloadLength, sourcePlace, destinationPlace, pduIdPlace, pathCountPlace, destinationIn, pduIdIn, pathCountIn, headerOf}
 use Rattle.pdu.specs.Sizes.{pathEntries, pathStart, headerLength, pduLength}
-use Rattle.pdu.specs.Reading.{readOf, readingNumber}
+use Rattle.pdu.specs.Reading.{readOf, readingNumber, extentOf}
 use Rattle.pdu.specs.Parts.{pathIn, lastOr, lastSender}
 use Rattle.pdu.proofs.Inversion.{Whole, shown}
+use Rattle.pdu.proofs.Extents.{extent-number}
 use Rattle.pdu.proofs.Number.{read-0}
 use Rattle.pdu.proofs.Paths.{address-at}
 use Rattle.pdu.proofs.Senders.{sender-unknown, sender-source, sender-at}
@@ -81,22 +83,31 @@ module _ (bytes : List ℕ) where
         ∙ address-at bytes (pathStart (headerOf bytes)) (pathEntries (headerOf bytes)) (count - 1) (omega (arith, entries))
         ∙ ap (wordAt bytes) (omega (arith, entries, end))
 
--- the path count and the header's length, from places found one by one
+-- the PDU ID, from its place
 module _ (bytes : List ℕ) where
-  pub count-is : {place count : ℕ} → count ≡ cond (isSet (pathBit (at bytes 0))) (at bytes place) 0 → place ≡ pathCountPlace (at bytes 0)
-      → count ≡ pathCountIn bytes
-  count-is e there = e ∙ ap (λ (place : ℕ). cond (isSet (pathBit (at bytes 0))) (at bytes place) 0) there
-
   pub id-is : {place id : ℕ} → id ≡ cond (eqb (protocol (at bytes 0)) 1) (at bytes place) 0 → place ≡ pduIdPlace (at bytes 0) → id ≡ pduIdIn bytes
   id-is e there = e ∙ ap (λ (place : ℕ). cond (eqb (protocol (at bytes 0)) 1) (at bytes place) 0) there
 
-  pub length-is : {place bit entries count : ℕ} → place ≡ pathCountPlace (at bytes 0) → bit ≡ pathBit (at bytes 0) → entries ≡ count
-      → count ≡ pathCountIn bytes → place + bit + 2 * entries ≡ headerLength (headerOf bytes)
-  length-is e f g h = omega (arith, length-shown bytes, e, f, g, h)
+-- what a PDU's extent tells
+pub record Reaches (bytes : List ℕ) (extent : Extent) : Type 0 where
+  pub read : readingNumber (readOf bytes) ≡ 0
+  pub count : extent .«path_count» ≡ pathCountIn bytes
+  pub payload : extent .«payload_length» ≡ payloadLength (at bytes 2) (at bytes 3)
+  pub header : extent .«header_length» ≡ headerLength (headerOf bytes)
+  pub all : extent .«pdu_length» ≡ pduLength (headerOf bytes)
 
-  pub total-is : {head payload size : ℕ} → head ≡ headerLength (headerOf bytes) → size ≡ payload → payload ≡ payloadLength (at bytes 2) (at bytes 3)
-      → head + size ≡ pduLength (headerOf bytes)
-  total-is e f g = omega (arith, pdu-length-shown bytes, e, f, g)
+pub reaches : (bytes : List ℕ) (extent : Extent) → extent ≡ extentOf (readOf bytes) → extent .number ≡ 0 → Reaches bytes extent
+unfolding headerOf
+reaches bytes extent is none =
+    let read = sym (extent-number (readOf bytes)) ∙ sym (ap (λ (x : Extent). x .number) is) ∙ none in
+    let there = is ∙ ap extentOf (read-0 bytes read) in
+    record {
+      read = read;
+      count = ap (λ (x : Extent). x .«path_count») there;
+      payload = ap (λ (x : Extent). x .«payload_length») there;
+      header = ap (λ (x : Extent). x .«header_length») there;
+      all = ap (λ (x : Extent). x .«pdu_length») there;
+    }
 
 -- flags, by the bits that tell them
 destination-told : (bytes : List ℕ) → hasDestination (destinationIn bytes) ≡ isSet (destinationBit (at bytes 0))

@@ -1,8 +1,8 @@
 use mathlib.Core.Path.{refl}
 use Rattle.pdu.specs.Header.{headerOf}
 use Rattle.editions.specs.Editions.{shownWith}
-use Rattle.boundary.proofs.refused_header.Statement.{statement}
-use Rattle.boundary.proofs.refused_header.Tie as tie
+use Rattle.mant.proofs.header.refused_header.Statement.{statement}
+use Rattle.mant.proofs.header.refused_header.Tie as tie
 
 returns : tie.Need-returns
 unfolding headerOf shownWith

@@ -3,8 +3,8 @@ use mathlib.Core.Path.{ap, sym}
 use denote.Ref.{now}
 use Rattle.octets.specs.Octets.{at}
 use borrow.Author.Needs.{needs}
-use Rattle.boundary.proofs.byte_where.Statement.{statement}
-use Rattle.boundary.proofs.byte_where.Tie as tie
+use Rattle.mant.proofs.header.byte_where.Statement.{statement}
+use Rattle.mant.proofs.header.byte_where.Tie as tie
 
 shared-slice-read-result : tie.Need-shared-slice-read-result
 shared-slice-read-result c = c .before .before .pre (c .before .if1 .taken)
