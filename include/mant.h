@@ -272,7 +272,7 @@ MantWritten mant_originate(MantFresh settings, const uint8_t *payload, size_t pa
  *     whatever is chosen.
  * Numbers: for delivery and repeating alike 17, 20 to 22, 1 to 6, 30, 42, 31 to 34 and 40; for delivery alone 35 and 39; for repeating alone 36 to 38 and
  *     41; for a batch above the size limit 54.
- * Stack: mant_list_fault 88, mant_list_holds 8, mant_hear 456, mant_step 360.
+ * Stack: mant_list_fault 88, mant_list_holds 8, mant_hear 456, mant_step 520.
  */
 
 /* Values in a list, bytes in a batch. */
@@ -674,7 +674,7 @@ MantWritten mant_write_exchange(const uint8_t *bytes, size_t bytes_length, uint8
  *     of all zeros too, so that the records may hold anything before the first call. The first is always the one at the lowest place. Where a call changes
  *     the table it changes one record; with a refusal none, nor the last time.
  * Numbers: 10, 11, 70 to 75, 77.
- * Stack: mant_retain 656, mant_retry 688, mant_acknowledge 496.
+ * Stack: mant_retain 656, mant_retry 688, mant_acknowledge 576.
  */
 
 /* How many records a table of retained PDUs has, and how many bytes the longest PDU that it retains. */
