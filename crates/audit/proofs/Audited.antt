@@ -1,6 +1,7 @@
 -- All of it, each from its crate.
 use Rattle.checked_by_hand.proofs.Examples.{checked}
 use Rattle.demands.proofs.Demands.{total, exactly, bounded}
+use Rattle.shut_out.proofs.ShutOut.{shut-out}
 use Rattle.stations_heard.proofs.StationsHeard.{stations-heard}
 use Rattle.serial_exchange.proofs.SerialExchange.{serial-exchange}
 use Rattle.own_report.proofs.OwnReport.{own-report}
@@ -21,6 +22,7 @@ audited =
       exactly = exactly;
       bounded = bounded;
       by-hand = checked;
+      shut-out = shut-out;
       w201 = stations-heard;
       w202 = serial-exchange;
       w203 = own-report;

@@ -3,6 +3,7 @@
 -- is so, is crate `promises`.
 use Rattle.checked_by_hand.specs.Examples.{CheckedByHand}
 use Rattle.demands.specs.Demands.{Demand1, Demand2, Demand3}
+use Rattle.shut_out.specs.ShutOut.{ShutOut}
 use Rattle.stations_heard.specs.StationsHeard.{StationsHeard}
 use Rattle.serial_exchange.specs.SerialExchange.{SerialExchange}
 use Rattle.own_report.specs.OwnReport.{OwnReport}
@@ -16,11 +17,12 @@ use Rattle.two_lists.specs.TwoLists.{TwoLists}
 use Rattle.encrypted_payloads.specs.EncryptedPayloads.{EncryptedPayloads}
 
 pub record Audited : Type 0 where
-  -- the three demands, and 01's cases checked by hand
+  -- the three demands, 01's cases checked by hand, and the programs that it wants shut out
   pub total : Demand1
   pub exactly : Demand2
   pub bounded : Demand3
   pub by-hand : CheckedByHand
+  pub shut-out : ShutOut
   -- 02's requests
   pub w201 : StationsHeard
   pub w202 : SerialExchange

@@ -1,0 +1,106 @@
+-- Document 01, "What the contracts must say", the programs to try against demand 2, and "Slips to rule out", as one record; `proofs/ShutOut.antt` gives it
+-- from its parts.
+use Prim.Native.Nat.{ℕ, zero, suc, _+_, _<_}
+use mathlib.Core.Bool.{Bool, true, false}
+use mathlib.Core.List.{List, [], _∷_}
+use mathlib.Core.Path.{_≡_}
+use lib.ListN.{length, take, drop, replicate}
+use Rattle.octets.specs.Octets.{at}
+use Rattle.pdu.specs.declared.Sender.the-variants.{Known}
+use Rattle.pdu.specs.Header.{headerOf}
+use Rattle.pdu.specs.Parts.{pathIn}
+use Rattle.lists.specs.Lists.{Lists, listsOf}
+use Rattle.decision.specs.Decision.{Node}
+use Rattle.node.specs.declared.Answer.{Answer}
+use Rattle.node.specs.Repeat.{lowered}
+use Rattle.node.specs.Answers.{taken, repeatNumber, answerOf, twice, Hears}
+use Rattle.batch.specs.declared.Cursor.{Cursor}
+use Rattle.batch.specs.declared.Stepped.{Stepped}
+use Rattle.batch.specs.Walk.{Steps, Walk, endingAt, walk, continued}
+use Rattle.checked_by_hand.specs.Examples.{example, exampleRepeated, nodeAt}
+
+-- whatever stands for `hear`: an answer and what is left in the output; and that it keeps the promise of `hear`
+abbrev pub Hearer : Type 0
+Hearer = Node → List ℕ → List ℕ → Answer × List ℕ
+
+abbrev pub KeepsHearing : Hearer → Type 0
+KeepsHearing hearer =
+    (node : Node) (received output : List ℕ) → Hears node received output (hearer node received output .0) (hearer node received output .1)
+
+-- whatever stands for a step of a walk, and that it keeps the promise of `step`
+abbrev pub Stepper : Type 0
+Stepper = Node → List ℕ → Cursor → List ℕ → Stepped × List ℕ
+
+abbrev pub KeepsStepping : Stepper → Type 0
+KeepsStepping stepper =
+    (node : Node) (batch : List ℕ) (cursor : Cursor) (output : List ℕ)
+    → Steps node batch cursor output (stepper node batch cursor output .0) (stepper node batch cursor output .1)
+
+-- the walk that its steps make, so many from a cursor on
+unfoldable pub walkedBy : Stepper → Node → List ℕ → List ℕ → ℕ → Cursor → Walk
+walkedBy stepper node batch output zero cursor = endingAt 0 (cursor .place)
+walkedBy stepper node batch output (suc turns) cursor =
+    continued (stepper node batch cursor output .0) (cursor .place) (λ next. walkedBy stepper node batch output turns next)
+
+-- offsets from a place on, each where the PDU before it ends, and the end behind the last
+abbrev pub Follows : Node → List ℕ → ℕ → List ℕ → ℕ → Type 0
+Follows node batch place [] end = end ≡ place
+Follows node batch place (offset ∷ later) end = (offset ≡ place) × Follows node batch (place + taken node (drop place batch)) later end
+
+-- an output of 100 bytes
+abbrev pub zeros : List ℕ
+zeros = replicate 100 0
+
+-- node 2000 with a source pass or a source reject list on that holds its own address alone
+abbrev pub listing : Bool → Bool → Lists → Node
+listing pass reject lists =
+    record {
+      settings = record {
+        own = 2000;
+        echo = true;
+        repeating = true;
+        «source_pass» = pass;
+        «source_reject» = reject;
+        «destination_pass» = false;
+        «destination_reject» = false;
+      };
+      lists = lists;
+    }
+
+-- a reliable PDU to 1600 with 2000 in its path: destination and PDU ID come before the count
+abbrev pub reliable : List ℕ
+reliable = 0x0B ∷ 0x00 ∷ 0x10 ∷ 0x00 ∷ 0x03 ∷ 0xE8 ∷ 0x06 ∷ 0x40 ∷ 0x55 ∷ 0x01 ∷ 0x07 ∷ 0xD0 ∷ []
+
+pub record ShutOut : Type 0 where
+  -- a node that refuses all, as far as repeating goes
+  pub refuses-all : (hearer : Hearer) → ((node : Node) (received output : List ℕ) → hearer node received output .0 .repeat ≡ 0 → ⊥)
+      → KeepsHearing hearer → ⊥
+  -- one that gives one fixed answer
+  pub one-fixed-answer : (hearer : Hearer) (fixed : Answer) → ((node : Node) (received output : List ℕ) → hearer node received output .0 ≡ fixed)
+      → KeepsHearing hearer → ⊥
+  -- one that copies nothing out
+  pub copies-nothing-out : (hearer : Hearer) → ((node : Node) (received output : List ℕ) → hearer node received output .1 ≡ output)
+      → KeepsHearing hearer → ⊥
+  -- a walk that decides only the first PDU: what it says at a later cursor is the same whatever the batch
+  pub first-alone : (stepper : Stepper)
+      → ((node : Node) (batch other : List ℕ) (cursor : Cursor) (output : List ℕ) → 0 < cursor .place
+      → stepper node batch cursor output .0 ≡ stepper node other cursor output .0)
+      → KeepsStepping stepper → ⊥
+  -- guesses: at each PDU, steps that keep the promise say what 01's walk has there
+  pub no-guess : (stepper : Stepper) → KeepsStepping stepper → (node : Node) (batch output : List ℕ)
+      → walkedBy stepper node batch output (length batch) (record { place = 0; ended = false }) ≡ walk node (length output) batch
+  -- an invented count of PDUs: there is one for each offset, and these follow from the bytes up to the end
+  pub offsets-follow : (node : Node) (room : ℕ) (batch : List ℕ)
+      → Follows node batch 0 (walk node room batch .offsets) (walk node room batch .end)
+  -- an invented count of path entries, in the repeat of the example of document 002
+  pub invented-count : (answer : Answer) (left : List ℕ) → (at (take 22 left) 8 ≡ 1 → ⊥) → Hears (nodeAt 2000 true false) example zeros answer left → ⊥
+  -- slips. The own address sought in the source lists: the PDU's source, 1000, is in neither
+  pub source-sought : (answerOf (listing true false (listsOf (2000 ∷ 2000 ∷ []) [] [] [])) 100 example ≡ twice 31 20 (Known 1000))
+      × (answerOf (listing false true (listsOf [] (2000 ∷ 2000 ∷ []) [] [])) 100 example .delivery ≡ 39)
+  -- 7 lowered, 0 become 7: 7 is kept, 1 to 6 are lowered by one, and a PDU of hop limit 0 is never repeated
+  pub seven-kept : (lowered 7 ≡ 7) × ((hop : ℕ) → 0 < hop → hop < 7 → lowered hop + 1 ≡ hop)
+  pub zero-stays : (node : Node) (room : ℕ) (received : List ℕ) → headerOf received .«hop_limit» ≡ 0 → repeatNumber node room received ≡ 0 → ⊥
+  -- the hop limit tested before the echo: 37 for the example's repeat, of hop limit 0, at the node in its path
+  pub hop-before-echo : (answer : Answer) (left : List ℕ) → answer .repeat ≡ 37 → Hears (nodeAt 2000 true false) exampleRepeated zeros answer left → ⊥
+  -- the path sought at byte 6
+  pub path-behind : pathIn (headerOf reliable) reliable ≡ 2000 ∷ []
