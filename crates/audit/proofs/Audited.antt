@@ -2,6 +2,7 @@
 use Rattle.checked_by_hand.proofs.Examples.{checked}
 use Rattle.demands.proofs.Demands.{total, exactly, bounded}
 use Rattle.shut_out.proofs.ShutOut.{shut-out}
+use Rattle.relayed.proofs.Relayed.{relays}
 use Rattle.stations_heard.proofs.StationsHeard.{stations-heard}
 use Rattle.serial_exchange.proofs.SerialExchange.{serial-exchange}
 use Rattle.own_report.proofs.OwnReport.{own-report}
@@ -23,6 +24,7 @@ audited =
       bounded = bounded;
       by-hand = checked;
       shut-out = shut-out;
+      printed = relays;
       w201 = stations-heard;
       w202 = serial-exchange;
       w203 = own-report;

@@ -4,6 +4,7 @@
 use Rattle.checked_by_hand.specs.Examples.{CheckedByHand}
 use Rattle.demands.specs.Demands.{Demand1, Demand2, Demand3}
 use Rattle.shut_out.specs.ShutOut.{ShutOut}
+use Rattle.relayed.specs.Relayed.{Relayed}
 use Rattle.stations_heard.specs.StationsHeard.{StationsHeard}
 use Rattle.serial_exchange.specs.SerialExchange.{SerialExchange}
 use Rattle.own_report.specs.OwnReport.{OwnReport}
@@ -17,12 +18,13 @@ use Rattle.two_lists.specs.TwoLists.{TwoLists}
 use Rattle.encrypted_payloads.specs.EncryptedPayloads.{EncryptedPayloads}
 
 pub record Audited : Type 0 where
-  -- the three demands, 01's cases checked by hand, and the programs that it wants shut out
+  -- the three demands, 01's cases checked by hand, the programs that it wants shut out, and what `relay` prints
   pub total : Demand1
   pub exactly : Demand2
   pub bounded : Demand3
   pub by-hand : CheckedByHand
   pub shut-out : ShutOut
+  pub printed : Relayed
   -- 02's requests
   pub w201 : StationsHeard
   pub w202 : SerialExchange

@@ -1,0 +1,1 @@
+// No code: what `relay` prints, as one record.
