@@ -1,5 +1,5 @@
 -- The three demands, each from its parts.
-use Prim.Native.Nat.{ℕ, _≤_}
+use Prim.Native.Nat.{ℕ, _≤_, _<_}
 use native.Mathlib.Omega.{arith}
 use mathlib.Core.Bool.{Bool, true, false, cond, _||_}
 use mathlib.Core.List.{List, [], _∷_, _++_, map}
@@ -17,7 +17,9 @@ use Rattle.pdu.specs.Sizes.{pduLimit, pduLength}
 use Rattle.pdu.specs.Reading.{readOf}
 use Rattle.pdu.specs.Parts.{pathIn, payloadIn}
 use Rattle.writing.specs.Writing.{encode, writtenOf, outputOf, writeAgain, writtenAgain}
-use Rattle.origin.specs.Origination.{originationNumber, originated, originatedOutput}
+use Rattle.editions.specs.Editions.{known}
+use Rattle.origin.specs.declared.Settings as asked
+use Rattle.origin.specs.Origination.{settingsFault, originationNumber, originated, originatedOutput}
 use Rattle.decision.specs.Decision.{Node, repeatFault}
 use Rattle.node.specs.Repeat.{repeatedHeader, repeated}
 use Rattle.node.specs.declared.Answer.{Answer}
@@ -27,13 +29,14 @@ use Rattle.batch.specs.declared.Stepped.the-variants.{TooLong, Ended, Answered}
 use Rattle.batch.specs.declared.Stepped.{Stepped}
 use Rattle.batch.specs.Walk.{batchLimit, isTooLong, isDone, nextCursor, stepOf, stepOutput, endingAt, walkFrom, walk}
 use Rattle.origin.proofs.ReadBack.{fresh-back}
-use Rattle.origin.proofs.Deciding.{hop-refused, refused-early}
+use Rattle.origin.proofs.Deciding.{edition-refused, hop-refused, refused-early}
 use Rattle.writing.proofs.Same.{written-same, shown-well-formed}
 use Rattle.writing.proofs.Back.{read-encode, path-encode, payload-encode}
 use Rattle.node.proofs.Heard.{repeats, delivered-part}
 use Rattle.node.proofs.Repeating.{ready}
 use Rattle.node.proofs.Encoded.{alone-reads, alone-path, alone-payload, repeat-short}
 use Rattle.batch.proofs.Walking as walking
+use Rattle.bound.proofs.Values.{bound-3-2, bound-3-6, bound-3-7, bound-no-hops, bound-no-nodes}
 use Rattle.flood.specs.Air.{address}
 use Rattle.flood.proofs.Demand.{demand-3, demand-3-bytes}
 use Rattle.flood.proofs.Demand as demand
@@ -78,12 +81,29 @@ step-as-was node batch cursor output ne = go (isTooLong batch) (isDone batch cur
     go false true n = refl
     go false false n = node-as-was node (drop (cursor .place) batch) output (n _ _ refl)
 
+too-many-hops : (settings : asked.Settings) (payload output : List ℕ) → 7 < settings .«hop_limit»
+    → (originated settings payload (length output) ≡ record { number = cond (known (settings .edition)) 10 17; length = 0 })
+    × (originatedOutput settings payload output ≡ output)
+unfolding originated originatedOutput
+too-many-hops settings payload output h = go (known (settings .edition)) refl
+  where
+    early : (number : ℕ) → number ≡ settingsFault settings payload → 0 < number
+        → (originated settings payload (length output) ≡ record { number = number; length = 0 }) × (originatedOutput settings payload output ≡ output)
+    early number e some =
+        let refused = refused-early settings payload (length output) number e some in
+        rw (refused, ne-eqb number 0 (λ z. omega arith)) (refl, refl)
+
+    go : (named : Bool) → known (settings .edition) ≡ named
+        → (originated settings payload (length output) ≡ record { number = cond named 10 17; length = 0 })
+        × (originatedOutput settings payload output ≡ output)
+    go true e = early 10 (hop-refused settings payload e h) (omega arith)
+    go false e = early 17 (edition-refused settings payload e) (omega arith)
+
 pub total : Demand1
 unfolding originated originatedOutput
 total =
     record {
-      hop-refused = λ settings payload output named h.
-          rw (refused-early settings payload (length output) 10 (hop-refused settings payload named h) (omega arith)) (refl, refl);
+      hop-refused = λ settings payload output h. too-many-hops settings payload output h;
       origination-untouched = λ settings payload output ne. rw (ne-eqb (originationNumber settings payload (length output)) 0 ne);
       writing-untouched = λ bytes output ne. writing-as-was bytes output ne;
       node-untouched = λ node received output ne. node-as-was node received output ne;
@@ -162,6 +182,7 @@ bounded =
         exact.reached-bytes nodes all settings payload room message free roomy
             (λ n m. exact.for-everyone (address n) (settings .destination) everyone) fits receptions once complete,
       );
+      values = (bound-3-2, bound-3-6, bound-3-7, bound-no-hops, bound-no-nodes);
       schedule = λ nodes all settings payload room message. demand.schedule nodes all settings payload room message;
       begun-bounded = λ nodes all first begins receptions once.
           (demand.begun-bounded nodes all first begins receptions once, demand.begun-bytes nodes all first begins receptions once);

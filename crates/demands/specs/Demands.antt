@@ -1,6 +1,6 @@
 -- The three demands, each as one record; `proofs/Demands.antt` gives each of them and cites its parts.
 use Prim.Native.Nat.{ℕ, _+_, _*_, _<_, _≤_}
-use mathlib.Core.Bool.{true, false, cond}
+use mathlib.Core.Bool.{false, cond}
 use mathlib.Core.List.{List, [], _∷_, _++_, map, List·Memᴰ, List·Nodup}
 use mathlib.Core.Logic.{_⊎_}
 use mathlib.Core.Option.{none, some}
@@ -30,11 +30,13 @@ use Rattle.flood.specs.Complete.{Complete}
 use Rattle.flood.specs.Air.{Repeater, Nodes, Open, Originated, address, sends, sourceOf, pathOf, onTheAir, bytesOnTheAir, Begins, hopOf}
 
 -- Demand 1, total. That every public function answers any input, and how, are its contract and the theorems of crate `promises`, one for each function,
--- in the files named by the crates. Here: a hop setting above 7 is refused, whatever else is set, with nothing written; with 10 under
--- the editions that there are, else with 17 (document 02, W-209).
+-- in the files named by the crates.
 pub record Demand1 : Type 0 where
-  pub hop-refused : (settings : asked.Settings) (payload output : List ℕ) → known (settings .edition) ≡ true → 7 < settings .«hop_limit»
-      → (originated settings payload (length output) ≡ record { number = 10; length = 0 }) × (originatedOutput settings payload output ≡ output)
+  -- a hop setting above 7 is refused, whatever else is set, with nothing written: with 10 under the editions that there are, else with 17 (document 02,
+  -- W-209)
+  pub hop-refused : (settings : asked.Settings) (payload output : List ℕ) → 7 < settings .«hop_limit»
+      → (originated settings payload (length output) ≡ record { number = cond (known (settings .edition)) 10 17; length = 0 })
+      × (originatedOutput settings payload output ≡ output)
   -- with a number other than 0 no output is touched: at origination, in writing again, at a node, in a step of the walk
   pub origination-untouched : (settings : asked.Settings) (payload output : List ℕ) → (originationNumber settings payload (length output) ≡ 0 → ⊥)
       → originatedOutput settings payload output ≡ output
@@ -108,7 +110,9 @@ pub record Demand3 : Type 0 where
       → (length (onTheAir nodes (fresh settings payload) receptions) ≡ bound (length counted) (settings .«hop_limit»))
       × (bytesOnTheAir nodes (fresh settings payload) receptions
       ≡ bytesBound (length counted) (settings .«hop_limit») (length (fresh settings payload)))
-  -- and such receptions exist
+  -- the bound's values that 01 checks by hand
+  pub values : (bound 3 2 ≡ 10) × (bound 3 6 ≡ 16) × (bound 3 7 ≡ 16) × ((n : ℕ) → bound n 0 ≡ 1) × ((h : ℕ) → bound 0 h ≡ 1)
+  -- receptions by which each node hears each transmission exist
   pub schedule : (nodes : List Repeater) → Nodes nodes → (settings : asked.Settings) (payload : List ℕ) (room : ℕ)
       → Originated settings payload room
       → (receptions : List Reception) × List·Nodup receptions × Complete sends nodes (fresh settings payload ∷ []) receptions
