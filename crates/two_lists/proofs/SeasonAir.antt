@@ -1,12 +1,14 @@
 -- Demand 3 and W-208 over nodes with two lists of each kind: they send as the nodes of 01 that stand in for them.
-use Prim.Native.Nat.{ℕ, zero, suc, _+_, _-_, _<_, _≤_}
+use Prim.Native.Nat.{ℕ, zero, suc, _+_, _*_, _-_, _<_, _≤_}
 use mathlib.Core.Bool.{Bool, true, false, cond}
 use mathlib.Core.List.{List, [], _∷_, _++_, map, List·Memᴰ, List·Memᴰ·head, List·Memᴰ·tail, Memᴰ·map, Memᴰ·of-map, List·Nodup}
-use mathlib.Core.Logic.{_≢_}
+use mathlib.Core.Logic.{_⊎_, _≢_}
 use mathlib.Core.Option.{Option, none, some, Option·none-ne-some, Option·some-injective}
 use mathlib.Core.Path.{_≡_, refl, ap, sym, subst, _∙_}
 use lib.Dec.{eqb}
 use lib.ListN.{length, take, drop, getElem?, length-map}
+use Rattle.pdu.specs.declared.Destination.the-variants.{Everyone}
+use Rattle.pdu.specs.Sizes.{pathLimit}
 use Rattle.editions.specs.Editions.{known}
 use Rattle.origin.specs.declared.Settings as asked
 use Rattle.origin.specs.Origination.{fresh}
@@ -18,10 +20,10 @@ use Rattle.seasons.specs.Choosing.{eightFault, chosenNode}
 use Rattle.seasons.specs.Under.{seasonAnswerUnder}
 use Rattle.seasons.proofs.Standing.{standIn}
 use Rattle.seasons.proofs.Carried.{answers-as-under, chosen-answer, stands}
-use Rattle.bound.specs.Bound.{bound, bytesBound}
+use Rattle.bound.specs.Bound.{terms, bound, bytesBound}
 use Rattle.flood.specs.Flood.{Reception, answer, flood, total, others, Bounded}
-use Rattle.flood.specs.Air.{Repeater, Nodes, Begins, Originated, address, sends, sourceOf, pathOf, hopOf, onTheAir}
-use Rattle.flood.specs.Complete.{Heard}
+use Rattle.flood.specs.Air.{Repeater, Nodes, Open, Begins, Originated, address, sends, sourceOf, pathOf, hopOf, onTheAir}
+use Rattle.flood.specs.Complete.{Heard, Complete}
 use Rattle.flood.proofs.Demand as demand
 use Rattle.flood.proofs.Fresh.{originated-begins, fresh-source, fresh-hop}
 use Rattle.flood.proofs.Lists.{at-mem, mem-at, same-place}
@@ -29,6 +31,7 @@ use Rattle.chains.specs.Chains.{Chain, Shortest}
 use Rattle.coverage.specs.Hearing.{Taken}
 use Rattle.coverage.specs.Delivery.{Planned, Delivers, Delivered}
 use Rattle.coverage.proofs.Covered as covered
+use Rattle.demands.proofs.Demands.{bounded as demands}
 use Rattle.two_lists.specs.TwoLists.{SeasonRepeater, own, asChosen, seasonSends, seasonAir, SeasonDelivered}
 
 -- a run over nodes of one kind, as a run over those of another that send the same
@@ -82,6 +85,63 @@ module _ (editionOf : ℕ → ℕ) (named : (a : ℕ) → known (editionOf a) �
       → (first : List ℕ) (receptions : List Reception) → seasonAir editionOf nodes first receptions ≡ onTheAir (map asChosen nodes) first receptions
   same-air nodes clean first receptions =
       air-as nodes first receptions ∙ ap (λ (l : List Repeater). onTheAir l first receptions) (all-stand nodes clean)
+
+-- and then they hear every transmission where those do
+module _ (editionOf : ℕ → ℕ) (named : (a : ℕ) → known (editionOf a) ≡ true) (nodes : List SeasonRepeater)
+    (clean : (n : SeasonRepeater) → List·Memᴰ n nodes → eightFault (n .node .lists) ≡ 0) (first : List ℕ) (receptions : List Reception) where
+  same : (part : List Reception) → seasonAir editionOf nodes first part ≡ onTheAir (map asChosen nodes) first part
+  same part = same-air editionOf named nodes clean first part
+
+  complete-as : Complete (seasonSends editionOf) nodes (first ∷ []) receptions → Complete sends (map asChosen nodes) (first ∷ []) receptions
+  complete-as all node transmission there made =
+      let h =
+      all node transmission (subst (λ (n : ℕ). node < n) (length-map nodes asChosen) there)
+      (subst (λ (l : List (List ℕ)). transmission < length l) (sym (same receptions)) made) in
+      record {
+        before = h .before;
+        after = h .after;
+        split = h .split;
+        made = subst (λ (l : List (List ℕ)). transmission < length l) (same (h .before)) (h .made);
+      }
+
+  complete-so : Complete sends (map asChosen nodes) (first ∷ []) receptions → Complete (seasonSends editionOf) nodes (first ∷ []) receptions
+  complete-so all node transmission there made =
+      let h =
+      all node transmission (subst (λ (n : ℕ). node < n) (sym (length-map nodes asChosen)) there)
+      (subst (λ (l : List (List ℕ)). transmission < length l) (same receptions) made) in
+      record {
+        before = h .before;
+        after = h .after;
+        split = h .split;
+        made = subst (λ (l : List (List ℕ)). transmission < length l) (sym (same (h .before))) (h .made);
+      }
+
+pub reached : (editionOf : ℕ → ℕ) → ((a : ℕ) → known (editionOf a) ≡ true) → (nodes : List SeasonRepeater) → Nodes (map asChosen nodes)
+    → ((n : SeasonRepeater) → List·Memᴰ n nodes → eightFault (n .node .lists) ≡ 0)
+    → (settings : asked.Settings) (payload : List ℕ) (room : ℕ) → Originated settings payload room
+    → let counted = others address (settings .source) (map asChosen nodes) in
+    ((n : Repeater) → List·Memᴰ n counted → Open (n .node))
+    → ((n : Repeater) → List·Memᴰ n counted → length (fresh settings payload) + 2 * terms (length counted) (settings .«hop_limit») ≤ n .room)
+    → settings .destination ≡ Everyone → (length counted ≤ pathLimit) ⊎ (settings .«hop_limit» < 7)
+    → (receptions : List Reception) → List·Nodup receptions → Complete (seasonSends editionOf) nodes (fresh settings payload ∷ []) receptions
+    → (length (seasonAir editionOf nodes (fresh settings payload) receptions) ≡ bound (length counted) (settings .«hop_limit»))
+    × (total length (seasonAir editionOf nodes (fresh settings payload) receptions)
+    ≡ bytesBound (length counted) (settings .«hop_limit») (length (fresh settings payload)))
+reached editionOf named nodes all clean settings payload room message free roomy everyone fits receptions once complete =
+    let first = fresh settings payload in
+    let r =
+    demands .reached (map asChosen nodes) all settings payload room message free roomy everyone fits receptions once
+    (complete-as editionOf named nodes clean first receptions complete) in
+    let air = same-air editionOf named nodes clean first receptions in
+    (ap length air ∙ r .0, ap (λ (l : List (List ℕ)). total length l) air ∙ r .1)
+
+pub schedule : (editionOf : ℕ → ℕ) → ((a : ℕ) → known (editionOf a) ≡ true) → (nodes : List SeasonRepeater) → Nodes (map asChosen nodes)
+    → ((n : SeasonRepeater) → List·Memᴰ n nodes → eightFault (n .node .lists) ≡ 0)
+    → (settings : asked.Settings) (payload : List ℕ) (room : ℕ) → Originated settings payload room
+    → (receptions : List Reception) × List·Nodup receptions × Complete (seasonSends editionOf) nodes (fresh settings payload ∷ []) receptions
+schedule editionOf named nodes all clean settings payload room message =
+    let (receptions, once, complete) = demands .schedule (map asChosen nodes) all settings payload room message in
+    (receptions, once, complete-so editionOf named nodes clean (fresh settings payload) receptions complete)
 
 -- in any case they have the same addresses, and echo on where those have it
 standing-addresses : (nodes : List SeasonRepeater) → map address (map standing nodes) ≡ map address (map asChosen nodes)

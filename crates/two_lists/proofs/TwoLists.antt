@@ -6,7 +6,7 @@ use mathlib.Core.List.{List, [], _∷_, flatten}
 use mathlib.Core.Logic.{_⊎_, inl, inr}
 use mathlib.Core.Path.{_≡_, refl, ap, sym, subst, _∙_}
 use lib.Dec.{eqb}
-use lib.ListN.{length, take, drop, replicate}
+use lib.ListN.{length, take, drop}
 use borrow.Author.Tests.{eqb-true, ne-eqb, lt-ltb, le-ltb, le-leb, lt-leb}
 use Rattle.octets.specs.Numbers.{_gives_, _orElse_}
 use Rattle.octets.proofs.Numbering.{orElse-later}
@@ -42,10 +42,10 @@ use Rattle.transmit.specs.History.{places, allReadable}
 use Rattle.flood.specs.Air.{Open}
 use Rattle.coverage.specs.Delivery.{Delivers}
 use Rattle.boundary.specs.Boundary.{choiceFromC}
-use Rattle.two_lists.specs.TwoLists.{odd, upsideDown, long, eight, SeasonRepeater, asChosen, TwoLists}
+use Rattle.two_lists.specs.TwoLists.{SeasonRepeater, asChosen, TwoLists}
 use Rattle.demands.proofs.Demands.{total}
 use Rattle.transmit_queue.proofs.TransmitQueue.{transmit-queue}
-use Rattle.two_lists.proofs.SeasonAir.{bounded, begun-bounded, same-air, reach, as-delivered}
+use Rattle.two_lists.proofs.SeasonAir.{bounded, begun-bounded, same-air, reached, schedule, reach, as-delivered}
 
 -- a node of 01 whose lists have no fault gives none of 20 to 22
 abbrev Other : ℕ → Type 0
@@ -206,23 +206,6 @@ module _ (edition : ℕ) (node : SeasonNode) where
       go true f = total .node-untouched (standIn node) received output f
       go false f = refl
 
--- computed
-module _ where
-  faults-in-order : (eightFault (eight [] odd upsideDown [] [] [] [] []) ≡ 21) × (eightFault (eight [] [] [] odd upsideDown [] [] []) ≡ 21)
-      × (eightFault (eight [] [] [] [] [] odd upsideDown []) ≡ 21)
-  unfolding firstFault faultOf lowAboveHigh _gives_ _orElse_
-  faults-in-order = (refl, refl, refl)
-
-  faults-of-a-kind : (eightFault (eight odd upsideDown [] [] [] [] [] []) ≡ 21) × (eightFault (eight [] [] odd upsideDown [] [] [] []) ≡ 21)
-      × (eightFault (eight [] [] [] [] odd upsideDown [] []) ≡ 21) × (eightFault (eight [] [] [] [] [] [] odd upsideDown) ≡ 21)
-  unfolding firstFault faultOf lowAboveHigh _gives_ _orElse_
-  faults-of-a-kind = (refl, refl, refl, refl)
-
-  faults-at-the-end : (eightFault (eight [] [] [] [] [] [] [] odd) ≡ 21) × (eightFault (eight [] [] [] [] [] [] [] upsideDown) ≡ 20)
-      × (eightFault (eight [] [] [] [] [] [] [] long) ≡ 22) × (eightFault (eight [] [] [] [] [] [] [] (replicate 128 0)) ≡ 0)
-  unfolding firstFault faultOf lowAboveHigh _gives_ _orElse_
-  faults-at-the-end = (refl, refl, refl, refl)
-
 opened : (node : SeasonNode) → eightFault (node .lists) ≡ 0 → node .settings .repeating ≡ true → node .settings .«source_pass» ≡ Neither
     → node .settings .«source_reject» ≡ Neither → node .settings .«destination_pass» ≡ Neither → node .settings .«destination_reject» ≡ Neither
     → Open (chosenNode node)
@@ -272,9 +255,6 @@ two-lists =
       without-fault = λ lists. none-anywhere (inOrderOfKinds lists);
       first-fault = λ lists. first-at (inOrderOfKinds lists);
       order = λ a b c d e f g h. refl;
-      second-before-next-kind = faults-in-order;
-      first-before-second = faults-of-a-kind;
-      last-of-all = faults-at-the-end;
       after-17 = after-17;
       steps-after-17 = steps-after-17;
       at-fault = λ edition settings lists received output named some. at-fault edition (seasonNodeOf settings lists) named received output some;
@@ -295,32 +275,27 @@ two-lists =
       walks = λ edition node room batch clean. chosen-walk edition node clean room batch;
       stepping-walks = stepping-walks-so;
       choices = λ first second. (refl, refl, refl, refl, refl, refl);
-      none-stops = (refl, refl, refl, refl);
-      second-stops = (refl, refl, refl, refl);
-      first-stops = (refl, refl, refl, refl);
       second-alone-stops = (refl, refl, refl, refl);
       first-alone-stops = (refl, refl, refl, refl);
       empty-chosen = (refl, refl, refl);
       not-chosen-found = (refl, refl, refl);
-      changing-over = λ settings lists a b c d. (refl, refl, refl, refl, refl, refl, refl, refl, refl);
-      changing-back = λ settings a b c d. refl;
       untouched = untouched;
       delivered-part = λ edition node room received named. part edition node named room received;
       bounded = bounded;
       begun-bounded = begun-bounded;
       same-air = same-air;
+      reached = reached;
+      schedule = schedule;
       walked = walked;
       open-nodes = opened;
       reach = reach;
       reach-only = λ editionOf named nodes clean first receptions. as-delivered editionOf named nodes clean first receptions;
       answered = answered;
       job = λ bytes j. refl;
-      job-flags = λ node. (refl, refl, refl, refl);
       job-answers = λ edition node room received output.
           (firsts-answer-under edition node room received, firsts-output-under edition node received output);
       job-steps = λ edition node room batch cursor output.
           (firsts-step-under edition node room batch cursor, firsts-step-output-under edition node batch cursor output);
       job-walks = firsts-walk-under;
       in-c = (refl, refl, refl, in-c);
-      in-c-each = λ node. (refl, refl, refl, refl, refl, refl, refl);
     }

@@ -1,18 +1,20 @@
 -- Document 02, W-211, as one record; `proofs/TwoLists.antt` gives it from its parts. The edition is W-209's, and a variable wherever it does not matter.
-use Prim.Native.Nat.{ℕ, _+_, _-_, _<_, _≤_}
+use Prim.Native.Nat.{ℕ, _+_, _*_, _-_, _<_, _≤_}
 use mathlib.Core.Bool.{Bool, true, false, cond}
 use mathlib.Core.List.{List, [], _∷_, map, flatten, List·Memᴰ, List·Nodup}
 use mathlib.Core.Logic.{_⊎_, _≢_}
 use mathlib.Core.Option.{Option, none, some}
 use mathlib.Core.Path.{_≡_}
 use lib.Dec.{eqb}
-use lib.ListN.{length, getD, getElem?, take, drop, replicate}
+use lib.ListN.{length, getD, getElem?, take, drop}
+use Rattle.pdu.specs.declared.Destination.the-variants.{Everyone}
 use Rattle.pdu.specs.declared.Sender.the-variants.{Unknown}
+use Rattle.pdu.specs.Sizes.{pathLimit}
 use Rattle.pdu.specs.Header.{headerOf}
 use Rattle.editions.specs.Editions.{known}
 use Rattle.origin.specs.declared.Settings as asked
 use Rattle.origin.specs.Origination.{fresh}
-use Rattle.lists.specs.Lists.{faultOf, listsOf, listFault}
+use Rattle.lists.specs.Lists.{faultOf, listFault}
 use Rattle.decision.specs.Decision.{Node}
 use Rattle.node.specs.declared.Answer.{Answer}
 use Rattle.node.specs.Repeat.{repeated}
@@ -33,85 +35,23 @@ use Rattle.job.specs.Jobs.{nodeIn}
 use Rattle.listening.specs.Listening.{answerNumber, memoryAfterAnswer}
 use Rattle.queue.specs.Queue.{heldIn, front}
 use Rattle.transmit.specs.History.{places, allReadable}
-use Rattle.bound.specs.Bound.{bytesBound}
+use Rattle.bound.specs.Bound.{terms, bound, bytesBound}
 use Rattle.chains.specs.Chains.{Chain, Shortest}
 use Rattle.flood.specs.Flood.{Reception, flood, total, others, Bounded}
 use Rattle.flood.specs.Air.{Repeater, Nodes, Open, Begins, Originated, address, sourceOf, pathOf, hopOf, onTheAir}
-use Rattle.flood.specs.Complete.{Heard}
+use Rattle.flood.specs.Complete.{Heard, Complete}
 use Rattle.coverage.specs.Hearing.{Taken}
 use Rattle.coverage.specs.Delivery.{Planned, Delivers, Delivered}
-use Rattle.boundary.specs.declared.MantNode.{MantNode}
-use Rattle.boundary.specs.Boundary.{choiceFromC, nodeFromC}
+use Rattle.boundary.specs.Boundary.{choiceFromC}
 use Rattle.checked_by_hand.specs.Examples.{example}
 
--- settings with other choices; all else in them is as it was
-abbrev pub changedTo : Choice → Choice → Choice → Choice → SeasonSettings → SeasonSettings
-changedTo a b c d settings =
-    record {
-      own = settings .own;
-      echo = settings .echo;
-      repeating = settings .repeating;
-      «source_pass» = a;
-      «source_reject» = b;
-      «destination_pass» = c;
-      «destination_reject» = d;
-    }
-
--- node 2000, echo and repeating on, with these choices
-abbrev pub settingsAt : Choice → Choice → Choice → Choice → SeasonSettings
-settingsAt a b c d =
-    record {
-      own = 2000;
-      echo = true;
-      repeating = true;
-      «source_pass» = a;
-      «source_reject» = b;
-      «destination_pass» = c;
-      «destination_reject» = d;
-    }
-
 -- the list at a place of the order in which the eight are checked, the first at 0
-abbrev pub listAt : EightLists → ℕ → List ℕ
-listAt lists k = getD (inOrderOfKinds lists) k []
-
--- lists that let the example of document 002 pass, from source 1000 to 1600, and lists that stop it: one of each in every kind, and the other way round
-abbrev pub firstsPass : EightLists
-firstsPass =
-    eightOf (two (1000 ∷ 1000 ∷ []) (5 ∷ 999 ∷ [])) (two (5 ∷ 999 ∷ []) (1000 ∷ 1000 ∷ [])) (two (1600 ∷ 1600 ∷ []) (5 ∷ 999 ∷ []))
-    (two (5 ∷ 999 ∷ []) (1600 ∷ 1600 ∷ []))
-
-abbrev pub secondsPass : EightLists
-secondsPass =
-    eightOf (two (5 ∷ 999 ∷ []) (1000 ∷ 1000 ∷ [])) (two (1000 ∷ 1000 ∷ []) (5 ∷ 999 ∷ [])) (two (5 ∷ 999 ∷ []) (1600 ∷ 1600 ∷ []))
-    (two (1600 ∷ 1600 ∷ []) (5 ∷ 999 ∷ []))
-
--- the delivery number of the example at that node with such lists; 39 is for another address, where no list stops it
-abbrev pub numberBy : EightLists → Choice → Choice → Choice → Choice → ℕ
-numberBy lists a b c d = seasonAnswerUnder 12 (seasonNodeOf (settingsAt a b c d) lists) 100 example .delivery
-
--- a list with one value, 21, one whose low is above its high, 20, and one of 129 values, 22
-abbrev pub odd : List ℕ
-odd = 7 ∷ []
-
-abbrev pub upsideDown : List ℕ
-upsideDown = 2 ∷ 1 ∷ []
-
-abbrev pub long : List ℕ
-long = replicate 129 0
+abbrev pub listInOrder : EightLists → ℕ → List ℕ
+listInOrder lists k = getD (inOrderOfKinds lists) k []
 
 -- lists for all kinds, the first and the second of each, in the order in which they are checked
-abbrev pub eight : List ℕ → List ℕ → List ℕ → List ℕ → List ℕ → List ℕ → List ℕ → List ℕ → EightLists
-eight a b c d e f g h = eightOf (two a b) (two c d) (two e f) (two g h)
-
--- with eight empty lists and that choice for source pass: the example's delivery number. With a first source pass list that holds its source, and a second
--- one at fault: the answer
-abbrev pub byEmpty : Choice → ℕ
-byEmpty choice =
-    seasonAnswerUnder 12 (seasonNodeOf (settingsAt choice Neither Neither Neither) (eight [] [] [] [] [] [] [] [])) 100 example .delivery
-
-abbrev pub besideOdd : Choice → Answer
-besideOdd choice =
-    seasonAnswerUnder 12 (seasonNodeOf (settingsAt choice Neither Neither Neither) (eight (1000 ∷ 1000 ∷ []) odd [] [] [] [] [] [])) 100 example
+abbrev pub eightInOrder : List ℕ → List ℕ → List ℕ → List ℕ → List ℕ → List ℕ → List ℕ → List ℕ → EightLists
+eightInOrder a b c d e f g h = eightOf (two a b) (two c d) (two e f) (two g h)
 
 -- a node of a network (demand 3) with two lists of each kind, and the bytes of its output; as a node of 01 with the lists chosen
 pub record SeasonRepeater : Type 0 where
@@ -148,28 +88,58 @@ pub record SeasonDelivered (editionOf : ℕ → ℕ) (nodes : List SeasonRepeate
       take (answer .«delivered_length») (drop (answer .«delivered_place») received) ≡ payload
   pub path-count : headerOf received .«path_count» ≡ count
 
+-- for the worked cases: node 2000, echo and repeating on, with these choices
+abbrev pub settingsAt : Choice → Choice → Choice → Choice → SeasonSettings
+settingsAt a b c d =
+    record {
+      own = 2000;
+      echo = true;
+      repeating = true;
+      «source_pass» = a;
+      «source_reject» = b;
+      «destination_pass» = c;
+      «destination_reject» = d;
+    }
+
+-- lists that let the example of document 002 pass, from source 1000 to 1600, and lists that stop it: one of each in every kind, and the other way round
+abbrev pub firstsPass : EightLists
+firstsPass =
+    eightOf (two (1000 ∷ 1000 ∷ []) (5 ∷ 999 ∷ [])) (two (5 ∷ 999 ∷ []) (1000 ∷ 1000 ∷ [])) (two (1600 ∷ 1600 ∷ []) (5 ∷ 999 ∷ []))
+    (two (5 ∷ 999 ∷ []) (1600 ∷ 1600 ∷ []))
+
+abbrev pub secondsPass : EightLists
+secondsPass =
+    eightOf (two (5 ∷ 999 ∷ []) (1000 ∷ 1000 ∷ [])) (two (1000 ∷ 1000 ∷ []) (5 ∷ 999 ∷ [])) (two (5 ∷ 999 ∷ []) (1600 ∷ 1600 ∷ []))
+    (two (1600 ∷ 1600 ∷ []) (5 ∷ 999 ∷ []))
+
+-- the delivery number of the example at that node with such lists; 39 is for another address, where no list stops it
+abbrev pub numberBy : EightLists → Choice → Choice → Choice → Choice → ℕ
+numberBy lists a b c d = seasonAnswerUnder 12 (seasonNodeOf (settingsAt a b c d) lists) 100 example .delivery
+
+-- a list with one value, 21
+abbrev pub odd : List ℕ
+odd = 7 ∷ []
+
+-- with eight empty lists and that choice for source pass: the example's delivery number. With a first source pass list that holds its source, and a second
+-- one at fault: the answer
+abbrev pub byEmpty : Choice → ℕ
+byEmpty choice =
+    seasonAnswerUnder 12 (seasonNodeOf (settingsAt choice Neither Neither Neither) (eightInOrder [] [] [] [] [] [] [] [])) 100 example .delivery
+
+abbrev pub besideOdd : Choice → Answer
+besideOdd choice =
+    seasonAnswerUnder 12 (seasonNodeOf (settingsAt choice Neither Neither Neither) (eightInOrder (1000 ∷ 1000 ∷ []) odd [] [] [] [] [] [])) 100 example
+
 pub record TwoLists : Type 0 where
+  -- I. WHAT 02 ASKS
   -- all eight are checked, chosen or not: there is no fault exactly if each is without one, and else the first in their order gives the number
-  pub checked : (lists : EightLists) → eightFault lists ≡ 0 → (k : ℕ) → k < 8 → faultOf (listAt lists k) ≡ 0
-  pub without-fault : (lists : EightLists) → ((k : ℕ) → k < 8 → faultOf (listAt lists k) ≡ 0) → eightFault lists ≡ 0
-  pub first-fault : (lists : EightLists) (k : ℕ) → k < 8 → ((j : ℕ) → j < k → faultOf (listAt lists j) ≡ 0) → (faultOf (listAt lists k) ≡ 0 → ⊥)
-      → eightFault lists ≡ faultOf (listAt lists k)
+  pub checked : (lists : EightLists) → eightFault lists ≡ 0 → (k : ℕ) → k < 8 → faultOf (listInOrder lists k) ≡ 0
+  pub without-fault : (lists : EightLists) → ((k : ℕ) → k < 8 → faultOf (listInOrder lists k) ≡ 0) → eightFault lists ≡ 0
+  pub first-fault : (lists : EightLists) (k : ℕ) → k < 8 → ((j : ℕ) → j < k → faultOf (listInOrder lists j) ≡ 0) → (faultOf (listInOrder lists k) ≡ 0 → ⊥)
+      → eightFault lists ≡ faultOf (listInOrder lists k)
   -- their order: kind by kind as in 01, the first list before the second
-  pub order : (a b c d e f g h : List ℕ) → inOrderOfKinds (eight a b c d e f g h) ≡ a ∷ b ∷ c ∷ d ∷ e ∷ f ∷ g ∷ h ∷ []
-  pub second-before-next-kind : (eightFault (eight [] odd upsideDown [] [] [] [] []) ≡ 21) × (eightFault (eight [] [] [] odd upsideDown [] [] []) ≡ 21)
-      × (eightFault (eight [] [] [] [] [] odd upsideDown []) ≡ 21)
-  pub first-before-second : (eightFault (eight odd upsideDown [] [] [] [] [] []) ≡ 21) × (eightFault (eight [] [] odd upsideDown [] [] [] []) ≡ 21)
-      × (eightFault (eight [] [] [] [] odd upsideDown [] []) ≡ 21) × (eightFault (eight [] [] [] [] [] [] odd upsideDown) ≡ 21)
-  pub last-of-all : (eightFault (eight [] [] [] [] [] [] [] odd) ≡ 21) × (eightFault (eight [] [] [] [] [] [] [] upsideDown) ≡ 20)
-      × (eightFault (eight [] [] [] [] [] [] [] long) ≡ 22) × (eightFault (eight [] [] [] [] [] [] [] (replicate 128 0)) ≡ 0)
-  -- 17 comes before them, and 54 and the end of a walk; a fault is answered whatever is chosen, as both numbers, with nothing taken and the output as it
-  -- was, and it ends a walk at the same place
-  pub after-17 : (edition : ℕ) (node : SeasonNode) (received output : List ℕ) → known edition ≡ false
-      → (seasonAnswerUnder edition node (length output) received ≡ twice 17 0 Unknown) × (seasonOutputUnder edition node received output ≡ output)
-  pub steps-after-17 : (edition : ℕ) (node : SeasonNode) (room : ℕ) (batch : List ℕ) (cursor : Cursor) (output : List ℕ) → known edition ≡ false
-      → (seasonStepUnder edition node room batch cursor ≡ stepUnder edition (chosenNode node) room batch cursor)
-      × (seasonStepOutputUnder edition node batch cursor output ≡ output)
-      × (seasonWalkUnder edition node room batch ≡ walkUnder edition (chosenNode node) room batch)
+  pub order : (a b c d e f g h : List ℕ) → inOrderOfKinds (eightInOrder a b c d e f g h) ≡ a ∷ b ∷ c ∷ d ∷ e ∷ f ∷ g ∷ h ∷ []
+  -- a fault is answered whatever is chosen, as both numbers, with nothing taken and the output as it was
   pub at-fault : (edition : ℕ) (settings : SeasonSettings) (lists : EightLists) (received output : List ℕ) → known edition ≡ true
       → (eightFault lists ≡ 0 → ⊥)
       → (seasonAnswerUnder edition (seasonNodeOf settings lists) (length output) received ≡ twice (eightFault lists) 0 Unknown)
@@ -178,24 +148,9 @@ pub record TwoLists : Type 0 where
   pub at-fault-only : (edition : ℕ) (node : SeasonNode) (room : ℕ) (received : List ℕ) (number : ℕ) → 20 ≤ number → number ≤ 22
       → (seasonAnswerUnder edition node room received .delivery ≡ number) ⊎ (seasonAnswerUnder edition node room received .repeat ≡ number)
       → (known edition ≡ true) × (eightFault (node .lists) ≡ number)
-  pub step-at-fault : (edition : ℕ) (settings : SeasonSettings) (lists : EightLists) (batch output : List ℕ) (place : ℕ) → known edition ≡ true
-      → (eightFault lists ≡ 0 → ⊥) → length batch ≤ batchLimit → place < length batch
-      → let node = seasonNodeOf settings lists in let cursor : Cursor = record { place = place; ended = false } in
-      (seasonStepUnder edition node (length output) batch cursor
-      ≡ Answered (twice (eightFault lists) 0 Unknown) (record { place = place; ended = true }))
-      × (seasonStepOutputUnder edition node batch cursor output ≡ output)
-  pub walk-at-fault : (edition : ℕ) (settings : SeasonSettings) (lists : EightLists) (room byte : ℕ) (bytes : List ℕ) → known edition ≡ true
-      → (eightFault lists ≡ 0 → ⊥) → length (byte ∷ bytes) ≤ batchLimit
-      → seasonWalkUnder edition (seasonNodeOf settings lists) room (byte ∷ bytes)
-      ≡ record { number = 0; offsets = 0 ∷ []; answers = twice (eightFault lists) 0 Unknown ∷ []; end = 0 }
-  pub after-54 : (edition : ℕ) (node : SeasonNode) (room : ℕ) (batch : List ℕ) (cursor : Cursor) (output : List ℕ) → known edition ≡ true
-      → batchLimit < length batch
-      → (seasonStepUnder edition node room batch cursor ≡ TooLong) × (seasonStepOutputUnder edition node batch cursor output ≡ output)
-  pub after-the-end : (edition : ℕ) (node : SeasonNode) (room : ℕ) (batch : List ℕ) (cursor : Cursor) (output : List ℕ) → known edition ≡ true
-      → length batch ≤ batchLimit → (cursor .ended ≡ true) ⊎ (length batch ≤ cursor .place)
-      → (seasonStepUnder edition node room batch cursor ≡ Ended) × (seasonStepOutputUnder edition node batch cursor output ≡ output)
-  pub nothing-counted : (number : ℕ) (received memory : List ℕ)
-      → (answerNumber (twice number 0 Unknown) received memory ≡ 0) × (memoryAfterAnswer (twice number 0 Unknown) received memory ≡ memory)
+  -- what a choice chooses
+  pub choices : (first second : List ℕ) → (chosenOf First (two first second) ≡ first) × (chosenOf Second (two first second) ≡ second)
+      × (chosenOf Neither (two first second) ≡ []) × (isChosen First ≡ true) × (isChosen Second ≡ true) × (isChosen Neither ≡ false)
   -- the one law: a node whose eight lists have no fault answers as a node of 01 with the four chosen lists would, which have none either, under any
   -- edition; so does its step and its walk, and what they leave
   pub chosen-without-fault : (node : SeasonNode) → eightFault (node .lists) ≡ 0 → listFault (chosenNode node .lists) ≡ 0
@@ -207,40 +162,19 @@ pub record TwoLists : Type 0 where
       × (seasonStepOutputUnder edition node batch cursor output ≡ stepOutputUnder edition (chosenNode node) batch cursor output)
   pub walks : (edition : ℕ) (node : SeasonNode) (room : ℕ) (batch : List ℕ) → eightFault (node .lists) ≡ 0
       → seasonWalkUnder edition node room batch ≡ walkUnder edition (chosenNode node) room batch
-  pub stepping-walks : (edition : ℕ) (node : SeasonNode) (room : ℕ) (batch : List ℕ)
-      → seasonStepsUnder edition node room batch (length batch) (record { place = 0; ended = false }) ≡ seasonWalkUnder edition node room batch
-  -- what a choice chooses, and each kind by itself: where the list chosen lets the example pass, and where none is chosen, no list stops it; where it does
-  -- not, the kind's own number is given
-  pub choices : (first second : List ℕ) → (chosenOf First (two first second) ≡ first) × (chosenOf Second (two first second) ≡ second)
-      × (chosenOf Neither (two first second) ≡ []) × (isChosen First ≡ true) × (isChosen Second ≡ true) × (isChosen Neither ≡ false)
-  pub none-stops : (numberBy firstsPass First First First First ≡ 39) × (numberBy firstsPass Neither Neither Neither Neither ≡ 39)
-      × (numberBy secondsPass Second Second Second Second ≡ 39) × (numberBy secondsPass Neither Neither Neither Neither ≡ 39)
-  pub second-stops : (numberBy firstsPass Second First First First ≡ 31) × (numberBy firstsPass First Second First First ≡ 32)
-      × (numberBy firstsPass First First Second First ≡ 33) × (numberBy firstsPass First First First Second ≡ 34)
-  pub first-stops : (numberBy secondsPass First Second Second Second ≡ 31) × (numberBy secondsPass Second First Second Second ≡ 32)
-      × (numberBy secondsPass Second Second First Second ≡ 33) × (numberBy secondsPass Second Second Second First ≡ 34)
-  pub second-alone-stops : (numberBy firstsPass Second Neither Neither Neither ≡ 31) × (numberBy firstsPass Neither Second Neither Neither ≡ 32)
-      × (numberBy firstsPass Neither Neither Second Neither ≡ 33) × (numberBy firstsPass Neither Neither Neither Second ≡ 34)
-  pub first-alone-stops : (numberBy secondsPass First Neither Neither Neither ≡ 31) × (numberBy secondsPass Neither First Neither Neither ≡ 32)
-      × (numberBy secondsPass Neither Neither First Neither ≡ 33) × (numberBy secondsPass Neither Neither Neither First ≡ 34)
-  -- chosen and empty is on and empty; the fault of a list that is not chosen is found
-  pub empty-chosen : (byEmpty First ≡ 31) × (byEmpty Second ≡ 31) × (byEmpty Neither ≡ 39)
-  pub not-chosen-found : (besideOdd First ≡ twice 21 0 Unknown) × (besideOdd Second ≡ twice 21 0 Unknown) × (besideOdd Neither ≡ twice 21 0 Unknown)
-  -- changing over is changing the choice alone: own address, echo and repeating stay, and so does what the eight lists are checked for; each kind's list
-  -- is then the one chosen; and changing back gives the settings as they were
-  pub changing-over : (settings : SeasonSettings) (lists : EightLists) (a b c d : Choice)
-      → let node = seasonNodeOf (changedTo a b c d settings) lists in
-      (chosenNode node .settings .own ≡ settings .own) × (chosenNode node .settings .echo ≡ settings .echo)
-      × (chosenNode node .settings .repeating ≡ settings .repeating) × (eightFault (node .lists) ≡ eightFault lists)
-      × (chosenNode node .settings .«source_pass» ≡ isChosen a) × (chosenNode node .settings .«source_reject» ≡ isChosen b)
-      × (chosenNode node .settings .«destination_pass» ≡ isChosen c) × (chosenNode node .settings .«destination_reject» ≡ isChosen d)
-      × (chosenNode node .lists
-      ≡ listsOf (chosenOf a (lists .sourcePass)) (chosenOf b (lists .sourceReject)) (chosenOf c (lists .destinationPass))
-      (chosenOf d (lists .destinationReject)))
-  pub changing-back : (settings : SeasonSettings) (a b c d : Choice)
-      → changedTo (settings .«source_pass») (settings .«source_reject») (settings .«destination_pass») (settings .«destination_reject»)
-      (changedTo a b c d settings)
-      ≡ settings
+  -- the job of `relay`: its four sections are first lists, and the second are empty; that node answers, leaves, steps and walks as the job's node did, faults of
+  -- the lists too, so that what is printed stays as it was
+  pub job : (bytes : List ℕ) (j : Job) → withFirsts (nodeIn bytes j) .lists
+      ≡ eightInOrder (nodeIn bytes j .lists .sourcePass) [] (nodeIn bytes j .lists .sourceReject) [] (nodeIn bytes j .lists .destinationPass) []
+      (nodeIn bytes j .lists .destinationReject) []
+  pub job-answers : (edition : ℕ) (node : Node) (room : ℕ) (received output : List ℕ)
+      → (seasonAnswerUnder edition (withFirsts node) room received ≡ answerUnder edition node room received)
+      × (seasonOutputUnder edition (withFirsts node) received output ≡ outputUnder edition node received output)
+  pub job-steps : (edition : ℕ) (node : Node) (room : ℕ) (batch : List ℕ) (cursor : Cursor) (output : List ℕ)
+      → (seasonStepUnder edition (withFirsts node) room batch cursor ≡ stepUnder edition node room batch cursor)
+      × (seasonStepOutputUnder edition (withFirsts node) batch cursor output ≡ stepOutputUnder edition node batch cursor output)
+  pub job-walks : (edition : ℕ) (node : Node) (room : ℕ) (batch : List ℕ)
+      → seasonWalkUnder edition (withFirsts node) room batch ≡ walkUnder edition node room batch
   -- demand 1: with a repeat number other than 0 the output is not touched. Demand 2: the answer names the payload that the node with the lists chosen delivers
   pub untouched : (edition : ℕ) (node : SeasonNode) (received output : List ℕ)
       → (seasonAnswerUnder edition node (length output) received .repeat ≡ 0 → ⊥) → seasonOutputUnder edition node received output ≡ output
@@ -264,6 +198,56 @@ pub record TwoLists : Type 0 where
   pub same-air : (editionOf : ℕ → ℕ) → ((a : ℕ) → known (editionOf a) ≡ true) → (nodes : List SeasonRepeater)
       → ((n : SeasonRepeater) → List·Memᴰ n nodes → eightFault (n .node .lists) ≡ 0) → (first : List ℕ) (receptions : List Reception)
       → seasonAir editionOf nodes first receptions ≡ onTheAir (map asChosen nodes) first receptions
+  -- so both bounds are reached, as in demand 3, where no list has a fault, each of the others has no list chosen, repeats what it may and has room, every
+  -- node hears every transmission, and the message is for everyone; and such receptions exist
+  pub reached : (editionOf : ℕ → ℕ) → ((a : ℕ) → known (editionOf a) ≡ true) → (nodes : List SeasonRepeater) → Nodes (map asChosen nodes)
+      → ((n : SeasonRepeater) → List·Memᴰ n nodes → eightFault (n .node .lists) ≡ 0)
+      → (settings : asked.Settings) (payload : List ℕ) (room : ℕ) → Originated settings payload room
+      → let counted = others address (settings .source) (map asChosen nodes) in
+      ((n : Repeater) → List·Memᴰ n counted → Open (n .node))
+      → ((n : Repeater) → List·Memᴰ n counted → length (fresh settings payload) + 2 * terms (length counted) (settings .«hop_limit») ≤ n .room)
+      → settings .destination ≡ Everyone → (length counted ≤ pathLimit) ⊎ (settings .«hop_limit» < 7)
+      → (receptions : List Reception) → List·Nodup receptions → Complete (seasonSends editionOf) nodes (fresh settings payload ∷ []) receptions
+      → (length (seasonAir editionOf nodes (fresh settings payload) receptions) ≡ bound (length counted) (settings .«hop_limit»))
+      × (total length (seasonAir editionOf nodes (fresh settings payload) receptions)
+      ≡ bytesBound (length counted) (settings .«hop_limit») (length (fresh settings payload)))
+  pub schedule : (editionOf : ℕ → ℕ) → ((a : ℕ) → known (editionOf a) ≡ true) → (nodes : List SeasonRepeater) → Nodes (map asChosen nodes)
+      → ((n : SeasonRepeater) → List·Memᴰ n nodes → eightFault (n .node .lists) ≡ 0)
+      → (settings : asked.Settings) (payload : List ℕ) (room : ℕ) → Originated settings payload room
+      → (receptions : List Reception) × List·Nodup receptions × Complete (seasonSends editionOf) nodes (fresh settings payload ∷ []) receptions
+  -- II. CASE BY CASE, what the definitions of a step and of a walk say
+  -- 17 comes before the lists
+  pub after-17 : (edition : ℕ) (node : SeasonNode) (received output : List ℕ) → known edition ≡ false
+      → (seasonAnswerUnder edition node (length output) received ≡ twice 17 0 Unknown) × (seasonOutputUnder edition node received output ≡ output)
+  pub steps-after-17 : (edition : ℕ) (node : SeasonNode) (room : ℕ) (batch : List ℕ) (cursor : Cursor) (output : List ℕ) → known edition ≡ false
+      → (seasonStepUnder edition node room batch cursor ≡ stepUnder edition (chosenNode node) room batch cursor)
+      × (seasonStepOutputUnder edition node batch cursor output ≡ output)
+      × (seasonWalkUnder edition node room batch ≡ walkUnder edition (chosenNode node) room batch)
+  -- a fault ends a walk at the same place
+  pub step-at-fault : (edition : ℕ) (settings : SeasonSettings) (lists : EightLists) (batch output : List ℕ) (place : ℕ) → known edition ≡ true
+      → (eightFault lists ≡ 0 → ⊥) → length batch ≤ batchLimit → place < length batch
+      → let node = seasonNodeOf settings lists in let cursor : Cursor = record { place = place; ended = false } in
+      (seasonStepUnder edition node (length output) batch cursor
+      ≡ Answered (twice (eightFault lists) 0 Unknown) (record { place = place; ended = true }))
+      × (seasonStepOutputUnder edition node batch cursor output ≡ output)
+  pub walk-at-fault : (edition : ℕ) (settings : SeasonSettings) (lists : EightLists) (room byte : ℕ) (bytes : List ℕ) → known edition ≡ true
+      → (eightFault lists ≡ 0 → ⊥) → length (byte ∷ bytes) ≤ batchLimit
+      → seasonWalkUnder edition (seasonNodeOf settings lists) room (byte ∷ bytes)
+      ≡ record { number = 0; offsets = 0 ∷ []; answers = twice (eightFault lists) 0 Unknown ∷ []; end = 0 }
+  -- 54 and the end of a walk come before it
+  pub after-54 : (edition : ℕ) (node : SeasonNode) (room : ℕ) (batch : List ℕ) (cursor : Cursor) (output : List ℕ) → known edition ≡ true
+      → batchLimit < length batch
+      → (seasonStepUnder edition node room batch cursor ≡ TooLong) × (seasonStepOutputUnder edition node batch cursor output ≡ output)
+  pub after-the-end : (edition : ℕ) (node : SeasonNode) (room : ℕ) (batch : List ℕ) (cursor : Cursor) (output : List ℕ) → known edition ≡ true
+      → length batch ≤ batchLimit → (cursor .ended ≡ true) ⊎ (length batch ≤ cursor .place)
+      → (seasonStepUnder edition node room batch cursor ≡ Ended) × (seasonStepOutputUnder edition node batch cursor output ≡ output)
+  -- stepping over a batch gives exactly its walk
+  pub stepping-walks : (edition : ℕ) (node : SeasonNode) (room : ℕ) (batch : List ℕ)
+      → seasonStepsUnder edition node room batch (length batch) (record { place = 0; ended = false }) ≡ seasonWalkUnder edition node room batch
+  -- III. BESIDE OTHER REQUESTS, AND IN C
+  -- W-201: with a fault of the lists, as with any number that takes nothing, nothing is counted
+  pub nothing-counted : (number : ℕ) (received memory : List ℕ)
+      → (answerNumber (twice number 0 Unknown) received memory ≡ 0) × (memoryAfterAnswer (twice number 0 Unknown) received memory ≡ memory)
   -- W-206: the walk of such a node reads each batch taken from a queue to its end
   pub walked : (edition : ℕ) → known edition ≡ true → (memory : List ℕ) (room : ℕ) (node : SeasonNode) (output : ℕ) → eightFault (node .lists) ≡ 0
       → let pdus = front room (heldIn memory) in let found = seasonWalkUnder edition node output (flatten pdus) in
@@ -291,28 +275,14 @@ pub record TwoLists : Type 0 where
       → eightFault (n .node .lists) ≡ 0 → length output ≡ n .room → SeasonHears edition (n .node) received output answer left
       → Delivers (asChosen n) received payload
       → (answer .delivery ≡ 0) × (take (answer .«delivered_length») (drop (answer .«delivered_place») received) ≡ payload)
-  -- the job of `relay`: its four sections are first lists, the second are empty, and its flags choose first or none; that node answers, leaves, steps and
-  -- walks as the job's node did, faults of the lists too, so that what is printed stays as it was
-  pub job : (bytes : List ℕ) (j : Job) → withFirsts (nodeIn bytes j) .lists
-      ≡ eight (nodeIn bytes j .lists .sourcePass) [] (nodeIn bytes j .lists .sourceReject) [] (nodeIn bytes j .lists .destinationPass) []
-      (nodeIn bytes j .lists .destinationReject) []
-  pub job-flags : (node : Node) → let settings = withFirsts node .settings in
-      (settings .«source_pass» ≡ cond (node .settings .«source_pass») First Neither)
-      × (settings .«source_reject» ≡ cond (node .settings .«source_reject») First Neither)
-      × (settings .«destination_pass» ≡ cond (node .settings .«destination_pass») First Neither)
-      × (settings .«destination_reject» ≡ cond (node .settings .«destination_reject») First Neither)
-  pub job-answers : (edition : ℕ) (node : Node) (room : ℕ) (received output : List ℕ)
-      → (seasonAnswerUnder edition (withFirsts node) room received ≡ answerUnder edition node room received)
-      × (seasonOutputUnder edition (withFirsts node) received output ≡ outputUnder edition node received output)
-  pub job-steps : (edition : ℕ) (node : Node) (room : ℕ) (batch : List ℕ) (cursor : Cursor) (output : List ℕ)
-      → (seasonStepUnder edition (withFirsts node) room batch cursor ≡ stepUnder edition node room batch cursor)
-      × (seasonStepOutputUnder edition (withFirsts node) batch cursor output ≡ stepOutputUnder edition node batch cursor output)
-  pub job-walks : (edition : ℕ) (node : Node) (room : ℕ) (batch : List ℕ)
-      → seasonWalkUnder edition (withFirsts node) room batch ≡ walkUnder edition node room batch
   -- C's numbers of a choice: 1 the first, 2 the second, 0 and every other none
   pub in-c : (choiceFromC 0 ≡ Neither) × (choiceFromC 1 ≡ First) × (choiceFromC 2 ≡ Second) × ((number : ℕ) → 2 < number → choiceFromC number ≡ Neither)
-  pub in-c-each : (node : MantNode) → let settings = nodeFromC node in
-      (settings .own ≡ node .own) × (settings .echo ≡ node .echo) × (settings .repeating ≡ node .repeating)
-      × (settings .«source_pass» ≡ choiceFromC (node .«source_pass»)) × (settings .«source_reject» ≡ choiceFromC (node .«source_reject»))
-      × (settings .«destination_pass» ≡ choiceFromC (node .«destination_pass»))
-      × (settings .«destination_reject» ≡ choiceFromC (node .«destination_reject»))
+  -- IV. WORKED CASES
+  -- each kind by itself: where the list chosen does not let the example pass, the kind's own number is given
+  pub second-alone-stops : (numberBy firstsPass Second Neither Neither Neither ≡ 31) × (numberBy firstsPass Neither Second Neither Neither ≡ 32)
+      × (numberBy firstsPass Neither Neither Second Neither ≡ 33) × (numberBy firstsPass Neither Neither Neither Second ≡ 34)
+  pub first-alone-stops : (numberBy secondsPass First Neither Neither Neither ≡ 31) × (numberBy secondsPass Neither First Neither Neither ≡ 32)
+      × (numberBy secondsPass Neither Neither First Neither ≡ 33) × (numberBy secondsPass Neither Neither Neither First ≡ 34)
+  -- chosen and empty is on and empty; the fault of a list that is not chosen is found
+  pub empty-chosen : (byEmpty First ≡ 31) × (byEmpty Second ≡ 31) × (byEmpty Neither ≡ 39)
+  pub not-chosen-found : (besideOdd First ≡ twice 21 0 Unknown) × (besideOdd Second ≡ twice 21 0 Unknown) × (besideOdd Neither ≡ twice 21 0 Unknown)
