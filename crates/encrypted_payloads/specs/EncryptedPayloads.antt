@@ -19,7 +19,27 @@ use Rattle.opening.specs.Opening.{sourceOf, messageNumber, deciphered, plainLen
 use Rattle.opening.specs.Opening.{keylessFault, openNumber, openWritten, openOutput, memoryAfterOpening}
 use Rattle.protection.specs.Histories.{Repeat, heard, AllRepeat, Opening, memoryAfter, memoryAfterAll}
 
--- document 002, "Examples", "Encryption": key, PDU given, PDU sealed, and that with its last byte changed
+-- a header with its hop limit 0
+abbrev pub hopless : Header → Header
+hopless header =
+    record {
+      protocol = header .protocol;
+      «time_stamp_request» = header .«time_stamp_request»;
+      «path_bit» = header .«path_bit»;
+      port = header .port;
+      encrypted = header .encrypted;
+      reserved = header .reserved;
+      ack = header .ack;
+      «added_header» = header .«added_header»;
+      «hop_limit» = 0;
+      «payload_length» = header .«payload_length»;
+      source = header .source;
+      destination = header .destination;
+      «pdu_id» = header .«pdu_id»;
+      «path_count» = header .«path_count»;
+    }
+
+-- For the worked cases: document 002, "Examples", "Encryption": key, PDU given, PDU sealed, and that with its last byte changed
 abbrev pub key002 : List ℕ
 key002 = 0x6B ∷ 0x65 ∷ 0x65 ∷ 0x70 ∷ 0x20 ∷ 0x6D ∷ 0x65 ∷ 0x20 ∷ 0x73 ∷ 0x65 ∷ 0x63 ∷ 0x72 ∷ 0x65 ∷ 0x74 ∷ 0x21 ∷ 0x21 ∷ []
 
@@ -59,31 +79,36 @@ encrypted4089 = 0x00 ∷ 0x08 ∷ 0x0F ∷ 0xF9 ∷ 0x00 ∷ 0x05 ∷ replicate 
 abbrev pub lastFrom : ℕ → ℕ → Accepted
 lastFrom source number = record { source = source; number = number }
 
--- a header with its hop limit 0
-abbrev pub hopless : Header → Header
-hopless header =
-    record {
-      protocol = header .protocol;
-      «time_stamp_request» = header .«time_stamp_request»;
-      «path_bit» = header .«path_bit»;
-      port = header .port;
-      encrypted = header .encrypted;
-      reserved = header .reserved;
-      ack = header .ack;
-      «added_header» = header .«added_header»;
-      «hop_limit» = 0;
-      «payload_length» = header .«payload_length»;
-      source = header .source;
-      destination = header .destination;
-      «pdu_id» = header .«pdu_id»;
-      «path_count» = header .«path_count»;
-    }
-
 -- a memory for 64 sources that says so many are held: source 5, with number 5, in each entry
 abbrev pub fives : ℕ → List ℕ
 fives count = count ∷ replicate 128 5
 
 pub record EncryptedPayloads : Type 0 where
+  -- I. WHAT 02 ASKS
+  -- sealing then opening under one key gives the payload back, with room enough and a record that takes the number
+  pub round-trip : (key bytes behind memory : List ℕ) (number room space : ℕ) → AllBytes bytes → sealNumber number bytes room ≡ 0
+      → numberFault (headerOf bytes .source) number (recordIn memory) ≡ 0 → sourceFault (headerOf bytes .source) memory ≡ 0
+      → headerOf bytes .«payload_length» ≤ space
+      → let sealed = sealedPdu key number bytes ++ behind in
+      (openNumber key memory sealed space ≡ 0) × (plainPayload key sealed ≡ payloadIn (headerOf bytes) bytes)
+  -- against the same record a PDU opens alike before repeats and after them: any number of repeats, by any nodes
+  pub after-repeats : (key memory bytes : List ℕ) (room : ℕ) (repeats : List Repeat) → AllBytes bytes → AllRepeat repeats bytes
+      → (openNumber key memory (heard repeats bytes) room ≡ openNumber key memory bytes room)
+      × (plainPayload key (heard repeats bytes) ≡ plainPayload key bytes)
+      × (memoryAfterOpening key memory (heard repeats bytes) room ≡ memoryAfterOpening key memory bytes room)
+  -- no replay: over any openings from any memory, what is accepted from a source later has a greater number
+  pub no-replay : (memory : List ℕ) (first : Opening) (between : List Opening) (second : Opening)
+      → openNumber (first .key) memory (first .bytes) (first .room) ≡ 0 → sourceOf (first .bytes) ≡ sourceOf (second .bytes)
+      → openNumber (second .key) (memoryAfterAll (memoryAfter memory first) between) (second .bytes) (second .room) ≡ 0
+      → messageNumber (first .bytes) < messageNumber (second .bytes)
+  -- what enters the hash: of any PDU that reads, its header up to the path count, with the hop limit 0
+  pub hashed-all : (bytes : List ℕ) → AllBytes bytes → readingNumber (readOf bytes) ≡ 0
+      → headerBytes (hopless (headerOf bytes)) ≡ hashedHeader bytes ++ onlyIf (headerOf bytes .«path_bit») (headerOf bytes .«path_count» ∷ [])
+  -- the substitution of a byte: the affine map of its inverse, {00} for {00} (FIPS 197, 5.1.1; computed in `crates/worked/proofs/Inverse.antt`)
+  pub inverse-is : (b : ℕ) → 0 < b → b < 256 → b • inverse b ≡ 1
+  pub inverse-of-0 : inverse 0 ≡ 0
+  pub substituted : (b : ℕ) → subByte b ≡ affine (inverse b)
+  -- II. CASE BY CASE, what the definitions of the record, of sealing and of opening say
   -- the record: a memory of 129 words or more has room for 64 sources, any memory holds at most 64, and none where its first word is 0
   pub room-for-64 : (memory : List ℕ) → 129 ≤ length memory → capacity memory ≡ 64
   pub at-most-64 : (memory : List ℕ) → length (recordIn memory) ≤ 64
@@ -177,25 +202,7 @@ pub record EncryptedPayloads : Type 0 where
   pub others-stay : (other source number : ℕ) (held : List Accepted) → (source ≡ other → ⊥)
       → (isHeld other (accepted source number held) ≡ isHeld other held)
       × (isHeld other held ≡ true → lastNumber other (accepted source number held) ≡ lastNumber other held)
-  -- sealing then opening under one key gives the payload back, with room enough and a record that takes the number
-  pub round-trip : (key bytes behind memory : List ℕ) (number room space : ℕ) → AllBytes bytes → sealNumber number bytes room ≡ 0
-      → numberFault (headerOf bytes .source) number (recordIn memory) ≡ 0 → sourceFault (headerOf bytes .source) memory ≡ 0
-      → headerOf bytes .«payload_length» ≤ space
-      → let sealed = sealedPdu key number bytes ++ behind in
-      (openNumber key memory sealed space ≡ 0) × (plainPayload key sealed ≡ payloadIn (headerOf bytes) bytes)
-  -- against the same record a PDU opens alike before repeats and after them: any number of repeats, by any nodes
-  pub after-repeats : (key memory bytes : List ℕ) (room : ℕ) (repeats : List Repeat) → AllBytes bytes → AllRepeat repeats bytes
-      → (openNumber key memory (heard repeats bytes) room ≡ openNumber key memory bytes room)
-      × (plainPayload key (heard repeats bytes) ≡ plainPayload key bytes)
-      × (memoryAfterOpening key memory (heard repeats bytes) room ≡ memoryAfterOpening key memory bytes room)
-  -- no replay: over any openings from any memory, what is accepted from a source later has a greater number
-  pub no-replay : (memory : List ℕ) (first : Opening) (between : List Opening) (second : Opening)
-      → openNumber (first .key) memory (first .bytes) (first .room) ≡ 0 → sourceOf (first .bytes) ≡ sourceOf (second .bytes)
-      → openNumber (second .key) (memoryAfterAll (memoryAfter memory first) between) (second .bytes) (second .room) ≡ 0
-      → messageNumber (first .bytes) < messageNumber (second .bytes)
-  -- what enters the hash: of any PDU that reads, its header up to the path count, with the hop limit 0
-  pub hashed-all : (bytes : List ℕ) → AllBytes bytes → readingNumber (readOf bytes) ≡ 0
-      → headerBytes (hopless (headerOf bytes)) ≡ hashedHeader bytes ++ onlyIf (headerOf bytes .«path_bit») (headerOf bytes .«path_count» ∷ [])
+  -- IV. WORKED CASES
   -- of document 002's header, and of one with PDU ID, ACK and added header; the nonce and the number's bytes
   pub hashed : (hashedHeader header002 ≡ hashed002)
       × (hashedHeader reliable ≡ 0x0B ∷ 0x09 ∷ 0x80 ∷ 0x07 ∷ 0x03 ∷ 0xE8 ∷ 0x06 ∷ 0x40 ∷ 0x55 ∷ [])
@@ -204,10 +211,6 @@ pub record EncryptedPayloads : Type 0 where
   -- document 002's example, whole: sealed, and 83 for its last byte changed (computed in `crates/worked/proofs/Sealed.antt`)
   pub example : sealedPdu key002 850 plain002 ≡ endingIn 0x50
   pub example-changed : openNumber key002 (0 ∷ 0 ∷ 0 ∷ []) (endingIn 0x51) 11 ≡ 83
-  -- the substitution of a byte: the affine map of its inverse, {00} for {00} (FIPS 197, 5.1.1; computed in `crates/worked/proofs/Inverse.antt`)
-  pub inverse-is : (b : ℕ) → 0 < b → b < 256 → b • inverse b ≡ 1
-  pub inverse-of-0 : inverse 0 ≡ 0
-  pub substituted : (b : ℕ) → subByte b ≡ affine (inverse b)
   -- 85 at a payload of 4,089 bytes and not at 4,088; 86 at 16,777,216 and not at 16,777,215; 87 with one byte too few; 85 before 86, 86 before 87, and
   -- 88 before them all
   pub at-4088 : (sealNumber 16777215 of4088 4101 ≡ 0) × (sealNumber 16777215 of4088 4100 ≡ 87)

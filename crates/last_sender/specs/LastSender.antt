@@ -31,7 +31,7 @@ use Rattle.lines.specs.Lines.{pduLine}
 use Rattle.boundary.specs.Boundary.{senderFromC, headerInC, answerInC, answerFromC}
 use Rattle.checked_by_hand.specs.Examples.{nodeAt, example, exampleRepeated}
 
--- a PDU with that path bit, that source and no address in its path, which is then the count byte alone
+-- For the worked cases: a PDU with that path bit, that source and no address in its path, which is then the count byte alone
 abbrev pub freshFrom : ℕ → ℕ → List ℕ
 freshFrom high low = 0x02 ∷ 0x00 ∷ 0x00 ∷ 0x00 ∷ high ∷ low ∷ 0x00 ∷ []
 
@@ -44,6 +44,7 @@ abbrev pub heardAt : ℕ → ℕ → List ℕ → Sender
 heardAt own room received = answerOf (nodeAt own true false) room received .«last_sender»
 
 pub record LastSender : Type 0 where
+  -- I. WHAT 02 ASKS
   -- unknown without the path bit, and only then
   pub unknown : (header : Header) (bytes : List ℕ) → header .«path_bit» ≡ false → lastSender header bytes ≡ Unknown
   pub unknown-only : (header : Header) (bytes : List ℕ) → lastSender header bytes ≡ Unknown → header .«path_bit» ≡ false
@@ -67,6 +68,9 @@ pub record LastSender : Type 0 where
       → answerOf node room received .«last_sender» ≡ lastSender (headerOf received) received
   pub not-carried : (node : Node) (room : ℕ) (received : List ℕ) → (listOrReadingFault node received ≡ 0 → ⊥)
       → answerOf node room received .«last_sender» ≡ Unknown
+  -- a PDU line of `relay`: the sixth field is the address in decimal, 0 too, or `-`
+  pub line-known : pduLine 1 0 0 37 [] (Known 0) ≡ text "1 0 0 37 - 0\n"
+  pub line-unknown : pduLine 1 0 1 1 [] Unknown ≡ text "1 0 1 1 - -\n"
   -- of a repeat it is the node that repeated it, with the path bit; without, it stays unknown
   pub of-a-repeat : (node : Node) (room : ℕ) (received rest : List ℕ) → AllBytes received → repeatNumber node room received ≡ 0
       → headerOf received .«path_bit» ≡ true
@@ -83,15 +87,14 @@ pub record LastSender : Type 0 where
   pub of-a-fresh : (settings : origin.Settings) (payload output : List ℕ) (installer : Node) (room : ℕ)
       → originationNumber settings payload (length output) ≡ 0 → settings .«with_path» ≡ true → listFault (installer .lists) ≡ 0
       → answerOf installer room (originatedOutput settings payload output) .«last_sender» ≡ Known (settings .source)
+  -- III. BESIDE OTHER REQUESTS, AND IN C
   -- reading tells it: the summary of what was read, and C's header; C's flag is the path bit, and flag and address give it back
   pub summary-tells : (bytes : List ℕ) (header : Header) → summaryAt bytes (placesOf (Pdu header)) .«last_sender» ≡ lastSender (headerOf bytes) bytes
   pub header-tells : (bytes : List ℕ) (shown : Shown) → let header = headerInC (edition-reading.Pdu shown) bytes in
       (header .«has_last_sender» ≡ shown .«path_bit»)
       × (senderFromC (header .«has_last_sender») (header .«last_sender») ≡ lastSender (wireOf shown) bytes)
   pub answer-tells : (answer : Answer) → answerFromC (answerInC answer) .«last_sender» ≡ answer .«last_sender»
-  -- a PDU line of `relay`: the sixth field is the address in decimal, 0 too, or `-`
-  pub line-known : pduLine 1 0 0 37 [] (Known 0) ≡ text "1 0 0 37 - 0\n"
-  pub line-unknown : pduLine 1 0 1 1 [] Unknown ≡ text "1 0 1 1 - -\n"
+  -- IV. WORKED CASES
   -- the example of document 002 at node 2000, and its repeat, there dropped by 30, and at node 5
   pub example-heard : (heardAt 2000 100 example ≡ Known 1000) × (heardAt 2000 100 exampleRepeated ≡ Known 2000)
       × (heardAt 5 100 exampleRepeated ≡ Known 2000)

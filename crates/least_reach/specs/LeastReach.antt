@@ -24,6 +24,7 @@ use Rattle.coverage.specs.Cases.{report, reading, repeater, answers, next, line
 use Rattle.coverage.specs.Cases.{longerFirst}
 
 pub record LeastReach : Type 0 where
+  -- I. WHAT 02 ASKS
   -- whoever hears whom, and in whatever order the receptions happen
   pub reach : (hears : ℕ → ℕ → Bool) (nodes : List Repeater) (settings : asked.Settings) (payload : List ℕ) (room : ℕ)
       → Planned nodes settings payload room → (receptions : List Reception) → Taken hears nodes (fresh settings payload) receptions
@@ -54,6 +55,7 @@ pub record LeastReach : Type 0 where
   pub sent : (editionOf : ℕ → ℕ) (n : Repeater) (received : List ℕ) → known (editionOf (address n)) ≡ true
       → sends n received
       ≡ cond (eqb (answerUnder (editionOf (address n)) (n .node) (n .room) received .repeat) 0) (some (repeated (address n) received)) none
+  -- IV. WORKED CASES
   -- a line of eight nodes, one-way, hop limits 0 to 6: the run is such as is asked, what goes out, who is delivered it and with what count. Hop limit h
   -- reaches h + 1 hearings and no further, which are h + 1 nodes here
   pub line-planned : (hop : ℕ) → hop ≤ 6 → Planned (map repeater lineAddresses) (report hop) reading 100

@@ -20,7 +20,7 @@ use Rattle.flood.specs.Flood.{Reception, others}
 use Rattle.flood.specs.Air.{Repeater, Nodes, Begins, address, sends, sourceOf, onTheAir}
 use Rattle.checked_by_hand.specs.Examples.{nodeAt}
 
--- a PDU of source 2000 and hop limit 1: without the path bit; with it, and that one address in the path
+-- For the worked cases: a PDU of source 2000 and hop limit 1: without the path bit; with it, and that one address in the path
 abbrev pub ownReport : List ℕ
 ownReport = 0x00 ∷ 0x00 ∷ 0x10 ∷ 0x00 ∷ 0x07 ∷ 0xD0 ∷ []
 
@@ -63,6 +63,7 @@ abbrev pub heardBack : List Reception
 heardBack = record { node = 1; transmission = 0 } ∷ record { node = 0; transmission = 1 } ∷ []
 
 pub record OwnReport : Type 0 where
+  -- I. WHAT 02 ASKS
   -- a PDU that was read, whose source is the own address, echo on, and that is not dropped by 30: 42 twice, nothing delivered, the output untouched;
   -- with the path bit or without, and whatever the lists say
   pub dropped : (node : Node) (received output : List ℕ) → listOrReadingFault node received ≡ 0 → node .settings .echo ≡ true
@@ -96,6 +97,7 @@ pub record OwnReport : Type 0 where
       → others address source nodes ≡ nodes
   pub originator-does-not : (nodes : List Repeater) → Nodes nodes → (n : Repeater) → List·Memᴰ n nodes
       → length nodes ≡ suc (length (others address (address n) nodes))
+  -- IV. WORKED CASES
   -- an originator that hears, and one other node, at hop limit 2: the bound is 2, 2 are sent where the originator hears the repeat, and never 3; with
   -- echo off at the originator 3 are
   pub two-bound : bound (length (others address (sourceOf report) (two true))) 2 ≡ 2

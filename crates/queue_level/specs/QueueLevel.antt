@@ -15,11 +15,12 @@ use Rattle.transmit_queue.specs.TransmitQueue.{six, seven, eight}
 abbrev pub level : ℕ → ℕ → Level
 level pdus bytes = record { pdus = pdus; bytes = bytes }
 
--- a memory for 46 bytes, all 0, after some deeds, the latest of them first
+-- For the worked cases: a memory for 46 bytes, all 0, after some deeds, the latest of them first
 abbrev pub after : List Deed → List ℕ
 after deeds = memoryAfter (replicate 50 0) deeds
 
 pub record QueueLevel : Type 0 where
+  -- I. WHAT 02 ASKS
   -- the level is the two numbers at the memory's start, whatever stands behind them
   pub answered : (b0 b1 b2 b3 : ℕ) (rest : List ℕ) → keptLevel (b0 ∷ b1 ∷ b2 ∷ b3 ∷ rest) ≡ level (b0 * 256 + b1) (b2 * 256 + b3)
   -- after any adds, takes and clears from an empty queue it is what the walk gives
@@ -48,6 +49,7 @@ pub record QueueLevel : Type 0 where
   pub to-zero : (memory : List ℕ) → 4 ≤ length memory → keptLevel (memoryAfterClear memory) ≡ level 0 0
   pub behind : (memory : List ℕ) → drop 4 (memoryAfterClear memory) ≡ drop 4 memory
   pub too-short : (memory : List ℕ) → length memory < 4 → memoryAfterClear memory ≡ memory
+  -- IV. WORKED CASES
   -- after a clear; after a take of two of three; after an add that was refused
   pub after-clear : keptLevel (after (Clearing ∷ Adding seven ∷ Adding six ∷ [])) ≡ level 0 0
   pub after-take : keptLevel (after (Taking 14 ∷ Adding eight ∷ Adding seven ∷ Adding six ∷ [])) ≡ level 1 8

@@ -52,7 +52,7 @@ use Rattle.flood.proofs.Fresh.{originated-begins}
 use Rattle.flood.proofs.Demand.{begun-bounded}
 use Rattle.checked_by_hand.specs.Examples.{nodeAt}
 use Rattle.reliable_messages.specs.ReliableMessages.{Answers, SamePdu, commandOf, command, withPath, of256, of257, reply, sendingMost, commandNames}
-use Rattle.reliable_messages.specs.ReliableMessages.{sendingOf, empty, full, twice, ReliableMessages}
+use Rattle.reliable_messages.specs.ReliableMessages.{sendingOf, empty, full, twoTries, ReliableMessages}
 
 used-is : (r : Retained) → isUsed r ≡ true → (r .length ≤ 256) × (unfit (pduOf r) ≡ 0)
 unfolding isUsed
@@ -271,20 +271,20 @@ module _ where
       addressesAt inPath readOf headerOf _gives_ _orElse_
   delivered-at = (refl, refl, refl)
 
-  lost-there : history twice commandNames
+  lost-there : history twoTries commandNames
       (Retains 10 command ∷ Steps 14 ∷ Steps 15 ∷ Steps 15 ∷ Steps 20 ∷ Steps 20 ∷ Steps 25 ∷ Steps 25 ∷ []) (start empty 0) .life
       ≡ record { fate = Lost; sent = 2; moments = 3; mark = 25 }
   unfolding history next watch retain retainNumber tableRetained step stepNumber tableStepped first unfit isRetainable exactlyOne isUsed namesOf isNamed
       isDue readOf headerOf placed _gives_ _orElse_
   lost-there = refl
 
-  waiting-there : history twice commandNames (Retains 10 command ∷ Steps 14 ∷ Steps 15 ∷ Steps 15 ∷ Steps 20 ∷ Steps 20 ∷ []) (start empty 0) .life
+  waiting-there : history twoTries commandNames (Retains 10 command ∷ Steps 14 ∷ Steps 15 ∷ Steps 15 ∷ Steps 20 ∷ Steps 20 ∷ []) (start empty 0) .life
       ≡ record { fate = Waiting; sent = 2; moments = 2; mark = 20 }
   unfolding history next watch retain retainNumber tableRetained step stepNumber tableStepped first unfit isRetainable exactlyOne isUsed namesOf isNamed
       isDue readOf headerOf placed _gives_ _orElse_
   waiting-there = refl
 
-  arrived-there : history twice commandNames (Retains 10 command ∷ Steps 15 ∷ Hears 0 sendingMost 0 reply ∷ Steps 20 ∷ []) (start empty 0) .life
+  arrived-there : history twoTries commandNames (Retains 10 command ∷ Steps 15 ∷ Hears 0 sendingMost 0 reply ∷ Steps 20 ∷ []) (start empty 0) .life
       ≡ record { fate = Arrived; sent = 1; moments = 1; mark = 20 }
   unfolding history next watch retain retainNumber tableRetained step stepNumber tableStepped acknowledge acknowledgeNumber tableAcknowledged first unfit
       isRetainable exactlyOne isUsed namesOf isNamed isDue readOf headerOf placed _gives_ _orElse_

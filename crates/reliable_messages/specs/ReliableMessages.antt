@@ -53,7 +53,13 @@ abbrev pub SamePdu : List ℕ → List ℕ → Type 0
 SamePdu copy bytes =
     (namesOf copy ≡ namesOf bytes) × (headerOf copy .protocol ≡ headerOf bytes .protocol) × (headerOf copy .ack ≡ headerOf bytes .ack)
 
--- a command from 2000 to 1000 with hop limit 3 and an ID, and with ID 7; that with the path bit, a count and a path; and with 256 or 257 bytes
+-- the settings of origination that an acknowledgement is sent with
+abbrev pub sendingOf : origin.Settings → Sending
+sendingOf s =
+    record { «hop_limit» = s .«hop_limit»; port = s .port; «time_stamp_request» = s .«time_stamp_request»; «with_path» = s .«with_path» }
+
+-- For the worked cases: a command from 2000 to 1000 with hop limit 3 and an ID, and with ID 7; that with the path bit, a count and a path; and with 256 or
+-- 257 bytes
 abbrev pub commandOf : ℕ → List ℕ
 commandOf id = 0x09 ∷ 0x40 ∷ 0x30 ∷ 0x00 ∷ 0x07 ∷ 0xD0 ∷ 0x03 ∷ 0xE8 ∷ id ∷ []
 
@@ -76,11 +82,6 @@ reply = 0x0F ∷ 0xF1 ∷ 0x70 ∷ 0x00 ∷ 0x03 ∷ 0xE8 ∷ 0x07 ∷ 0xD0 ∷ 
 abbrev pub sendingMost : Sending
 sendingMost = record { «hop_limit» = 7; port = 15; «time_stamp_request» = true; «with_path» = true }
 
--- the settings of origination that an acknowledgement is sent with
-abbrev pub sendingOf : origin.Settings → Sending
-sendingOf s =
-    record { «hop_limit» = s .«hop_limit»; port = s .port; «time_stamp_request» = s .«time_stamp_request»; «with_path» = s .«with_path» }
-
 abbrev pub commandNames : Names
 commandNames = record { source = 2000; destination = 1000; «pdu_id» = 7 }
 
@@ -92,10 +93,46 @@ abbrev pub full : List Retained
 full = replicate 16 (retainedRecord 10 command)
 
 -- delay 5, two more sendings
-abbrev pub twice : Settings
-twice = record { delay = 5; tries = 2; room = 256 }
+abbrev pub twoTries : Settings
+twoTries = record { delay = 5; tries = 2; room = 256 }
 
 pub record ReliableMessages : Type 0 where
+  -- I. WHAT 02 ASKS
+  -- the theorem: at most so many sendings, and so many moments and one more end it; and the steps at one moment end
+  pub ending : Statement
+  pub settling : Settling
+  -- two nodes: what is retained at one, delivered at the other and there acknowledged, is freed once the acknowledgement is delivered at the first; the
+  -- other may hear a copy, and so may the first, as repeaters between them leave it
+  pub exchange : (near far : Node) (table : List Retained) (last now : ℕ) (bytes : List ℕ) (place : ℕ) → length table ≡ 16 → last ≤ now
+      → unfit bytes ≡ 0 → Nowhere (isNamed (namesOf bytes)) table → FirstAt isFree table place
+      → (copy : List ℕ) (farRoom : ℕ) → SamePdu copy bytes → deliveryNumber far farRoom copy ≡ 0
+      → (theirs : List Retained) (sending : Sending) (output : List ℕ) → length theirs ≡ 16 → sending .«hop_limit» ≤ 7 → sending .port ≤ 15
+      → pduLength (ackHeader sending (namesOf copy)) ≤ length output
+      → (back : List ℕ) (nearRoom : ℕ) → SamePdu back (outputAcknowledged theirs (deliveryNumber far farRoom copy) sending copy output)
+      → deliveryNumber near nearRoom back ≡ 0 → (own : Sending) (second : List ℕ)
+      → let waiting = tableRetained table last now bytes in
+      Answers waiting now (deliveryNumber near nearRoom back) own back second (did freed now place (namesOf bytes) 0) (set waiting place freedRecord) second
+  -- a PDU is the same PDU where a node repeats it
+  pub same-repeated : (node : Node) (room : ℕ) (received rest : List ℕ) → AllBytes received → repeatNumber node room received ≡ 0
+      → SamePdu (repeated (node .settings .own) received ++ rest) received
+  -- an acknowledgement reads back as it was made, whatever bytes follow
+  pub reads-back : (sending : Sending) (names : Names) → sending .«hop_limit» ≤ 7 → sending .port ≤ 15 → (rest : List ℕ)
+      → (readOf (acknowledgement sending names ++ rest) ≡ Pdu (ackHeader sending names))
+      × (namesOf (acknowledgement sending names ++ rest) ≡ exchanged names)
+  -- its bytes: those of a fresh reliable PDU, empty, not encrypted, back to the source with the same ID, but for ACK, the lowest bit of byte 1
+  pub reply-is : (s : origin.Settings) (names : Names) → s .reliable ≡ true → s .encrypted ≡ false → s .source ≡ names .destination
+      → s .destination ≡ Address (names .source) → s .«pdu_id» ≡ names .«pdu_id»
+      → acknowledgement (sendingOf s) names ≡ set (fresh s []) 1 (s .port * 16 + 1)
+  -- demand 3 counts each sending as a fresh message: a fresh PDU, a retained one, an acknowledgement, each with the path bit, begins a flood
+  pub fresh-begins : (settings : origin.Settings) (payload : List ℕ) (room : ℕ) → Originated settings payload room → Begins (fresh settings payload)
+  pub retained-begins : (bytes : List ℕ) → AllBytes bytes → unfit bytes ≡ 0 → headerOf bytes .«path_bit» ≡ true → Begins bytes
+  pub reply-begins : (sending : Sending) (names : Names) → sending .«hop_limit» ≤ 7 → sending .port ≤ 15 → sending .«with_path» ≡ true
+      → names .source < 65536 → names .destination < 65536 → names .«pdu_id» < 256
+      → Begins (acknowledgement sending names) × (hopOf (acknowledgement sending names) ≡ sending .«hop_limit»)
+      × (sourceOf (acknowledgement sending names) ≡ names .destination)
+  pub counted : (nodes : List Repeater) → Nodes nodes → (first : List ℕ) → Begins first → (receptions : List Reception) → List·Nodup receptions
+      → Bounded address pathOf (others address (sourceOf first) nodes) (hopOf first) (onTheAir nodes first receptions)
+  -- II. CASE BY CASE, what the definitions of a record, of retaining, of a step and of a PDU heard say
   -- a record is free exactly where 75 or 72 would refuse its PDU; what was dropped or freed is
   pub used : (r : Retained) → isUsed r ≡ true → (r .length ≤ 256) × (unfit (pduOf r) ≡ 0)
   pub used-only : (r : Retained) → r .length ≤ 256 → unfit (pduOf r) ≡ 0 → isUsed r ≡ true
@@ -202,42 +239,9 @@ pub record ReliableMessages : Type 0 where
   pub ignores : (table : List Retained) (last delivery : ℕ) (sending : Sending) (received output : List ℕ)
       → isAnswered delivery (headerOf received) ≡ false → length table ≡ 16 → isAcknowledgement delivery (headerOf received) ≡ false
       → Answers table last delivery sending received output (answers 0 last) table output
-  -- an acknowledgement reads back as it was made, whatever bytes follow
-  pub reads-back : (sending : Sending) (names : Names) → sending .«hop_limit» ≤ 7 → sending .port ≤ 15 → (rest : List ℕ)
-      → (readOf (acknowledgement sending names ++ rest) ≡ Pdu (ackHeader sending names))
-      × (namesOf (acknowledgement sending names ++ rest) ≡ exchanged names)
-  -- its bytes: those of a fresh reliable PDU, empty, not encrypted, back to the source with the same ID, but for ACK, the lowest bit of byte 1
-  pub reply-is : (s : origin.Settings) (names : Names) → s .reliable ≡ true → s .encrypted ≡ false → s .source ≡ names .destination
-      → s .destination ≡ Address (names .source) → s .«pdu_id» ≡ names .«pdu_id»
-      → acknowledgement (sendingOf s) names ≡ set (fresh s []) 1 (s .port * 16 + 1)
-  -- a PDU is the same PDU where a node repeats it
-  pub same-repeated : (node : Node) (room : ℕ) (received rest : List ℕ) → AllBytes received → repeatNumber node room received ≡ 0
-      → SamePdu (repeated (node .settings .own) received ++ rest) received
-  -- two nodes: what is retained at one, delivered at the other and there acknowledged, is freed once the acknowledgement is delivered at the first; the
-  -- other may hear a copy, and so may the first, as repeaters between them leave it
-  pub exchange : (near far : Node) (table : List Retained) (last now : ℕ) (bytes : List ℕ) (place : ℕ) → length table ≡ 16 → last ≤ now
-      → unfit bytes ≡ 0 → Nowhere (isNamed (namesOf bytes)) table → FirstAt isFree table place
-      → (copy : List ℕ) (farRoom : ℕ) → SamePdu copy bytes → deliveryNumber far farRoom copy ≡ 0
-      → (theirs : List Retained) (sending : Sending) (output : List ℕ) → length theirs ≡ 16 → sending .«hop_limit» ≤ 7 → sending .port ≤ 15
-      → pduLength (ackHeader sending (namesOf copy)) ≤ length output
-      → (back : List ℕ) (nearRoom : ℕ) → SamePdu back (outputAcknowledged theirs (deliveryNumber far farRoom copy) sending copy output)
-      → deliveryNumber near nearRoom back ≡ 0 → (own : Sending) (second : List ℕ)
-      → let waiting = tableRetained table last now bytes in
-      Answers waiting now (deliveryNumber near nearRoom back) own back second (did freed now place (namesOf bytes) 0) (set waiting place freedRecord) second
-  -- the theorem: at most so many sendings, and so many moments and one more end it; and the steps at one moment end
-  pub ending : Statement
-  pub settling : Settling
+  -- IV. WORKED CASES
   -- 16 steps with a delay, and with none 16 for each sending and the drop
-  pub enough-is : (enough twice ≡ 16) × (enough (record { delay = 0; tries = 2; room = 256 }) ≡ 48)
-  -- demand 3 counts each sending as a fresh message: a fresh PDU, a retained one, an acknowledgement, each with the path bit, begins a flood
-  pub fresh-begins : (settings : origin.Settings) (payload : List ℕ) (room : ℕ) → Originated settings payload room → Begins (fresh settings payload)
-  pub retained-begins : (bytes : List ℕ) → AllBytes bytes → unfit bytes ≡ 0 → headerOf bytes .«path_bit» ≡ true → Begins bytes
-  pub reply-begins : (sending : Sending) (names : Names) → sending .«hop_limit» ≤ 7 → sending .port ≤ 15 → sending .«with_path» ≡ true
-      → names .source < 65536 → names .destination < 65536 → names .«pdu_id» < 256
-      → Begins (acknowledgement sending names) × (hopOf (acknowledgement sending names) ≡ sending .«hop_limit»)
-      × (sourceOf (acknowledgement sending names) ≡ names .destination)
-  pub counted : (nodes : List Repeater) → Nodes nodes → (first : List ℕ) → Begins first → (receptions : List Reception) → List·Nodup receptions
-      → Bounded address pathOf (others address (sourceOf first) nodes) (hopOf first) (onTheAir nodes first receptions)
+  pub enough-is : (enough twoTries ≡ 16) × (enough (record { delay = 0; tries = 2; room = 256 }) ≡ 48)
   -- at the limits: a path bit with count 0 is taken, count 1 is 75; 256 bytes, 257, and 75 before 72; of a full table 75 before 71, and 71 before 70
   pub path-count : (unfit (withPath 0 []) ≡ 0) × (unfit (withPath 1 (0x03 ∷ 0xE9 ∷ [])) ≡ 75)
   pub longest : (unfit of256 ≡ 0) × (unfit of257 ≡ 72) × (unfit (of257 ++ (0 ∷ [])) ≡ 75)
@@ -252,10 +256,10 @@ pub record ReliableMessages : Type 0 where
   pub delivered-there : (deliveryNumber (nodeAt 1000 true false) 100 command ≡ 0) × (deliveryNumber (nodeAt 2000 true false) 100 reply ≡ 0)
       × (deliveryNumber (nodeAt 3000 true false) 100 command ≡ 39)
   -- a command never acknowledged is sent twice and reported failed at the third moment; one acknowledged after a sending is freed
-  pub lost : history twice commandNames
+  pub lost : history twoTries commandNames
       (Retains 10 command ∷ Steps 14 ∷ Steps 15 ∷ Steps 15 ∷ Steps 20 ∷ Steps 20 ∷ Steps 25 ∷ Steps 25 ∷ []) (start empty 0) .life
       ≡ record { fate = Lost; sent = 2; moments = 3; mark = 25 }
-  pub waiting : history twice commandNames (Retains 10 command ∷ Steps 14 ∷ Steps 15 ∷ Steps 15 ∷ Steps 20 ∷ Steps 20 ∷ []) (start empty 0) .life
+  pub waiting : history twoTries commandNames (Retains 10 command ∷ Steps 14 ∷ Steps 15 ∷ Steps 15 ∷ Steps 20 ∷ Steps 20 ∷ []) (start empty 0) .life
       ≡ record { fate = Waiting; sent = 2; moments = 2; mark = 20 }
-  pub arrived : history twice commandNames (Retains 10 command ∷ Steps 15 ∷ Hears 0 sendingMost 0 reply ∷ Steps 20 ∷ []) (start empty 0) .life
+  pub arrived : history twoTries commandNames (Retains 10 command ∷ Steps 15 ∷ Hears 0 sendingMost 0 reply ∷ Steps 20 ∷ []) (start empty 0) .life
       ≡ record { fate = Arrived; sent = 1; moments = 1; mark = 20 }

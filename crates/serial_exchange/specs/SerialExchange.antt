@@ -21,7 +21,7 @@ use Rattle.joined.specs.Joined.{isSplit}
 use Rattle.exchange.specs.Exchange.{isExchange, headerPart, payloadPart, refusedBy, exchangeOf}
 use Rattle.exchange.specs.Encoding.{numberBytes, exchangeBytes, encoding, writtenExchange, exchangeOutput, exchangeLimit}
 
--- the example of document 003, section 10.1, and its PDU
+-- For the worked cases: the example of document 003, section 10.1, and its PDU
 abbrev pub example : List ℕ
 example =
     0x14 ∷ 0x24 ∷ 0x84 ∷ 0x00 ∷ 0x06 ∷ 0x00 ∷ 0x00 ∷ 0x70 ∷ 0x0D ∷ 0x11 ∷ 0x33 ∷ 0x84 ∷ 0x01 ∷ 0x0D ∷ 0xA4 ∷ 0x08 ∷ 0x3F ∷ 0x03 ∷ 0xA3
@@ -38,6 +38,7 @@ abbrev pub headerFirst : List ℕ
 headerFirst = (0x84 ∷ 0x00 ∷ 0x06 ∷ exampleHeader) ++ (0x84 ∷ 0x01 ∷ 0x0D ∷ examplePayload)
 
 pub record SerialExchange : Type 0 where
+  -- I. WHAT 02 ASKS
   -- the numbers in their order, when reading and when writing
   pub reading-order : (bytes : List ℕ) → exchangeOf bytes .number
       ≡ (runFault levelLimit bytes 0 (length bytes)
@@ -70,14 +71,15 @@ pub record SerialExchange : Type 0 where
   -- header first
   pub header-first : (exchange : List ℕ) → exchangeOf exchange .number ≡ 0
       → encoding (headerPart exchange ++ payloadPart exchange) ≡ exchangeBytes (headerPart exchange) (payloadPart exchange)
-  -- no exchange that is written is longer than 4,626 bytes, and one of a header of 520 bytes and a payload of 4,095 is as long
-  pub longest : (bytes : List ℕ) (header : Header) → AllBytes bytes → readOf bytes ≡ Pdu header → length (encoding bytes) ≤ exchangeLimit
-  pub as-long : (header payload : List ℕ) → length header ≡ 520 → length payload ≡ 4095 → length (exchangeBytes header payload) ≡ exchangeLimit
   -- with 0 the exchange stands at the output's start and the rest is kept; a refusal writes nothing
   pub written : (bytes output : List ℕ) → writtenExchange bytes (length output) .number ≡ 0
       → (writtenExchange bytes (length output) .length ≡ length (encoding bytes)) × (exchangeOutput bytes output ≡ over (encoding bytes) output)
   pub untouched : (bytes output : List ℕ) → (writtenExchange bytes (length output) .number ≡ 0 → ⊥)
       → (writtenExchange bytes (length output) .length ≡ 0) × (exchangeOutput bytes output ≡ output)
+  -- no exchange that is written is longer than 4,626 bytes, and one of a header of 520 bytes and a payload of 4,095 is as long
+  pub longest : (bytes : List ℕ) (header : Header) → AllBytes bytes → readOf bytes ≡ Pdu header → length (encoding bytes) ≤ exchangeLimit
+  pub as-long : (header payload : List ℕ) → length header ≡ 520 → length payload ≡ 4095 → length (exchangeBytes header payload) ≡ exchangeLimit
+  -- IV. WORKED CASES
   -- document 003's example, with two elements that are passed over; its PDU of 19 bytes makes an exchange of 27, header first
   pub example-read : exchangeOf example
       ≡ record { number = 0; «header_place» = 5; «header_length» = 6; «payload_place» = 14; «payload_length» = 13 }

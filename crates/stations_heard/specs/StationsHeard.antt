@@ -18,8 +18,7 @@ use Rattle.listening.specs.Listening.{wasRead, heardOf, answerNumber, memoryAft
 use Rattle.listening.specs.History.{Deed, memoryAfter, since, shownBy, Rises}
 
 pub record StationsHeard : Type 0 where
-  -- a memory of 513 words or more has room for 128 stations
-  pub room-for-128 : (memory : List ℕ) → 513 ≤ length memory → capacity memory ≡ 128
+  -- I. WHAT 02 ASKS
   -- a PDU was read where no list is at fault and reading refused nothing, and nowhere else; it is an echo where echo dropped it, by its path or, W-203,
   -- by its source
   pub read : (node : Node) (room : ℕ) (received : List ℕ) → listOrReadingFault node received ≡ 0
@@ -46,6 +45,12 @@ pub record StationsHeard : Type 0 where
   -- and every address shows what was counted from it since it was last taken in, or 56 where that is nothing
   pub shows : (memory : List ℕ) → at memory 0 ≡ 0 → (deeds : List Deed) (address : ℕ)
       → stationOf address (tableIn (memoryAfter memory deeds)) ≡ shownBy address (since memory address deeds)
+  -- the listing shows the table's stations one after another
+  pub listed : (memory : List ℕ) (i : ℕ) → i < length (tableIn memory)
+      → foundAt i (tableIn memory) ≡ record { number = 0; station = stationAt (tableIn memory) i }
+  -- II. CASE BY CASE, what the definitions say
+  -- a memory of 513 words or more has room for 128 stations
+  pub room-for-128 : (memory : List ℕ) → 513 ≤ length memory → capacity memory ≡ 128
   -- among addresses that rise, the place of one has the lower ones before it and none of them behind it
   pub place : (address : ℕ) (known : List ℕ) → Rises known → length known ≤ 128
       → ((i : ℕ) → i < placeOf address known → at known i < address)
@@ -55,6 +60,3 @@ pub record StationsHeard : Type 0 where
       → (placeOf address known ≡ i) × (isHeld address known ≡ true)
   pub not-held : (address : ℕ) (known : List ℕ) → Rises known → length known ≤ 128 → ((i : ℕ) → i < length known → at known i ≡ address → ⊥)
       → isHeld address known ≡ false
-  -- the listing shows the table's stations one after another
-  pub listed : (memory : List ℕ) (i : ℕ) → i < length (tableIn memory)
-      → foundAt i (tableIn memory) ≡ record { number = 0; station = stationAt (tableIn memory) i }

@@ -17,7 +17,11 @@ use Rattle.transmit.specs.Adding.{addNumber, memoryAfterAdd}
 use Rattle.transmit.specs.Taking.{batchOf, outputAfterTake, memoryAfterTake}
 use Rattle.transmit.specs.History.{Deed, Adding, Taking, memoryAfter, accepted, takenAndCleared, places, allReadable}
 
--- PDUs of 6, 7 and 8 bytes, one of 2,042 and one of 2,043; a memory for 2,048 bytes, with a queue in it
+-- what taking answers: the number, and how many PDUs and bytes
+abbrev pub batch : ℕ → ℕ → ℕ → Batch
+batch number pdus bytes = record { number = number; pdus = pdus; bytes = bytes }
+
+-- For the worked cases: PDUs of 6, 7 and 8 bytes, one of 2,042 and one of 2,043; a memory for 2,048 bytes, with a queue in it
 abbrev pub six : List ℕ
 six = 0x00 ∷ 0x00 ∷ 0x00 ∷ 0x00 ∷ 0x00 ∷ 0x05 ∷ []
 
@@ -36,10 +40,8 @@ of2043 = 0x00 ∷ 0x00 ∷ 0x07 ∷ 0xF5 ∷ 0x00 ∷ 0x05 ∷ replicate 2037 0
 abbrev pub queueOf : List (List ℕ) → List ℕ
 queueOf pdus = memoryOf pdus (replicate 2052 0)
 
-abbrev pub batch : ℕ → ℕ → ℕ → Batch
-batch number pdus bytes = record { number = number; pdus = pdus; bytes = bytes }
-
 pub record TransmitQueue : Type 0 where
+  -- I. WHAT 02 ASKS
   -- a memory of 2,052 bytes or more has room for 2,048; one that keeps 0 for the bytes held, its bytes 2 and 3, holds none
   pub room-for-2048 : (memory : List ℕ) → 2052 ≤ length memory → capacity memory ≡ 2048
   pub empty : (memory : List ℕ) → wordAt memory 2 ≡ 0 → heldIn memory ≡ []
@@ -93,6 +95,7 @@ pub record TransmitQueue : Type 0 where
   pub walked : (edition : ℕ) → known edition ≡ true → (memory : List ℕ) (room : ℕ) (node : Node) (output : ℕ) → listFault (node .lists) ≡ 0
       → let pdus = front room (heldIn memory) in let found = walkUnder edition node output (flatten pdus) in
       (found .number ≡ 0) × (found .offsets ≡ places 0 pdus) × (allReadable (found .answers) ≡ true) × (found .end ≡ length (flatten pdus))
+  -- IV. WORKED CASES
   -- the oldest first: of 6, 7 and 8 bytes, 14 are room for two, and the third stays
   pub oldest-first : let deeds = Taking 14 ∷ Adding eight ∷ Adding seven ∷ Adding six ∷ [] in
       (takenAndCleared (replicate 50 0) deeds ≡ six ∷ seven ∷ []) × (heldIn (memoryAfter (replicate 50 0) deeds) ≡ eight ∷ [])

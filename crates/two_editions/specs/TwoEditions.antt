@@ -37,7 +37,23 @@ use Rattle.boundary.specs.declared.MantFresh.{MantFresh}
 use Rattle.boundary.specs.Boundary.{headerInC, freshFromC}
 use Rattle.checked_by_hand.specs.Examples.{nodeAt}
 
--- a PDU of 6 bytes whose three bits after the port are all set
+-- settings with another edition and another encrypted flag; all else in them is as it was
+abbrev pub setTo : ℕ → Bool → asked.Settings → asked.Settings
+setTo edition encrypted settings =
+    record {
+      edition = edition;
+      source = settings .source;
+      destination = settings .destination;
+      «hop_limit» = settings .«hop_limit»;
+      port = settings .port;
+      «time_stamp_request» = settings .«time_stamp_request»;
+      «with_path» = settings .«with_path»;
+      reliable = settings .reliable;
+      «pdu_id» = settings .«pdu_id»;
+      encrypted = encrypted;
+    }
+
+-- For the worked cases: a PDU of 6 bytes whose three bits after the port are all set
 abbrev pub allSet : List ℕ
 allSet = 0x00 ∷ 0x0E ∷ 0x00 ∷ 0x00 ∷ 0x00 ∷ 0x05 ∷ []
 
@@ -64,28 +80,11 @@ asking edition encrypted hop reliable =
       encrypted = encrypted;
     }
 
--- settings with another edition and another encrypted flag; all else in them is as it was
-abbrev pub setTo : ℕ → Bool → asked.Settings → asked.Settings
-setTo edition encrypted settings =
-    record {
-      edition = edition;
-      source = settings .source;
-      destination = settings .destination;
-      «hop_limit» = settings .«hop_limit»;
-      port = settings .port;
-      «time_stamp_request» = settings .«time_stamp_request»;
-      «with_path» = settings .«with_path»;
-      reliable = settings .reliable;
-      «pdu_id» = settings .«pdu_id»;
-      encrypted = encrypted;
-    }
-
 pub record TwoEditions : Type 0 where
-  -- 11 is 1.1 and 12 is 1.2; no other number is an edition, also none that 32 bits would cut to 11
+  -- I. WHAT 02 ASKS
+  -- 11 is 1.1 and 12 is 1.2; no other number is an edition
   pub two : (known 11 ≡ true) × (known 12 ≡ true)
   pub only-two : (edition : ℕ) → known edition ≡ true → (edition ≡ 11) ⊎ (edition ≡ 12)
-  pub no-other : (known 0 ≡ false) × (known 1 ≡ false) × (known 2 ≡ false) × (known 10 ≡ false) × (known 13 ≡ false) × (known 4294967307 ≡ false)
-      × (known 18446744073709551615 ≡ false)
   -- reading: 17 for exactly those, before 1 to 6
   pub read-17 : (edition : ℕ) (bytes : List ℕ) → known edition ≡ false → readUnder edition bytes ≡ Refused 17
   pub read-17-only : (edition : ℕ) (bytes : List ℕ) → readUnder edition bytes ≡ Refused 17 → known edition ≡ false
@@ -99,18 +98,6 @@ pub record TwoEditions : Type 0 where
   pub shown-as-11 : (bytes : List ℕ) (shown : Shown) → readUnder 11 bytes ≡ Pdu shown → (number : ℕ) × (shown .bits ≡ Reserved number) × (number ≤ 7)
   pub shown-as-12 : (bytes : List ℕ) (shown : Shown) → readUnder 12 bytes ≡ Pdu shown
       → (encrypted : Bool) × (number : ℕ) × (shown .bits ≡ Flagged encrypted number) × (number ≤ 3)
-  pub fields : (bits : Bits) (header : Header) → let shown = shownWith bits header in
-      (shown .bits ≡ bits) × (shown .protocol ≡ header .protocol) × (shown .«time_stamp_request» ≡ header .«time_stamp_request»)
-      × (shown .«path_bit» ≡ header .«path_bit») × (shown .port ≡ header .port) × (shown .ack ≡ header .ack)
-      × (shown .«added_header» ≡ header .«added_header») × (shown .«hop_limit» ≡ header .«hop_limit»)
-      × (shown .«payload_length» ≡ header .«payload_length») × (shown .source ≡ header .source) × (shown .destination ≡ header .destination)
-      × (shown .«pdu_id» ≡ header .«pdu_id») × (shown .«path_count» ≡ header .«path_count»)
-  pub eight : let bytes : List ℕ = 0x00 ∷ 0x02 ∷ 0x04 ∷ 0x06 ∷ 0x08 ∷ 0x0A ∷ 0x0C ∷ 0x0E ∷ [] in
-      (map (bitsUnder 11) bytes
-      ≡ Reserved 0 ∷ Reserved 1 ∷ Reserved 2 ∷ Reserved 3 ∷ Reserved 4 ∷ Reserved 5 ∷ Reserved 6 ∷ Reserved 7 ∷ [])
-      × (map (bitsUnder 12) bytes
-      ≡ Flagged false 0 ∷ Flagged false 1 ∷ Flagged false 2 ∷ Flagged false 3 ∷ Flagged true 0 ∷ Flagged true 1 ∷ Flagged true 2 ∷ Flagged true 3 ∷ [])
-  pub neighbours-not-shown : (bitsUnder 11 0xF1 ≡ Reserved 0) × (bitsUnder 12 0xF1 ≡ Flagged false 0)
   -- what is shown under an edition is all that the wire says
   pub shows-the-wire : (edition : ℕ) (bytes : List ℕ) (shown : Shown) → readUnder edition bytes ≡ Pdu shown → readOf bytes ≡ wire.Pdu (wireOf shown)
   -- so what is read under an edition and written again under it is the same bytes; with a refusal of reading, and then with 14, nothing is written
@@ -128,7 +115,6 @@ pub record TwoEditions : Type 0 where
       → (answerUnder edition node room received ≡ twice 17 0 Unknown) × (outputUnder edition node received output ≡ output)
   pub hears-17-only : (edition : ℕ) (node : Node) (room : ℕ) (received : List ℕ)
       → (answerUnder edition node room received .delivery ≡ 17) ⊎ (answerUnder edition node room received .repeat ≡ 17) → known edition ≡ false
-  pub before-lists : (answerUnder 13 atFault 100 allSet ≡ twice 17 0 Unknown) × (answerUnder 11 atFault 100 allSet ≡ twice 21 0 Unknown)
   -- repeating is byte for byte the same under both: answer and output are those of demand 2
   pub hears-same : (edition : ℕ) (node : Node) (room : ℕ) (received output : List ℕ) → known edition ≡ true
       → (answerUnder edition node room received ≡ answerOf node room received) × (outputUnder edition node received output ≡ outputAfter node received output)
@@ -152,14 +138,6 @@ pub record TwoEditions : Type 0 where
       → walkUnder edition node room (byte ∷ bytes) ≡ record { number = 0; offsets = 0 ∷ []; answers = twice 17 0 Unknown ∷ []; end = 0 }
   pub walks-empty : (edition : ℕ) (node : Node) (room : ℕ) → walkUnder edition node room [] ≡ record { number = 0; offsets = []; answers = []; end = 0 }
   pub walks-same : (edition : ℕ) (node : Node) (room : ℕ) (batch : List ℕ) → known edition ≡ true → walkUnder edition node room batch ≡ walk node room batch
-  pub before-54 : (walkUnder 13 (nodeAt 2000 true false) 100 tooLong .answers ≡ twice 17 0 Unknown ∷ [])
-      × (walkUnder 12 (nodeAt 2000 true false) 100 tooLong .number ≡ 54)
-  -- `relay`, whose edition is 1.2, prints the same under both: its PDU lines are those of the walk under either, each from the answer under it
-  pub relays-same : (edition : ℕ) (node : Node) (batch : List ℕ) (number offset : ℕ) → known edition ≡ true
-      → let received = drop offset batch in let answer = answerUnder edition node roomForOne received in
-      (walkLines node batch 0 (walkUnder edition node roomForOne batch) ≡ linesOf node batch)
-      × (pduLine number offset (answer .delivery) (answer .repeat) (repeatedOrNone node received) (answer .«last_sender»)
-      ≡ lineAt node batch number offset)
   -- origination: 17 for exactly those editions, before 10 to 13; 16 where 1.1 is asked for the flag, after 13 and before 14, and nowhere else
   pub originated-17 : (settings : asked.Settings) (payload output : List ℕ) → known (settings .edition) ≡ false
       → (originated settings payload (length output) ≡ record { number = 17; length = 0 }) × (originatedOutput settings payload output ≡ output)
@@ -172,10 +150,6 @@ pub record TwoEditions : Type 0 where
   pub originated-16-only : (settings : asked.Settings) (payload : List ℕ) (room : ℕ) → originationNumber settings payload room ≡ 16
       → (settings .edition ≡ 11) × (settings .encrypted ≡ true) × (settings .«hop_limit» ≤ 7) × (settings .port ≤ 15) × (length payload ≤ 4095)
       × ((settings .reliable && eqb (destinationFlag (settings .destination)) 0) ≡ false)
-  pub order : (originationNumber (asking 13 true 8 true) [] 0 ≡ 17) × (originationNumber (asking 11 true 8 true) [] 0 ≡ 10)
-      × (originationNumber (asking 11 true 7 true) [] 0 ≡ 13) × (originationNumber (asking 11 true 7 false) [] 0 ≡ 16)
-      × (originationNumber (asking 11 false 7 false) [] 5 ≡ 14) × (originationNumber (asking 11 false 7 false) [] 6 ≡ 0)
-      × (originationNumber (asking 12 true 7 false) [] 5 ≡ 14) × (originationNumber (asking 12 true 7 false) [] 6 ≡ 0)
   -- without the flag, answer and output are the same under both; with it under 1.2, the answer is as without it, and byte 1 is larger by 8
   pub originated-same : (settings : asked.Settings) (payload output : List ℕ) (edition other : ℕ) → known edition ≡ true → known other ≡ true
       → (originated (setTo edition false settings) payload (length output) ≡ originated (setTo other false settings) payload (length output))
@@ -188,9 +162,26 @@ pub record TwoEditions : Type 0 where
       → readUnder 12 (fresh settings payload ++ rest) ≡ Pdu (shownWith (Flagged (settings .encrypted) 0) (freshHeader settings (length payload)))
   pub fresh-11 : (settings : asked.Settings) (payload rest : List ℕ) (room : ℕ) → originationNumber settings payload room ≡ 0 → settings .edition ≡ 11
       → readUnder 11 (fresh settings payload ++ rest) ≡ Pdu (shownWith (Reserved 0) (freshHeader settings (length payload)))
-  pub fresh-set : fresh (asking 12 true 0 false) [] ≡ 0x00 ∷ 0x08 ∷ 0x00 ∷ 0x00 ∷ 0x00 ∷ 0x05 ∷ []
-  -- the front doors: C's header has the flag only where the edition shows one, and a reserved number as it shows it; with a refusal, neither and no length;
-  -- a fresh PDU's edition and flag are those that C gives; with 17 nothing is counted
+  -- II. CASE BY CASE, what the definitions say
+  -- a header as it is shown: the three bits, and the other fields as the wire has them
+  pub fields : (bits : Bits) (header : Header) → let shown = shownWith bits header in
+      (shown .bits ≡ bits) × (shown .protocol ≡ header .protocol) × (shown .«time_stamp_request» ≡ header .«time_stamp_request»)
+      × (shown .«path_bit» ≡ header .«path_bit») × (shown .port ≡ header .port) × (shown .ack ≡ header .ack)
+      × (shown .«added_header» ≡ header .«added_header») × (shown .«hop_limit» ≡ header .«hop_limit»)
+      × (shown .«payload_length» ≡ header .«payload_length») × (shown .source ≡ header .source) × (shown .destination ≡ header .destination)
+      × (shown .«pdu_id» ≡ header .«pdu_id») × (shown .«path_count» ≡ header .«path_count»)
+  -- III. BESIDE OTHER REQUESTS, AND IN C
+  -- `relay`, whose edition is 1.2, prints the same under both: its PDU lines are those of the walk under either, each from the answer under it
+  pub relays-same : (edition : ℕ) (node : Node) (batch : List ℕ) (number offset : ℕ) → known edition ≡ true
+      → let received = drop offset batch in let answer = answerUnder edition node roomForOne received in
+      (walkLines node batch 0 (walkUnder edition node roomForOne batch) ≡ linesOf node batch)
+      × (pduLine number offset (answer .delivery) (answer .repeat) (repeatedOrNone node received) (answer .«last_sender»)
+      ≡ lineAt node batch number offset)
+  -- W-201: with 17 nothing is counted
+  pub counts-nothing : (received memory : List ℕ)
+      → (answerNumber (twice 17 0 Unknown) received memory ≡ 0) × (memoryAfterAnswer (twice 17 0 Unknown) received memory ≡ memory)
+  -- C's header has the flag only where the edition shows one, and a reserved number as it shows it; with a refusal, neither and no length; a fresh PDU's
+  -- edition and flag are those that C gives
   pub in-c-reserved : (shown : Shown) (bytes : List ℕ) (number : ℕ) → shown .bits ≡ Reserved number → let header = headerInC (Pdu shown) bytes in
       (header .number ≡ 0) × (header .«has_encrypted» ≡ false) × (header .encrypted ≡ false) × (header .reserved ≡ number)
   pub in-c-flagged : (shown : Shown) (bytes : List ℕ) (encrypted : Bool) (number : ℕ) → shown .bits ≡ Flagged encrypted number
@@ -200,9 +191,28 @@ pub record TwoEditions : Type 0 where
       (header .number ≡ number) × (header .«has_encrypted» ≡ false) × (header .encrypted ≡ false) × (header .reserved ≡ 0)
       × (header .«header_length» ≡ 0) × (header .«pdu_length» ≡ 0)
   pub fresh-in-c : (settings : MantFresh) → (freshFromC settings .edition ≡ settings .edition) × (freshFromC settings .encrypted ≡ settings .encrypted)
+  -- IV. WORKED CASES
+  -- no other number is an edition, also none that 32 bits would cut to 11
+  pub no-other : (known 0 ≡ false) × (known 1 ≡ false) × (known 2 ≡ false) × (known 10 ≡ false) × (known 13 ≡ false) × (known 4294967307 ≡ false)
+      × (known 18446744073709551615 ≡ false)
+  -- the eight values of the three bits, and none of the bits beside them
+  pub eight : let bytes : List ℕ = 0x00 ∷ 0x02 ∷ 0x04 ∷ 0x06 ∷ 0x08 ∷ 0x0A ∷ 0x0C ∷ 0x0E ∷ [] in
+      (map (bitsUnder 11) bytes
+      ≡ Reserved 0 ∷ Reserved 1 ∷ Reserved 2 ∷ Reserved 3 ∷ Reserved 4 ∷ Reserved 5 ∷ Reserved 6 ∷ Reserved 7 ∷ [])
+      × (map (bitsUnder 12) bytes
+      ≡ Flagged false 0 ∷ Flagged false 1 ∷ Flagged false 2 ∷ Flagged false 3 ∷ Flagged true 0 ∷ Flagged true 1 ∷ Flagged true 2 ∷ Flagged true 3 ∷ [])
+  pub neighbours-not-shown : (bitsUnder 11 0xF1 ≡ Reserved 0) × (bitsUnder 12 0xF1 ≡ Flagged false 0)
+  -- 17 before the lists, and before 54
+  pub before-lists : (answerUnder 13 atFault 100 allSet ≡ twice 17 0 Unknown) × (answerUnder 11 atFault 100 allSet ≡ twice 21 0 Unknown)
+  pub before-54 : (walkUnder 13 (nodeAt 2000 true false) 100 tooLong .answers ≡ twice 17 0 Unknown ∷ [])
+      × (walkUnder 12 (nodeAt 2000 true false) 100 tooLong .number ≡ 54)
+  -- the order of origination's numbers; the flag as it is written; what C sees of three bits that are all set
+  pub order : (originationNumber (asking 13 true 8 true) [] 0 ≡ 17) × (originationNumber (asking 11 true 8 true) [] 0 ≡ 10)
+      × (originationNumber (asking 11 true 7 true) [] 0 ≡ 13) × (originationNumber (asking 11 true 7 false) [] 0 ≡ 16)
+      × (originationNumber (asking 11 false 7 false) [] 5 ≡ 14) × (originationNumber (asking 11 false 7 false) [] 6 ≡ 0)
+      × (originationNumber (asking 12 true 7 false) [] 5 ≡ 14) × (originationNumber (asking 12 true 7 false) [] 6 ≡ 0)
+  pub fresh-set : fresh (asking 12 true 0 false) [] ≡ 0x00 ∷ 0x08 ∷ 0x00 ∷ 0x00 ∷ 0x00 ∷ 0x05 ∷ []
   pub in-c-11 : let header = headerInC (readUnder 11 allSet) allSet in
       (header .«has_encrypted» ≡ false) × (header .encrypted ≡ false) × (header .reserved ≡ 7)
   pub in-c-12 : let header = headerInC (readUnder 12 allSet) allSet in
       (header .«has_encrypted» ≡ true) × (header .encrypted ≡ true) × (header .reserved ≡ 3)
-  pub counts-nothing : (received memory : List ℕ)
-      → (answerNumber (twice 17 0 Unknown) received memory ≡ 0) × (memoryAfterAnswer (twice 17 0 Unknown) received memory ≡ memory)

@@ -88,7 +88,7 @@ pub record SeasonDelivered (editionOf : ℕ → ℕ) (nodes : List SeasonRepeate
       take (answer .«delivered_length») (drop (answer .«delivered_place») received) ≡ payload
   pub path-count : headerOf received .«path_count» ≡ count
 
--- for the worked cases: node 2000, echo and repeating on, with these choices
+-- For the worked cases: node 2000, echo and repeating on, with these choices
 abbrev pub settingsAt : Choice → Choice → Choice → Choice → SeasonSettings
 settingsAt a b c d =
     record {
@@ -162,8 +162,8 @@ pub record TwoLists : Type 0 where
       × (seasonStepOutputUnder edition node batch cursor output ≡ stepOutputUnder edition (chosenNode node) batch cursor output)
   pub walks : (edition : ℕ) (node : SeasonNode) (room : ℕ) (batch : List ℕ) → eightFault (node .lists) ≡ 0
       → seasonWalkUnder edition node room batch ≡ walkUnder edition (chosenNode node) room batch
-  -- the job of `relay`: its four sections are first lists, and the second are empty; that node answers, leaves, steps and walks as the job's node did, faults of
-  -- the lists too, so that what is printed stays as it was
+  -- the job of `relay`: its four sections are first lists, and the second are empty; that node answers, leaves, steps and walks as the job's node did, faults
+  -- of the lists too, so that what is printed stays as it was
   pub job : (bytes : List ℕ) (j : Job) → withFirsts (nodeIn bytes j) .lists
       ≡ eightInOrder (nodeIn bytes j .lists .sourcePass) [] (nodeIn bytes j .lists .sourceReject) [] (nodeIn bytes j .lists .destinationPass) []
       (nodeIn bytes j .lists .destinationReject) []
