@@ -16,7 +16,7 @@ use Rattle.retained.specs.Table.{did, sent, failed, freed}
 use Rattle.deciding.specs.declared.Ask.{Ask}
 use Rattle.deciding.specs.declared.Kind.the-variants.{Retain, Step, Free}
 use Rattle.deciding.specs.declared.Effect.{Effect}
-use Rattle.deciding.specs.Deciding.{isSpent, leftOf, emitted, kindNumber, decideNumber, stays, changes, effectOf, decideOf}
+use Rattle.deciding.specs.Deciding.{leftOf, emitted, kindNumber, decideNumber, stays, changes, effectOf, decideOf}
 
 module _ (a : Ask) (s : Seek) where
   pub number-early : (a .early ≡ 0 → ⊥) → a .early ≡ decideNumber a s

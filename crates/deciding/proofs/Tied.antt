@@ -19,7 +19,7 @@ use Rattle.retained.specs.declared.Outcome.{Outcome}
 use Rattle.deciding.specs.declared.Ask.{Ask}
 use Rattle.deciding.specs.declared.Effect.{Effect}
 use Rattle.retained.specs.Records.{isDue, pduOf, namesOf, retainedRecord, sentRecord, freedRecord}
-use Rattle.retained.specs.Table.{has, recordAt, due, isDropped, answers, did, sent, failed}
+use Rattle.retained.specs.Table.{has, recordAt, due, isSpent, answers, did, sent, failed}
 use Rattle.retained.specs.Table.{retainNumber, retain, tableRetained, stepNumber, step, tableStepped, outputStepped}
 use Rattle.retained.specs.Searching.{scanOf, begun}
 use Rattle.retained.proofs.Found.{scan-found}
@@ -134,7 +134,7 @@ module _ (table : List Retained) (last time delay tries room : ℕ) where
   d = has (isDue time delay) table
 
   abbrev r : Bool
-  r = isDropped (recordAt table place) tries
+  r = isSpent (recordAt table place .count) tries
 
   abbrev its : Effect
   its = theStep table place time last number b d r

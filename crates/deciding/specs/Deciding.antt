@@ -7,7 +7,6 @@ use lib.ListN.{length, set}
 use Rattle.octets.specs.Numbers.{_gives_, _orElse_}
 use Rattle.octets.specs.Octets.{placed}
 use Rattle.retained.specs.declared.Retained.{Retained}
-use Rattle.retained.specs.declared.Seen.{Seen}
 use Rattle.retained.specs.declared.Seek.{Seek}
 use Rattle.retained.specs.declared.Outcome.{Outcome}
 use Rattle.deciding.specs.declared.Kind.{Kind}
@@ -15,18 +14,14 @@ use Rattle.deciding.specs.declared.Kind.the-variants.{Retain, Step, Free
 use Rattle.deciding.specs.declared.Ask.{Ask}
 use Rattle.deciding.specs.declared.Effect.{Effect}
 use Rattle.retained.specs.Records.{unfit, pduOf, namesOf, freedRecord}
-use Rattle.retained.specs.Table.{tableSize, recordAt, kept, sent, failed, freed, noNames, answers, did}
+use Rattle.retained.specs.Table.{tableSize, recordAt, isSpent, kept, sent, failed, freed, noNames, answers, did}
 use Rattle.retained.specs.Searching.{foundIn}
-
--- what was seen of a record whose count isn't below the setting
-abbrev pub isSpent : Seen → ℕ → Bool
-isSpent found tries = not (ltb (found .count) tries)
 
 -- the refusals in 02's order: 10 and 11 before the table is looked at, 74, 73, then `late`, which is 75 or 72 of a PDU to retain and 77 of a PDU heard,
 -- then those that depend on what was found
 abbrev pub kindNumber : Kind → Ask → Seek → ℕ
 kindNumber Retain a s = ltb (s .named) (s .count) gives 71 orElse not (ltb (s .free) (s .count)) gives 70
-kindNumber Step a s = (ltb (s .due) (s .count) && (not (isSpent (s .found) (a .tries)) && ltb (a .room) (s .found .length))) gives 77
+kindNumber Step a s = (ltb (s .due) (s .count) && (not (isSpent (s .found .count) (a .tries)) && ltb (a .room) (s .found .length))) gives 77
 kindNumber Free a s = 0
 kindNumber Nothing a s = 0
 
@@ -49,7 +44,7 @@ abbrev pub effectOf : Kind → Ask → Seek → Effect
 effectOf Retain a s = changes (s .free) 0 (did kept (a .time) (s .free) (a .names) 0)
 effectOf Step a s =
     cond (ltb (s .due) (s .count))
-    (cond (isSpent (s .found) (a .tries))
+    (cond (isSpent (s .found .count) (a .tries))
     (changes (s .due) 0 (did failed (a .time) (s .due) (s .found .names) 0))
     (changes (s .due) (s .found .count + 1) (did sent (a .time) (s .due) (s .found .names) (s .found .length))))
     (stays 0 (a .time) (s .count))

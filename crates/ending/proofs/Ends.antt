@@ -16,7 +16,7 @@ use Rattle.retained.specs.declared.Names.{Names}
 use Rattle.retained.specs.declared.Retained.{Retained}
 use Rattle.retained.specs.declared.Outcome.{Outcome}
 use Rattle.retained.specs.Records.{unfit, isUsed, isFree, isNamed, isDue, pduOf, namesOf, exchanged, sameNames, retainedRecord, sentRecord, freedRecord}
-use Rattle.retained.specs.Table.{tableSize, tableFault, timeFault, first, has, recordAt, due, isDropped, stepped, answers, did, nothing, kept, sent}
+use Rattle.retained.specs.Table.{tableSize, tableFault, timeFault, first, has, recordAt, due, isSpent, stepped, answers, did, nothing, kept, sent}
 use Rattle.retained.specs.Table.{failed, freed, retainNumber, retain, tableRetained, stepNumber, step, tableStepped}
 use Rattle.pdu.specs.Header.{headerOf}
 use Rattle.pdu.specs.Sizes.{pduLength}
@@ -277,9 +277,9 @@ module _ (s : Settings) (names : Names) (table : List Retained) (last : ℕ) (li
 
     good-steps : Good s names (next s names (Steps now) (world table last life))
     unfolding next watch step tableStepped
-    good-steps = by (eqb n 0) (has (isDue now (s .delay)) table) (isDropped e₀ (s .tries)) refl refl refl
+    good-steps = by (eqb n 0) (has (isDue now (s .delay)) table) (isSpent (e₀ .count) (s .tries)) refl refl refl
       where
-        by : (b c q : Bool) → eqb n 0 ≡ b → has (isDue now (s .delay)) table ≡ c → isDropped e₀ (s .tries) ≡ q
+        by : (b c q : Bool) → eqb n 0 ≡ b → has (isDue now (s .delay)) table ≡ c → isSpent (e₀ .count) (s .tries) ≡ q
             → Good s names (world (cond (b && c) (set table (due table now (s .delay)) (cond q freedRecord (sentRecord now e₀))) table)
             (stepping b c q .last) (watch (s .delay) names (Steps now) (stepping b c q) life))
         by true true true x y z = is-dropped now (in-time (eqb-true n 0 x)) y (ltb-false (e₀ .count) (s .tries) (not-true _ z))

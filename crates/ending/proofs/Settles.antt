@@ -15,7 +15,7 @@ use Rattle.retained.specs.declared.Names.{Names}
 use Rattle.retained.specs.declared.Retained.{Retained}
 use Rattle.retained.specs.declared.Outcome.{Outcome}
 use Rattle.retained.specs.Records.{recordLimit, isUsed, isDue, pduOf, namesOf, sentRecord, freedRecord}
-use Rattle.retained.specs.Table.{tableSize, tableFault, timeFault, first, has, recordAt, due, isDropped, stepped, answers, did, sent, failed}
+use Rattle.retained.specs.Table.{tableSize, tableFault, timeFault, first, has, recordAt, due, isSpent, stepped, answers, did, sent, failed}
 use Rattle.retained.specs.Table.{stepNumber, step, tableStepped}
 use Rattle.ending.specs.History.{Settings, Operation, Steps, World, answer, noneDue, watch, next, history}
 use Rattle.ending.specs.Ending.{enough, steps, Settling}
@@ -81,9 +81,9 @@ module _ (s : Settings) (now : ℕ) (room : recordLimit ≤ s .room) where
       r = recordAt table (due table now (s .delay))
 
       by : (has dueAt table ≡ true) ⊎ (has dueAt table ≡ false)
-          → cond {A = ℕ} (has dueAt table && (not (isDropped r (s .tries)) && ltb (s .room) (r .length))) 77 0 ≡ 0
+          → cond {A = ℕ} (has dueAt table && (not (isSpent (r .count) (s .tries)) && ltb (s .room) (r .length))) 77 0 ≡ 0
       by (inr e) = simp e
-      by (inl e) = simp (le-ltb (s .room) (r .length) (short r (has-hit dueAt table e .1))) (last-false (has dueAt table) (not (isDropped r (s .tries))))
+      by (inl e) = simp (le-ltb (s .room) (r .length) (short r (has-hit dueAt table e .1))) (last-false (has dueAt table) (not (isSpent (r .count) (s .tries))))
 
   module _ (table : List Retained) (last : ℕ) (l : length table ≡ tableSize) (t : last ≤ now) where
     abbrev n : ℕ
@@ -91,7 +91,7 @@ module _ (s : Settings) (now : ℕ) (room : recordLimit ≤ s .room) where
 
     step-last : step table last now (s .delay) (s .tries) (s .room) .last ≡ now
     unfolding step
-    step-last = simp (eq-eqb n 0 (passes table last l t)) (by (has dueAt table) (isDropped (recordAt table (due table now (s .delay))) (s .tries)))
+    step-last = simp (eq-eqb n 0 (passes table last l t)) (by (has dueAt table) (isSpent (recordAt table (due table now (s .delay)) .count) (s .tries)))
       where
         by : (a b : Bool) → cond a (cond b (did failed now (due table now (s .delay)) (namesOf (pduOf (recordAt table (due table now (s .delay))))) 0)
             (did sent now (due table now (s .delay)) (namesOf (pduOf (recordAt table (due table now (s .delay)))))
@@ -169,7 +169,7 @@ module _ (s : Settings) (now : ℕ) (room : recordLimit ≤ s .room) where
   once r = cond (dueAt r) 1 0
 
   once-weighs : 0 < s .delay → Weighs once
-  once-weighs h = record { light = λ r e. simp e; falls = λ r e. simp e (by r (isDropped r (s .tries))) }
+  once-weighs h = record { light = λ r e. simp e; falls = λ r e. simp e (by r (isSpent (r .count) (s .tries))) }
     where
       by : (r : Retained) (b : Bool) → cond {A = ℕ} (dueAt (cond b freedRecord (sentRecord now r))) 1 0 + 1 ≤ 1
       by r true = simp (free-not-due now (s .delay) freedRecord freed-free) (omega arith)
@@ -194,13 +194,13 @@ module _ (s : Settings) (now : ℕ) (room : recordLimit ≤ s .room) where
       by false = omega arith
 
   often-weighs : Weighs often
-  often-weighs = record { light = λ r e. simp e; falls = λ r e. simp e (by r (by-cases (isDropped r (s .tries)))) }
+  often-weighs = record { light = λ r e. simp e; falls = λ r e. simp e (by r (by-cases (isSpent (r .count) (s .tries)))) }
     where
       some : (b : Bool) (k m : ℕ) → k + 1 ≤ m → cond {A = ℕ} b (k + 1) 0 + 1 ≤ m + 1
       some true k m h = omega arith
       some false k m h = omega arith
 
-      by : (r : Retained) → (isDropped r (s .tries) ≡ true) ⊎ (isDropped r (s .tries) ≡ false) → often (stepped r now (s .tries)) + 1 ≤ s .tries - r .count + 1
+      by : (r : Retained) → (isSpent (r .count) (s .tries) ≡ true) ⊎ (isSpent (r .count) (s .tries) ≡ false) → often (stepped r now (s .tries)) + 1 ≤ s .tries - r .count + 1
       by r (inl e) = subst (λ (b : Bool). often (cond b freedRecord (sentRecord now r)) + 1 ≤ s .tries - r .count + 1) (sym e)
           (simp (free-not-due now (s .delay) freedRecord freed-free) (omega arith))
       by r (inr e) = subst (λ (b : Bool). often (cond b freedRecord (sentRecord now r)) + 1 ≤ s .tries - r .count + 1) (sym e)

@@ -88,13 +88,13 @@ due table now delay = first (isDue now delay) table
 abbrev pub dueRecord : List Retained → ℕ → ℕ → Retained
 dueRecord table now delay = recordAt table (due table now delay)
 
--- it is dropped where its count isn't below the setting, else sent again
-abbrev pub isDropped : Retained → ℕ → Bool
-isDropped record′ tries = not (ltb (record′ .count) tries)
+-- a count that isn't below the setting: its record is dropped, else sent again
+abbrev pub isSpent : ℕ → ℕ → Bool
+isSpent count tries = not (ltb count tries)
 
 -- a record to be sent that the output has no room for
 abbrev pub lacksRoom : Retained → ℕ → ℕ → Bool
-lacksRoom record′ tries room = not (isDropped record′ tries) && ltb room (record′ .length)
+lacksRoom record′ tries room = not (isSpent (record′ .count) tries) && ltb room (record′ .length)
 
 -- refusals, in order: 74, 73, 77
 unfoldable pub stepNumber : List Retained → ℕ → ℕ → ℕ → ℕ → ℕ → ℕ
@@ -106,7 +106,7 @@ stepNumber table last now delay tries room =
 -- what is said of the record at a place
 abbrev pub told : Retained → ℕ → ℕ → ℕ → Outcome
 told record′ place now tries =
-    cond (isDropped record′ tries) (did failed now place (namesOf (pduOf record′)) 0) (did sent now place (namesOf (pduOf record′)) (record′ .length))
+    cond (isSpent (record′ .count) tries) (did failed now place (namesOf (pduOf record′)) 0) (did sent now place (namesOf (pduOf record′)) (record′ .length))
 
 -- where none is due the time is accepted all the same
 unfoldable pub step : List Retained → ℕ → ℕ → ℕ → ℕ → ℕ → Outcome
@@ -117,7 +117,7 @@ step table last now delay tries room =
 
 -- the record that a step leaves at that place
 abbrev pub stepped : Retained → ℕ → ℕ → Retained
-stepped record′ now tries = cond (isDropped record′ tries) freedRecord (sentRecord now record′)
+stepped record′ now tries = cond (isSpent (record′ .count) tries) freedRecord (sentRecord now record′)
 
 unfoldable pub tableStepped : List Retained → ℕ → ℕ → ℕ → ℕ → ℕ → List Retained
 tableStepped table last now delay tries room =
