@@ -20,7 +20,7 @@ use Rattle.batch.specs.Walk.{isTooLong, isDone, nextCursor, stepOf, stepOutput,
 use Rattle.batch.proofs.Walking.{next, walk-none, walk-more}
 use Rattle.seasons.specs.declared.Choice.{Choice}
 use Rattle.seasons.specs.declared.Choice.the-variants.{First, Second, Neither}
-use Rattle.seasons.specs.Choosing.{Kind, EightLists, SeasonNode, inOrderOfKinds, eightFault, chosenOf, chosenSettings, chosenLists, chosenNode}
+use Rattle.seasons.specs.Choosing.{ListPair, EightLists, SeasonNode, inOrderOfKinds, eightFault, chosenOf, chosenSettings, chosenLists, chosenNode}
 use Rattle.seasons.specs.Hearing.{seasonAnswer, seasonOutput, faultStep, seasonStep, seasonStepOutput, faultWalk, seasonWalk}
 
 pub empty-right : faultOf [] ≡ 0
@@ -44,7 +44,7 @@ first-faulty (list ∷ lists) = go (eqb (faultOf list) 0) refl (first-faulty lis
 
 -- each of the eight is without fault where the first fault is 0
 module _ (lists : EightLists) where
-  abbrev Right : Kind → Type 0
+  abbrev Right : ListPair → Type 0
   Right kind = (faultOf (kind .first) ≡ 0) × (faultOf (kind .second) ≡ 0)
 
   pub record Rights : Type 0 where
@@ -66,7 +66,7 @@ module _ (lists : EightLists) where
       let (h, after-h) = orElse-zero _ _ after-g in
       record { source-pass = (a, b); source-reject = (c, d); destination-pass = (e, f); destination-reject = (g, h) }
 
-chosen-right : (choice : Choice) (kind : Kind) → (faultOf (kind .first) ≡ 0) × (faultOf (kind .second) ≡ 0) → faultOf (chosenOf choice kind) ≡ 0
+chosen-right : (choice : Choice) (kind : ListPair) → (faultOf (kind .first) ≡ 0) × (faultOf (kind .second) ≡ 0) → faultOf (chosenOf choice kind) ≡ 0
 chosen-right First kind right = right .0
 chosen-right Second kind right = right .1
 chosen-right Neither kind right = empty-right

@@ -10,21 +10,21 @@ use Rattle.seasons.specs.declared.Choice.the-variants.{First, Second, Ne
 use Rattle.seasons.specs.declared.SeasonSettings.{SeasonSettings}
 
 -- the two lists of one kind
-pub record Kind : Type 0 where
+pub record ListPair : Type 0 where
   pub first : List ℕ
   pub second : List ℕ
 
-abbrev pub two : List ℕ → List ℕ → Kind
+abbrev pub two : List ℕ → List ℕ → ListPair
 two first second = record { first = first; second = second }
 
 -- the eight lists of a node, kind by kind in the order of 01 ("One PDU at one node")
 pub record EightLists : Type 0 where
-  pub sourcePass : Kind
-  pub sourceReject : Kind
-  pub destinationPass : Kind
-  pub destinationReject : Kind
+  pub sourcePass : ListPair
+  pub sourceReject : ListPair
+  pub destinationPass : ListPair
+  pub destinationReject : ListPair
 
-abbrev pub eightOf : Kind → Kind → Kind → Kind → EightLists
+abbrev pub eightOf : ListPair → ListPair → ListPair → ListPair → EightLists
 eightOf a b c d = record { sourcePass = a; sourceReject = b; destinationPass = c; destinationReject = d }
 
 -- all eight, in the order in which they are checked: kind by kind, first before second
@@ -46,7 +46,7 @@ isChosen First = true
 isChosen Second = true
 isChosen Neither = false
 
-abbrev pub chosenOf : Choice → Kind → List ℕ
+abbrev pub chosenOf : Choice → ListPair → List ℕ
 chosenOf First lists = lists .first
 chosenOf Second lists = lists .second
 chosenOf Neither lists = []
