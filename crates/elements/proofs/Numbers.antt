@@ -7,7 +7,8 @@ use lib.ListN.{length}
 use borrow.Author.Tests.{lt-ltb, le-ltb}
 use Rattle.octets.specs.Octets.{at, wordAt}
 use Rattle.elements.specs.declared.Head.{Head}
-use Rattle.elements.specs.Elements.{numberAt, numberSize, typeAt, lengthAt, valuePlace, elementEnd, headOf, headAt}
+use Rattle.elements.specs.Elements.{numberAt, numberSize, typeAt, lengthAt, valuePlace, elementEnd}
+use Rattle.elements.specs.Finding.{headOf, headAt}
 
 module _ (bytes : List ℕ) (place first : ℕ) (is : first ≡ at bytes place) where
   pub size-short : first < 128 → 1 ≡ numberSize bytes place

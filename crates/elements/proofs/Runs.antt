@@ -16,8 +16,8 @@ use Rattle.elements.specs.declared.Only.the-variants.{Once, Not}
 use Rattle.elements.specs.declared.Pair.{Pair}
 use Rattle.elements.specs.declared.Met.{Met}
 use Rattle.elements.specs.declared.Met.the-variants.{Never, Again}
-use Rattle.elements.specs.Elements.{numberSize, typeAt, valuePlace, elementEnd, beginnings, elementsIn, isRun, firstOf, elementFault, runFault}
-use Rattle.elements.specs.Finding.{ofType, onlyOne, pairFrom, metMore, metOnce}
+use Rattle.elements.specs.Elements.{numberSize, typeAt, valuePlace, elementEnd, beginnings, elementsIn, isRun, ofType, firstOf, elementFault, runFault}
+use Rattle.elements.specs.Finding.{onlyOne, pairFrom, metMore, metOnce}
 
 pub size-least : (bytes : List ℕ) (place : ℕ) → 1 ≤ numberSize bytes place
 unfolding numberSize

@@ -1,12 +1,11 @@
 -- Document 02, W-202, and document 003 for the binary elements: type, length and value, runs of elements, and the first fault in a run.
-use Prim.Native.Nat.{ℕ, zero, suc, _+_, _-_, _%_, min}
+use Prim.Native.Nat.{ℕ, zero, suc, _+_, _-_, _%_}
 use mathlib.Core.Bool.{Bool, cond, _||_}
 use mathlib.Core.List.{List, [], _∷_}
 use lib.Dec.{eqb, ltb}
-use lib.ListN.{length, take, drop}
+use lib.ListN.{take, drop}
 use Rattle.octets.specs.Numbers.{_gives_, _orElse_}
 use Rattle.octets.specs.Octets.{at, wordAt}
-use Rattle.elements.specs.declared.Head.{Head}
 
 -- a type or a length: the byte itself where it is below 128, else 15 bits of it and the next; a byte past the end counts as 0, so that one that is cut
 -- still has a size and ends past the end
@@ -35,14 +34,6 @@ elementEnd bytes place = valuePlace bytes place + lengthAt bytes place
 abbrev pub valueAt : List ℕ → ℕ → List ℕ
 valueAt bytes place = take (lengthAt bytes place) (drop (valuePlace bytes place) bytes)
 
--- what a reader is shown of it
-abbrev pub headOf : List ℕ → ℕ → Head
-headOf bytes place = record { «type_number» = typeAt bytes place; «value_place» = valuePlace bytes place; end = elementEnd bytes place }
-
--- a place past the end counts as the end
-unfoldable pub headAt : List ℕ → ℕ → Head
-headAt bytes place = headOf bytes (min place (length bytes))
-
 -- the types whose value is a run of elements
 abbrev pub isRun : ℕ → Bool
 isRun type = eqb type 10 || eqb type 11 || eqb type 20
@@ -58,6 +49,11 @@ beginnings bytes end (suc n) place = cond (ltb place end) (place ∷ beginnings 
 
 unfoldable pub elementsIn : List ℕ → ℕ → ℕ → List ℕ
 elementsIn bytes place end = beginnings bytes end (end - place) place
+
+-- of elements, those of a type
+unfoldable pub ofType : ℕ → List ℕ → List ℕ → List ℕ
+ofType type bytes [] = []
+ofType type bytes (place ∷ places) = cond (eqb (typeAt bytes place) type) (place ∷ ofType type bytes places) (ofType type bytes places)
 
 -- the first number, in the order in which the elements begin
 unfoldable pub firstOf : (ℕ → ℕ) → List ℕ → ℕ

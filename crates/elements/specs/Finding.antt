@@ -1,20 +1,23 @@
--- Document 02, W-202, "each exactly once": the only element of a type in a run.
-use Prim.Native.Nat.{ℕ}
+-- Only for the functions of this crate that reading an exchange is put together from: an element's head, and the only one of a type.
+use Prim.Native.Nat.{ℕ, min}
 use mathlib.Core.Bool.{Bool, cond}
 use mathlib.Core.List.{List, [], _∷_}
-use lib.Dec.{eqb}
 use lib.ListN.{length}
+use Rattle.elements.specs.declared.Head.{Head}
 use Rattle.elements.specs.declared.Only.{Only}
 use Rattle.elements.specs.declared.Only.the-variants.{Once, Not}
 use Rattle.elements.specs.declared.Met.{Met}
 use Rattle.elements.specs.declared.Met.the-variants.{Never, Single, Again}
 use Rattle.elements.specs.declared.Pair.{Pair}
-use Rattle.elements.specs.Elements.{typeAt, elementsIn}
+use Rattle.elements.specs.Elements.{typeAt, valuePlace, elementEnd, elementsIn, ofType}
 
--- of elements, those of a type
-unfoldable pub ofType : ℕ → List ℕ → List ℕ → List ℕ
-ofType type bytes [] = []
-ofType type bytes (place ∷ places) = cond (eqb (typeAt bytes place) type) (place ∷ ofType type bytes places) (ofType type bytes places)
+-- what a reader is shown of the element that begins at a place
+abbrev pub headOf : List ℕ → ℕ → Head
+headOf bytes place = record { «type_number» = typeAt bytes place; «value_place» = valuePlace bytes place; end = elementEnd bytes place }
+
+-- a place past the end counts as the end
+unfoldable pub headAt : List ℕ → ℕ → Head
+headAt bytes place = headOf bytes (min place (length bytes))
 
 -- the place of one that is there exactly once
 abbrev pub onlyOne : List ℕ → Only

@@ -2,8 +2,8 @@
 ghost use mathlib.Core.Path.{_≡_};
 ghost use Prim.Native.Nat.{_+_, _<_, _≤_};
 ghost use lib.ListN.{length};
-ghost use Rattle.elements.specs.Elements.{numberAt, numberSize, typeAt, valuePlace, elementEnd, headAt, isRun, elementFault, levelLimit, runFault};
-ghost use Rattle.elements.specs.Finding.{metMore, metOnce, pairFrom};
+ghost use Rattle.elements.specs.Elements.{numberAt, numberSize, typeAt, valuePlace, elementEnd, isRun, elementFault, levelLimit, runFault};
+ghost use Rattle.elements.specs.Finding.{headAt, metMore, metOnce, pairFrom};
 
 // The first bytes of an element: its type, where its value begins, and where it ends.
 pub struct Head {

@@ -6,8 +6,7 @@ use mathlib.Core.List.{List, [], _∷_, _++_, append-assoc, append-nil}
 use mathlib.Core.Path.{_≡_, refl, ap, sym, _∙_}
 use lib.ListN.{length, length-append}
 use borrow.Author.Tests.{eq-eqb, ne-eqb}
-use Rattle.elements.specs.Elements.{typeAt, valuePlace, elementEnd, elementsIn, isRun, elementFault, runFault}
-use Rattle.elements.specs.Finding.{ofType}
+use Rattle.elements.specs.Elements.{typeAt, valuePlace, elementEnd, elementsIn, isRun, ofType, elementFault, runFault}
 use Rattle.exchange.specs.Encoding.{numberBytes, element}
 use Rattle.elements.proofs.Runs.{elements-none, elements-step, run-none, run-next, element-plain, element-run, end-after}
 use Rattle.exchange.proofs.Written.{length-element}

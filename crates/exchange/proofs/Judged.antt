@@ -10,8 +10,8 @@ use Rattle.octets.specs.Octets.{at}
 use Rattle.octets.proofs.Numbering.{orElse-first, orElse-later, gives-here, gives-later}
 use Rattle.elements.specs.declared.Only.the-variants.{Once, Not}
 use Rattle.elements.specs.declared.Head.{Head}
-use Rattle.elements.specs.Elements.{typeAt, lengthAt, valuePlace, elementEnd, valueAt, headAt, elementsIn, runFault}
-use Rattle.elements.specs.Finding.{ofType, onlyOne}
+use Rattle.elements.specs.Elements.{typeAt, lengthAt, valuePlace, elementEnd, valueAt, elementsIn, ofType, runFault}
+use Rattle.elements.specs.Finding.{headAt, onlyOne}
 use Rattle.elements.proofs.Numbers.{head-type, head-value, head-end, head-length}
 use Rattle.elements.proofs.Runs.{found-below, once-is, once-not}
 use Rattle.exchange.specs.declared.Exchange.{Exchange}

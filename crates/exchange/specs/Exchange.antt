@@ -7,8 +7,7 @@ use lib.ListN.{length}
 use Rattle.octets.specs.Numbers.{_gives_, _orElse_}
 use Rattle.octets.specs.Octets.{at}
 use Rattle.joined.specs.Joined.{joinedNumber}
-use Rattle.elements.specs.Elements.{typeAt, lengthAt, valuePlace, elementEnd, valueAt, elementsIn, levelLimit, runFault}
-use Rattle.elements.specs.Finding.{ofType}
+use Rattle.elements.specs.Elements.{typeAt, lengthAt, valuePlace, elementEnd, valueAt, elementsIn, ofType, levelLimit, runFault}
 use Rattle.exchange.specs.declared.Exchange.{Exchange}
 
 -- the types of the three elements: an exchange, and in it the header and the payload of a PDU

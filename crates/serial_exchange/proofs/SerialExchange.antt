@@ -5,8 +5,7 @@ use lib.ListN.{length}
 use Rattle.octets.specs.Numbers.{_gives_, _orElse_}
 use Rattle.pdu.specs.Header.{headerOf}
 use Rattle.pdu.specs.Reading.{readOf}
-use Rattle.elements.specs.Elements.{numberAt, numberSize, valuePlace, elementEnd, beginnings, elementsIn, firstOf, elementFault, runFault}
-use Rattle.elements.specs.Finding.{ofType}
+use Rattle.elements.specs.Elements.{numberAt, numberSize, valuePlace, elementEnd, beginnings, elementsIn, ofType, firstOf, elementFault, runFault}
 use Rattle.elements.proofs.Order.{run-own, run-in-order}
 use Rattle.joined.specs.Joined.{joinedNumber}
 use Rattle.exchange.specs.Exchange.{held, isExchange, exchangeNumber, exchangeAnswer, exchangeOf}
