@@ -22,7 +22,7 @@ use Rattle.pdu.specs.Header.{headerOf}
 use Rattle.pdu.specs.Sizes.{pduLength}
 use Rattle.answering.specs.declared.Sending.{Sending}
 use Rattle.answering.specs.Delivered.{isAcknowledgement, isAnswered, ackHeader, answered, acknowledgeNumber, acknowledge, tableAcknowledged}
-use Rattle.ending.specs.History.{Fate, NotYet, Waiting, Lost, Arrived, isWaiting, Settings, Operation, Retains, Hears, Steps, Life}
+use Rattle.ending.specs.History.{Fate, NotYet, Waiting, Lost, Arrived, isWaiting, Settings, Operation, RetainAt, HearPdu, StepAt, Life}
 use Rattle.ending.specs.History.{World, watch, next, history, start, unborn}
 use Rattle.ending.specs.Ending.{FreeTable, Ended, Statement}
 use Rattle.ending.proofs.First.{by-cases, has-hit, has-none, has-at, has-nowhere}
@@ -98,14 +98,14 @@ module _ (s : Settings) (names : Names) (table : List Retained) (last : ℕ) (li
           (retained-named now bytes (p .fit) names ∙ e) (g .status);
     }
 
-  good-retains : (now : ℕ) (bytes : List ℕ) → Good s names (next s names (Retains now bytes) (world table last life))
+  good-retains : (now : ℕ) (bytes : List ℕ) → Good s names (next s names (RetainAt now bytes) (world table last life))
   unfolding next watch retain tableRetained
   good-retains now bytes = by (eqb (retainNumber table last now bytes) 0) refl
     where
       by : (b : Bool) → eqb (retainNumber table last now bytes) 0 ≡ b
           → Good s names (world (cond b (set table (first isFree table) (retainedRecord now bytes)) table)
           (cond b (did kept now (first isFree table) (namesOf bytes) 0) (answers (retainNumber table last now bytes) last) .last)
-          (watch (s .delay) names (Retains now bytes) (cond b (did kept now (first isFree table) (namesOf bytes) 0)
+          (watch (s .delay) names (RetainAt now bytes) (cond b (did kept now (first isFree table) (namesOf bytes) 0)
           (answers (retainNumber table last now bytes) last)) life))
       by true e = born now bytes (retain-passes table last now bytes (eqb-true _ 0 e)) (sameNames (namesOf bytes) names) refl
       by false e = g
@@ -163,13 +163,13 @@ module _ (s : Settings) (names : Names) (table : List Retained) (last : ℕ) (li
         bits true false a m e f = never (sym e)
         bits false y a m e f = never (sym e)
 
-    good-hears : Good s names (next s names (Hears delivery sending room received) (world table last life))
+    good-hears : Good s names (next s names (HearPdu delivery sending room received) (world table last life))
     unfolding next watch acknowledge tableAcknowledged
     good-hears = by (eqb number 0) asked matched refl refl
       where
         by : (b d c : Bool) → asked ≡ d → matched ≡ c
             → Good s names (world (cond (b && c) (set table (first (isNamed nm) table) freedRecord) table) (hearing b d c .last)
-            (watch (s .delay) names (Hears delivery sending room received) (hearing b d c) life))
+            (watch (s .delay) names (HearPdu delivery sending room received) (hearing b d c) life))
         by true true true e f = absurd (apart e f)
         by true true false e f = g
         by true false true e f = frees nm (both (isAcknowledgement delivery (headerOf received)) _ f .1) (sameNames nm names) refl
@@ -275,13 +275,13 @@ module _ (s : Settings) (names : Names) (table : List Retained) (last : ℕ) (li
     }
     counts later none false e = record { sixteen = g .sixteen; bound = g .bound; exact = g .exact; status = quiet names table last now life later (g .status) }
 
-    good-steps : Good s names (next s names (Steps now) (world table last life))
+    good-steps : Good s names (next s names (StepAt now) (world table last life))
     unfolding next watch step tableStepped
     good-steps = by (eqb n 0) (has (isDue now (s .delay)) table) (isSpent (e₀ .count) (s .tries)) refl refl refl
       where
         by : (b c q : Bool) → eqb n 0 ≡ b → has (isDue now (s .delay)) table ≡ c → isSpent (e₀ .count) (s .tries) ≡ q
             → Good s names (world (cond (b && c) (set table (due table now (s .delay)) (cond q freedRecord (sentRecord now e₀))) table)
-            (stepping b c q .last) (watch (s .delay) names (Steps now) (stepping b c q) life))
+            (stepping b c q .last) (watch (s .delay) names (StepAt now) (stepping b c q) life))
         by true true true x y z = is-dropped now (in-time (eqb-true n 0 x)) y (ltb-false (e₀ .count) (s .tries) (not-true _ z))
             (sameNames (namesOf (pduOf e₀)) names) refl
         by true true false x y z = goes-again now (in-time (eqb-true n 0 x)) y (ltb-true (e₀ .count) (s .tries) (not-false _ z))
@@ -290,9 +290,9 @@ module _ (s : Settings) (names : Names) (table : List Retained) (last : ℕ) (li
         by false c q x y z = simp x g
 
 good-next : (s : Settings) (names : Names) (op : Operation) (w : World) → Good s names w → Good s names (next s names op w)
-good-next s names (Retains now bytes) w g = good-retains s names (w .table) (w .last) (w .life) g now bytes
-good-next s names (Hears delivery sending room received) w g = good-hears s names (w .table) (w .last) (w .life) g delivery sending room received
-good-next s names (Steps now) w g = good-steps s names (w .table) (w .last) (w .life) g now
+good-next s names (RetainAt now bytes) w g = good-retains s names (w .table) (w .last) (w .life) g now bytes
+good-next s names (HearPdu delivery sending room received) w g = good-hears s names (w .table) (w .last) (w .life) g delivery sending room received
+good-next s names (StepAt now) w g = good-steps s names (w .table) (w .last) (w .life) g now
 
 good-history : (s : Settings) (names : Names) (ops : List Operation) (w : World) → Good s names w → Good s names (history s names ops w)
 unfolding history

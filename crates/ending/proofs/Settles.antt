@@ -17,7 +17,7 @@ use Rattle.retained.specs.declared.Outcome.{Outcome}
 use Rattle.retained.specs.Records.{recordLimit, isUsed, isDue, pduOf, namesOf, sentRecord, freedRecord}
 use Rattle.retained.specs.Table.{tableSize, tableFault, timeFault, first, has, recordAt, due, isSpent, stepped, answers, did, sent, failed}
 use Rattle.retained.specs.Table.{stepNumber, step, tableStepped}
-use Rattle.ending.specs.History.{Settings, Operation, Steps, World, answer, noneDue, watch, next, history}
+use Rattle.ending.specs.History.{Settings, Operation, StepAt, World, answer, noneDue, watch, next, history}
 use Rattle.ending.specs.Ending.{enough, steps, Settling}
 use Rattle.ending.proofs.First.{by-cases, has-hit, has-none, has-nowhere}
 use Rattle.ending.proofs.Facts.{freed-free, due-used}
@@ -138,7 +138,7 @@ module _ (s : Settings) (now : ℕ) (room : recordLimit ≤ s .room) where
         by : (has dueAt (w .table) ≡ true) ⊎ (has dueAt (w .table) ≡ false) → has dueAt (w .table) ≡ false
         by (inr e) = e
         by (inl e) = absurd (omega (arith, lighter (w .table) e))
-    rests (suc k) w l t h = by (by-cases (has dueAt (w .table))) (rests k (next s names (Steps now) w))
+    rests (suc k) w l t h = by (by-cases (has dueAt (w .table))) (rests k (next s names (StepAt now) w))
       where
         after : List Retained
         after = tableStepped (w .table) (w .last) now (s .delay) (s .tries) (s .room)
@@ -148,8 +148,8 @@ module _ (s : Settings) (now : ℕ) (room : recordLimit ≤ s .room) where
 
         by : (has dueAt (w .table) ≡ true) ⊎ (has dueAt (w .table) ≡ false)
             → (length after ≡ tableSize → step (w .table) (w .last) now (s .delay) (s .tries) (s .room) .last ≤ now → total weight after ≤ k
-            → Rests (history s names (steps now k) (next s names (Steps now) w)))
-            → Rests (history s names (steps now k) (next s names (Steps now) w))
+            → Rests (history s names (steps now k) (next s names (StepAt now) w)))
+            → Rests (history s names (steps now k) (next s names (StepAt now) w))
         by (inl e) go =
             let q = step-due (w .table) (w .last) l t e in
             go (ap length q ∙ length-set (w .table) _ _ ∙ l) ends (subst (λ (x : List Retained). total weight x ≤ k) (sym q)

@@ -19,20 +19,20 @@ pub record Settings : Type 0 where
 
 -- what is asked of the table: at a time, to retain a PDU; of a PDU heard, with the node's delivery number, to free a record or to answer; at a time, to step
 pub data Operation : Type 0 where
-  Retains : (now : ℕ) (bytes : List ℕ) → Operation
-  Hears : (delivery : ℕ) (sending : Sending) (room : ℕ) (received : List ℕ) → Operation
-  Steps : (now : ℕ) → Operation
+  RetainAt : (now : ℕ) (bytes : List ℕ) → Operation
+  HearPdu : (delivery : ℕ) (sending : Sending) (room : ℕ) (received : List ℕ) → Operation
+  StepAt : (now : ℕ) → Operation
 
 -- what it answers, and the table after it
 abbrev pub answer : Settings → List Retained → ℕ → Operation → Outcome
-answer s table last (Retains now bytes) = retain table last now bytes
-answer s table last (Hears delivery sending room received) = acknowledge table last delivery sending room received
-answer s table last (Steps now) = step table last now (s .delay) (s .tries) (s .room)
+answer s table last (RetainAt now bytes) = retain table last now bytes
+answer s table last (HearPdu delivery sending room received) = acknowledge table last delivery sending room received
+answer s table last (StepAt now) = step table last now (s .delay) (s .tries) (s .room)
 
 abbrev pub tableAfter : Settings → List Retained → ℕ → Operation → List Retained
-tableAfter s table last (Retains now bytes) = tableRetained table last now bytes
-tableAfter s table last (Hears delivery sending room received) = tableAcknowledged table delivery sending room received
-tableAfter s table last (Steps now) = tableStepped table last now (s .delay) (s .tries) (s .room)
+tableAfter s table last (RetainAt now bytes) = tableRetained table last now bytes
+tableAfter s table last (HearPdu delivery sending room received) = tableAcknowledged table delivery sending room received
+tableAfter s table last (StepAt now) = tableStepped table last now (s .delay) (s .tries) (s .room)
 
 -- how it stands with a PDU: never retained; retained, and neither freed nor reported failed since; reported failed; freed by its acknowledgement
 pub data Fate : Type 0 where
@@ -66,11 +66,11 @@ abbrev pub noneDue : Outcome → Bool
 noneDue outcome = eqb (outcome .number) 0 && eqb (outcome .deed) nothing
 
 unfoldable pub watch : ℕ → Names → Operation → Outcome → Life → Life
-watch delay names (Retains now bytes) outcome life =
+watch delay names (RetainAt now bytes) outcome life =
     cond (says kept names outcome) (record { fate = Waiting; sent = 0; moments = 0; mark = now }) life
-watch delay names (Hears delivery sending room received) outcome life =
+watch delay names (HearPdu delivery sending room received) outcome life =
     cond (says freed names outcome) (record { fate = Arrived; sent = life .sent; moments = life .moments; mark = life .mark }) life
-watch delay names (Steps now) outcome life =
+watch delay names (StepAt now) outcome life =
     cond (says sent names outcome) (record { fate = life .fate; sent = life .sent + 1; moments = life .moments; mark = life .mark })
     (cond (says failed names outcome) (record { fate = Lost; sent = life .sent; moments = life .moments; mark = life .mark })
     (cond (noneDue outcome && leb (life .mark + delay) now) (record { fate = life .fate; sent = life .sent; moments = life .moments + 1; mark = now })

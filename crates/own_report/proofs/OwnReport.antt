@@ -33,7 +33,7 @@ use Rattle.flood.proofs.Examples.{begun}
 use Rattle.flood.proofs.Examples as examples
 use Rattle.flood.proofs.Others as others-law
 use Rattle.flood.proofs.Sent.{originator-silent}
-use Rattle.own_report.specs.OwnReport.{OwnReport, report, two}
+use Rattle.own_report.specs.OwnReport.{OwnReport, report, network}
 
 neither : (echo rest : Bool) → echo ≡ false → (echo && rest) ≡ false
 neither echo rest off = rw off
@@ -139,9 +139,9 @@ report-is : begun true 2 ≡ report
 unfolding fresh freshHeader encode headerBytes pathBytes
 report-is = refl
 
-never-three : (receptions : List Reception) → List·Nodup receptions → length (onTheAir (two true) report receptions) ≤ 2
+never-three : (receptions : List Reception) → List·Nodup receptions → length (onTheAir (network true) report receptions) ≤ 2
 never-three receptions once =
-    subst (λ (first : List ℕ). length (onTheAir (two true) first receptions) ≤ 2) report-is (examples.never-three receptions once)
+    subst (λ (first : List ℕ). length (onTheAir (network true) first receptions) ≤ 2) report-is (examples.never-three receptions once)
 
 pub own-report : OwnReport
 unfolding bound series product terms others flood answer sends repeated repeatNumber deliveryNumber stopFault listOrReadingFault firstFault faultOf

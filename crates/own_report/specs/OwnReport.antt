@@ -55,8 +55,8 @@ abbrev pub report : List ℕ
 report = 0x02 ∷ 0x00 ∷ 0x20 ∷ 0x01 ∷ 0x03 ∷ 0xE8 ∷ 0x00 ∷ 0x70 ∷ []
 
 -- its originator, echo on or off, and one other node
-abbrev pub two : Bool → List Repeater
-two echo = record { node = nodeAt 1000 echo false; room = 100 } ∷ record { node = nodeAt 1 true false; room = 100 } ∷ []
+abbrev pub network : Bool → List Repeater
+network echo = record { node = nodeAt 1000 echo false; room = 100 } ∷ record { node = nodeAt 1 true false; room = 100 } ∷ []
 
 -- the other node hears the report, then the originator hears the repeat
 abbrev pub heardBack : List Reception
@@ -100,10 +100,10 @@ pub record OwnReport : Type 0 where
   -- IV. WORKED CASES
   -- an originator that hears, and one other node, at hop limit 2: the bound is 2, 2 are sent where the originator hears the repeat, and never 3; with
   -- echo off at the originator 3 are
-  pub two-bound : bound (length (others address (sourceOf report) (two true))) 2 ≡ 2
-  pub two-sent : length (onTheAir (two true) report heardBack) ≡ 2
-  pub never-three : (receptions : List Reception) → List·Nodup receptions → length (onTheAir (two true) report receptions) ≤ 2
-  pub three-with-echo-off : length (onTheAir (two false) report heardBack) ≡ 3
+  pub two-bound : bound (length (others address (sourceOf report) (network true))) 2 ≡ 2
+  pub two-sent : length (onTheAir (network true) report heardBack) ≡ 2
+  pub never-three : (receptions : List Reception) → List·Nodup receptions → length (onTheAir (network true) report receptions) ≤ 2
+  pub three-with-echo-off : length (onTheAir (network false) report heardBack) ≡ 3
   -- at node 2000, without the path bit and with it; with its own address in the path too; before the lists, and with echo off not; cut to 5 bytes
   pub without-path : answerOf (nodeAt 2000 true false) 100 ownReport ≡ twice 42 6 Unknown
   pub with-path : answerOf (nodeAt 2000 true false) 100 (ownReportBy 0 5) ≡ twice 42 9 (Known 5)

@@ -37,7 +37,7 @@ use Rattle.answering.specs.declared.Sending.{Sending}
 use Rattle.answering.specs.Delivered.{isAnswered, isAcknowledgement, ackHeader, acknowledgement}
 use Rattle.answering.specs.Delivered.{acknowledgeNumber, acknowledge, tableAcknowledged, outputAcknowledged}
 use Rattle.ending.specs.First.{FirstAt, Nowhere}
-use Rattle.ending.specs.History.{Retains, Hears, Steps, Waiting, Lost, Arrived, watch, next, history, start}
+use Rattle.ending.specs.History.{RetainAt, HearPdu, StepAt, Waiting, Lost, Arrived, watch, next, history, start}
 use Rattle.ending.proofs.Facts.{names-eq, named-is, named-used, freed-free, is-due, retained-pdu}
 use Rattle.ending.proofs.Lowest.{first-or-none}
 use Rattle.ending.proofs.Retaining.{retain-74, retain-73, retain-75, retain-72, retain-71, retain-70, retain-kept, is-fit}
@@ -51,7 +51,7 @@ use Rattle.flood.specs.Air.{Begins, sourceOf, hopOf}
 use Rattle.flood.proofs.Fresh.{originated-begins}
 use Rattle.flood.proofs.Demand.{begun-bounded}
 use Rattle.checked_by_hand.specs.Examples.{nodeAt}
-use Rattle.reliable_messages.specs.ReliableMessages.{Answers, SamePdu, commandOf, command, withPath, of256, of257, reply, sendingMost, commandNames}
+use Rattle.reliable_messages.specs.ReliableMessages.{Handles, SamePdu, commandOf, command, withPath, of256, of257, reply, sendingMost, commandNames}
 use Rattle.reliable_messages.specs.ReliableMessages.{sendingOf, empty, full, twoTries, ReliableMessages}
 
 used-is : (r : Retained) → isUsed r ≡ true → (r .length ≤ 256) × (unfit (pduOf r) ≡ 0)
@@ -212,7 +212,7 @@ module _ (near far : Node) (table : List Retained) (last now : ℕ) (bytes : Lis
     is-ack = are-asked (deliveryNumber near nearRoom back) (headerOf back) _ arrived
         (kept .1 ∙ ap (λ (h : Header). h .protocol) heard-shows) (kept .2 ∙ ap (λ (h : Header). h .ack) heard-shows)
 
-    exchanged-there : Answers waiting now (deliveryNumber near nearRoom back) own back second (did freed now place (namesOf bytes) 0)
+    exchanged-there : Handles waiting now (deliveryNumber near nearRoom back) own back second (did freed now place (namesOf bytes) 0)
         (set waiting place freedRecord) second
     exchanged-there =
         let a = acknowledged waiting now (deliveryNumber near nearRoom back) own back second
@@ -272,19 +272,19 @@ module _ where
   delivered-at = (refl, refl, refl)
 
   lost-there : history twoTries commandNames
-      (Retains 10 command ∷ Steps 14 ∷ Steps 15 ∷ Steps 15 ∷ Steps 20 ∷ Steps 20 ∷ Steps 25 ∷ Steps 25 ∷ []) (start empty 0) .life
+      (RetainAt 10 command ∷ StepAt 14 ∷ StepAt 15 ∷ StepAt 15 ∷ StepAt 20 ∷ StepAt 20 ∷ StepAt 25 ∷ StepAt 25 ∷ []) (start empty 0) .life
       ≡ record { fate = Lost; sent = 2; moments = 3; mark = 25 }
   unfolding history next watch retain retainNumber tableRetained step stepNumber tableStepped first unfit isRetainable exactlyOne isUsed namesOf isNamed
       isDue readOf headerOf placed _gives_ _orElse_
   lost-there = refl
 
-  waiting-there : history twoTries commandNames (Retains 10 command ∷ Steps 14 ∷ Steps 15 ∷ Steps 15 ∷ Steps 20 ∷ Steps 20 ∷ []) (start empty 0) .life
+  waiting-there : history twoTries commandNames (RetainAt 10 command ∷ StepAt 14 ∷ StepAt 15 ∷ StepAt 15 ∷ StepAt 20 ∷ StepAt 20 ∷ []) (start empty 0) .life
       ≡ record { fate = Waiting; sent = 2; moments = 2; mark = 20 }
   unfolding history next watch retain retainNumber tableRetained step stepNumber tableStepped first unfit isRetainable exactlyOne isUsed namesOf isNamed
       isDue readOf headerOf placed _gives_ _orElse_
   waiting-there = refl
 
-  arrived-there : history twoTries commandNames (Retains 10 command ∷ Steps 15 ∷ Hears 0 sendingMost 0 reply ∷ Steps 20 ∷ []) (start empty 0) .life
+  arrived-there : history twoTries commandNames (RetainAt 10 command ∷ StepAt 15 ∷ HearPdu 0 sendingMost 0 reply ∷ StepAt 20 ∷ []) (start empty 0) .life
       ≡ record { fate = Arrived; sent = 1; moments = 1; mark = 20 }
   unfolding history next watch retain retainNumber tableRetained step stepNumber tableStepped acknowledge acknowledgeNumber tableAcknowledged first unfit
       isRetainable exactlyOne isUsed namesOf isNamed isDue readOf headerOf placed _gives_ _orElse_

@@ -27,7 +27,7 @@ use Rattle.answering.specs.declared.Sending.{Sending}
 use Rattle.answering.specs.Delivered.{isAnswered, isAcknowledgement, ackHeader, acknowledgement, answered}
 use Rattle.answering.specs.Delivered.{acknowledge, tableAcknowledged, outputAcknowledged}
 use Rattle.ending.specs.First.{FirstAt, Nowhere}
-use Rattle.ending.specs.History.{Settings, Retains, Hears, Steps, Waiting, Lost, Arrived, history, start}
+use Rattle.ending.specs.History.{Settings, RetainAt, HearPdu, StepAt, Waiting, Lost, Arrived, history, start}
 use Rattle.ending.specs.Ending.{Statement, enough, Settling}
 use Rattle.flood.specs.Flood.{Reception, others, Bounded}
 use Rattle.flood.specs.Air.{Repeater, Nodes, Begins, Originated, address, sourceOf, pathOf, hopOf, onTheAir}
@@ -42,8 +42,8 @@ Tries table last now delay tries output outcome after left =
     (step table last now delay tries (length output) ≡ outcome) × (tableStepped table last now delay tries (length output) ≡ after)
     × (outputStepped table last now delay tries output ≡ left)
 
-abbrev pub Answers : List Retained → ℕ → ℕ → Sending → List ℕ → List ℕ → Outcome → List Retained → List ℕ → Type 0
-Answers table last delivery sending received output outcome after left =
+abbrev pub Handles : List Retained → ℕ → ℕ → Sending → List ℕ → List ℕ → Outcome → List Retained → List ℕ → Type 0
+Handles table last delivery sending received output outcome after left =
     (acknowledge table last delivery sending (length output) received ≡ outcome)
     × (tableAcknowledged table delivery sending (length output) received ≡ after)
     × (outputAcknowledged table delivery sending received output ≡ left)
@@ -111,7 +111,7 @@ pub record ReliableMessages : Type 0 where
       → (back : List ℕ) (nearRoom : ℕ) → SamePdu back (outputAcknowledged theirs (deliveryNumber far farRoom copy) sending copy output)
       → deliveryNumber near nearRoom back ≡ 0 → (own : Sending) (second : List ℕ)
       → let waiting = tableRetained table last now bytes in
-      Answers waiting now (deliveryNumber near nearRoom back) own back second (did freed now place (namesOf bytes) 0) (set waiting place freedRecord) second
+      Handles waiting now (deliveryNumber near nearRoom back) own back second (did freed now place (namesOf bytes) 0) (set waiting place freedRecord) second
   -- a PDU is the same PDU where a node repeats it
   pub same-repeated : (node : Node) (room : ℕ) (received rest : List ℕ) → AllBytes received → repeatNumber node room received ≡ 0
       → SamePdu (repeated (node .settings .own) received ++ rest) received
@@ -206,21 +206,21 @@ pub record ReliableMessages : Type 0 where
       → isAnswered delivery (headerOf received) ≡ true
   pub hear-10 : (table : List Retained) (last delivery : ℕ) (sending : Sending) (received output : List ℕ)
       → isAnswered delivery (headerOf received) ≡ true → 7 < sending .«hop_limit»
-      → Answers table last delivery sending received output (answers 10 last) table output
+      → Handles table last delivery sending received output (answers 10 last) table output
   pub hear-11 : (table : List Retained) (last delivery : ℕ) (sending : Sending) (received output : List ℕ)
       → isAnswered delivery (headerOf received) ≡ true → sending .«hop_limit» ≤ 7 → 15 < sending .port
-      → Answers table last delivery sending received output (answers 11 last) table output
+      → Handles table last delivery sending received output (answers 11 last) table output
   pub hear-74 : (table : List Retained) (last delivery : ℕ) (sending : Sending) (received output : List ℕ)
       → isAnswered delivery (headerOf received) ≡ true → sending .«hop_limit» ≤ 7 → sending .port ≤ 15 → (length table ≡ 16 → ⊥)
-      → Answers table last delivery sending received output (answers 74 last) table output
+      → Handles table last delivery sending received output (answers 74 last) table output
   pub hear-77 : (table : List Retained) (last delivery : ℕ) (sending : Sending) (received output : List ℕ)
       → isAnswered delivery (headerOf received) ≡ true → sending .«hop_limit» ≤ 7 → sending .port ≤ 15 → length table ≡ 16
       → length output < pduLength (ackHeader sending (namesOf received))
-      → Answers table last delivery sending received output (answers 77 last) table output
+      → Handles table last delivery sending received output (answers 77 last) table output
   pub acknowledges : (table : List Retained) (last delivery : ℕ) (sending : Sending) (received output : List ℕ)
       → isAnswered delivery (headerOf received) ≡ true → sending .«hop_limit» ≤ 7 → sending .port ≤ 15 → length table ≡ 16
       → pduLength (ackHeader sending (namesOf received)) ≤ length output
-      → Answers table last delivery sending received output (did answered last 0 (namesOf received) (pduLength (ackHeader sending (namesOf received)))) table
+      → Handles table last delivery sending received output (did answered last 0 (namesOf received) (pduLength (ackHeader sending (namesOf received)))) table
       (over (acknowledgement sending (namesOf received)) output)
   -- not answered: only 74; an acknowledgement frees the first record with its ID and its addresses exchanged, or is ignored, and so is any other PDU
   pub frees-it : (delivery : ℕ) (received : List ℕ) → isAcknowledgement delivery (headerOf received) ≡ true
@@ -229,16 +229,16 @@ pub record ReliableMessages : Type 0 where
       → isAcknowledgement delivery (headerOf received) ≡ true
   pub other-74 : (table : List Retained) (last delivery : ℕ) (sending : Sending) (received output : List ℕ)
       → isAnswered delivery (headerOf received) ≡ false → (length table ≡ 16 → ⊥)
-      → Answers table last delivery sending received output (answers 74 last) table output
+      → Handles table last delivery sending received output (answers 74 last) table output
   pub frees : (table : List Retained) (last delivery : ℕ) (sending : Sending) (received output : List ℕ) → length table ≡ 16
       → isAcknowledgement delivery (headerOf received) ≡ true → (place : ℕ) → FirstAt (isNamed (exchanged (namesOf received))) table place
-      → Answers table last delivery sending received output (did freed last place (exchanged (namesOf received)) 0) (set table place freedRecord) output
+      → Handles table last delivery sending received output (did freed last place (exchanged (namesOf received)) 0) (set table place freedRecord) output
   pub matches-nothing : (table : List Retained) (last delivery : ℕ) (sending : Sending) (received output : List ℕ)
       → isAnswered delivery (headerOf received) ≡ false → length table ≡ 16 → Nowhere (isNamed (exchanged (namesOf received))) table
-      → Answers table last delivery sending received output (answers 0 last) table output
+      → Handles table last delivery sending received output (answers 0 last) table output
   pub ignores : (table : List Retained) (last delivery : ℕ) (sending : Sending) (received output : List ℕ)
       → isAnswered delivery (headerOf received) ≡ false → length table ≡ 16 → isAcknowledgement delivery (headerOf received) ≡ false
-      → Answers table last delivery sending received output (answers 0 last) table output
+      → Handles table last delivery sending received output (answers 0 last) table output
   -- IV. WORKED CASES
   -- 16 steps with a delay, and with none 16 for each sending and the drop
   pub enough-is : (enough twoTries ≡ 16) × (enough (record { delay = 0; tries = 2; room = 256 }) ≡ 48)
@@ -257,9 +257,9 @@ pub record ReliableMessages : Type 0 where
       × (deliveryNumber (nodeAt 3000 true false) 100 command ≡ 39)
   -- a command never acknowledged is sent twice and reported failed at the third moment; one acknowledged after a sending is freed
   pub lost : history twoTries commandNames
-      (Retains 10 command ∷ Steps 14 ∷ Steps 15 ∷ Steps 15 ∷ Steps 20 ∷ Steps 20 ∷ Steps 25 ∷ Steps 25 ∷ []) (start empty 0) .life
+      (RetainAt 10 command ∷ StepAt 14 ∷ StepAt 15 ∷ StepAt 15 ∷ StepAt 20 ∷ StepAt 20 ∷ StepAt 25 ∷ StepAt 25 ∷ []) (start empty 0) .life
       ≡ record { fate = Lost; sent = 2; moments = 3; mark = 25 }
-  pub waiting : history twoTries commandNames (Retains 10 command ∷ Steps 14 ∷ Steps 15 ∷ Steps 15 ∷ Steps 20 ∷ Steps 20 ∷ []) (start empty 0) .life
+  pub waiting : history twoTries commandNames (RetainAt 10 command ∷ StepAt 14 ∷ StepAt 15 ∷ StepAt 15 ∷ StepAt 20 ∷ StepAt 20 ∷ []) (start empty 0) .life
       ≡ record { fate = Waiting; sent = 2; moments = 2; mark = 20 }
-  pub arrived : history twoTries commandNames (Retains 10 command ∷ Steps 15 ∷ Hears 0 sendingMost 0 reply ∷ Steps 20 ∷ []) (start empty 0) .life
+  pub arrived : history twoTries commandNames (RetainAt 10 command ∷ StepAt 15 ∷ HearPdu 0 sendingMost 0 reply ∷ StepAt 20 ∷ []) (start empty 0) .life
       ≡ record { fate = Arrived; sent = 1; moments = 1; mark = 20 }

@@ -22,8 +22,8 @@ use Rattle.exchange.specs.Exchange.{isExchange, headerPart, payloadPart, refuse
 use Rattle.exchange.specs.Encoding.{numberBytes, exchangeBytes, encoding, writtenExchange, exchangeOutput, exchangeLimit}
 
 -- For the worked cases: the example of document 003, section 10.1, and its PDU
-abbrev pub example : List ℕ
-example =
+abbrev pub example003 : List ℕ
+example003 =
     0x14 ∷ 0x24 ∷ 0x84 ∷ 0x00 ∷ 0x06 ∷ 0x00 ∷ 0x00 ∷ 0x70 ∷ 0x0D ∷ 0x11 ∷ 0x33 ∷ 0x84 ∷ 0x01 ∷ 0x0D ∷ 0xA4 ∷ 0x08 ∷ 0x3F ∷ 0x03 ∷ 0xA3
     ∷ 0x08 ∷ 0x3B ∷ 0x03 ∷ 0xA5 ∷ 0x28 ∷ 0x0A ∷ 0x04 ∷ 0x99 ∷ 0x84 ∷ 0x02 ∷ 0x04 ∷ 0x4D ∷ 0x1C ∷ 0x4A ∷ 0x10 ∷ 0x84 ∷ 0x03 ∷ 0x01 ∷ 0x31 ∷ []
 
@@ -81,9 +81,9 @@ pub record SerialExchange : Type 0 where
   pub as-long : (header payload : List ℕ) → length header ≡ 520 → length payload ≡ 4095 → length (exchangeBytes header payload) ≡ exchangeLimit
   -- IV. WORKED CASES
   -- document 003's example, with two elements that are passed over; its PDU of 19 bytes makes an exchange of 27, header first
-  pub example-read : exchangeOf example
+  pub example-read : exchangeOf example003
       ≡ record { number = 0; «header_place» = 5; «header_length» = 6; «payload_place» = 14; «payload_length» = 13 }
-  pub example-written : (headerPart example ++ payloadPart example ≡ exampleHeader ++ examplePayload)
+  pub example-written : (headerPart example003 ++ payloadPart example003 ≡ exampleHeader ++ examplePayload)
       × (encoding (exampleHeader ++ examplePayload) ≡ 0x14 ∷ 0x19 ∷ headerFirst)
   -- payload first, and every number in the long form
   pub either-order : exchangeOf (0x14 ∷ 0x19 ∷ (0x84 ∷ 0x01 ∷ 0x0D ∷ examplePayload) ++ (0x84 ∷ 0x00 ∷ 0x06 ∷ exampleHeader))

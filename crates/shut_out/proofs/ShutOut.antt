@@ -23,7 +23,7 @@ use Rattle.batch.specs.declared.Stepped.the-variants.{TooLong, Ended, Answered}
 use Rattle.batch.specs.Walk.{isTooLong, stepOf, Walk, endingAt, walkFrom, walk, continued, steps}
 use Rattle.batch.proofs.Walking as walking
 use Rattle.checked_by_hand.specs.Examples.{nodeAt}
-use Rattle.shut_out.specs.ShutOut.{Stepper, KeepsStepping, walkedBy, Follows, ShutOut, zeros}
+use Rattle.shut_out.specs.ShutOut.{Stepper, KeepsStepping, walkedBy, Follows, ShutOut, lentOutput}
 
 -- two batches whose second PDU, at byte 6, is one that reads and one of version 1
 abbrev first : List ℕ
@@ -65,7 +65,7 @@ unfolding said
 first-alone stepper blind keeps =
     let node = nodeAt 2000 true false in
     let same : said right ≡ said wrong =
-    ap deliveryIn (sym (keeps node right second zeros .0) ∙ blind node right wrong second zeros (omega arith) ∙ keeps node wrong second zeros .0) in
+    ap deliveryIn (sym (keeps node right second lentOutput .0) ∙ blind node right wrong second lentOutput (omega arith) ∙ keeps node wrong second lentOutput .0) in
     omega (arith, same, read-there, unread-there)
 
 module _ (stepper : Stepper) (keeps : KeepsStepping stepper) (node : Node) (batch output : List ℕ) where

@@ -48,8 +48,8 @@ Follows node batch place [] end = end ≡ place
 Follows node batch place (offset ∷ later) end = (offset ≡ place) × Follows node batch (place + taken node (drop place batch)) later end
 
 -- an output of 100 bytes
-abbrev pub zeros : List ℕ
-zeros = replicate 100 0
+abbrev pub lentOutput : List ℕ
+lentOutput = replicate 100 0
 
 -- node 2000 with a source pass or a source reject list on that holds its own address alone
 abbrev pub listing : Bool → Bool → Lists → Node
@@ -68,8 +68,8 @@ listing pass reject lists =
     }
 
 -- a reliable PDU to 1600 with 2000 in its path: destination and PDU ID come before the count
-abbrev pub reliable : List ℕ
-reliable = 0x0B ∷ 0x00 ∷ 0x10 ∷ 0x00 ∷ 0x03 ∷ 0xE8 ∷ 0x06 ∷ 0x40 ∷ 0x55 ∷ 0x01 ∷ 0x07 ∷ 0xD0 ∷ []
+abbrev pub reliablePdu : List ℕ
+reliablePdu = 0x0B ∷ 0x00 ∷ 0x10 ∷ 0x00 ∷ 0x03 ∷ 0xE8 ∷ 0x06 ∷ 0x40 ∷ 0x55 ∷ 0x01 ∷ 0x07 ∷ 0xD0 ∷ []
 
 pub record ShutOut : Type 0 where
   -- a node that refuses all, as far as repeating goes
@@ -93,7 +93,7 @@ pub record ShutOut : Type 0 where
   pub offsets-follow : (node : Node) (room : ℕ) (batch : List ℕ)
       → Follows node batch 0 (walk node room batch .offsets) (walk node room batch .end)
   -- an invented count of path entries, in the repeat of the example of document 002
-  pub invented-count : (answer : Answer) (left : List ℕ) → (at (take 22 left) 8 ≡ 1 → ⊥) → Hears (nodeAt 2000 true false) example zeros answer left → ⊥
+  pub invented-count : (answer : Answer) (left : List ℕ) → (at (take 22 left) 8 ≡ 1 → ⊥) → Hears (nodeAt 2000 true false) example lentOutput answer left → ⊥
   -- slips. The own address sought in the source lists: the PDU's source, 1000, is in neither
   pub source-sought : (answerOf (listing true false (listsOf (2000 ∷ 2000 ∷ []) [] [] [])) 100 example ≡ twice 31 20 (Known 1000))
       × (answerOf (listing false true (listsOf [] (2000 ∷ 2000 ∷ []) [] [])) 100 example .delivery ≡ 39)
@@ -101,6 +101,6 @@ pub record ShutOut : Type 0 where
   pub seven-kept : (lowered 7 ≡ 7) × ((hop : ℕ) → 0 < hop → hop < 7 → lowered hop + 1 ≡ hop)
   pub zero-stays : (node : Node) (room : ℕ) (received : List ℕ) → headerOf received .«hop_limit» ≡ 0 → repeatNumber node room received ≡ 0 → ⊥
   -- the hop limit tested before the echo: 37 for the example's repeat, of hop limit 0, at the node in its path
-  pub hop-before-echo : (answer : Answer) (left : List ℕ) → answer .repeat ≡ 37 → Hears (nodeAt 2000 true false) exampleRepeated zeros answer left → ⊥
+  pub hop-before-echo : (answer : Answer) (left : List ℕ) → answer .repeat ≡ 37 → Hears (nodeAt 2000 true false) exampleRepeated lentOutput answer left → ⊥
   -- the path sought at byte 6
-  pub path-behind : pathIn (headerOf reliable) reliable ≡ 2000 ∷ []
+  pub path-behind : pathIn (headerOf reliablePdu) reliablePdu ≡ 2000 ∷ []

@@ -47,7 +47,7 @@ use Rattle.lines.specs.Lines.{pduLine}
 use Rattle.run.specs.Run.{roomForOne, repeatedOrNone, lineAt, walkLines, linesOf}
 use Rattle.listening.specs.Listening.{answerNumber, memoryAfterAnswer}
 use Rattle.boundary.specs.Boundary.{hasFlag, flagOf, reservedOf}
-use Rattle.two_editions.specs.TwoEditions.{TwoEditions, allSet, tooLong, atFault, asking, setTo}
+use Rattle.two_editions.specs.TwoEditions.{TwoEditions, allSet, tooLong, atFault, settingsFor, setTo}
 use Rattle.checked_by_hand.specs.Examples.{nodeAt}
 
 -- which numbers are editions
@@ -322,14 +322,14 @@ module _ where
   unfolding walk
   limit-after = (refl, refl)
 
-  in-order : (originationNumber (asking 13 true 8 true) [] 0 ≡ 17) × (originationNumber (asking 11 true 8 true) [] 0 ≡ 10)
-      × (originationNumber (asking 11 true 7 true) [] 0 ≡ 13) × (originationNumber (asking 11 true 7 false) [] 0 ≡ 16)
-      × (originationNumber (asking 11 false 7 false) [] 5 ≡ 14) × (originationNumber (asking 11 false 7 false) [] 6 ≡ 0)
-      × (originationNumber (asking 12 true 7 false) [] 5 ≡ 14) × (originationNumber (asking 12 true 7 false) [] 6 ≡ 0)
+  in-order : (originationNumber (settingsFor 13 true 8 true) [] 0 ≡ 17) × (originationNumber (settingsFor 11 true 8 true) [] 0 ≡ 10)
+      × (originationNumber (settingsFor 11 true 7 true) [] 0 ≡ 13) × (originationNumber (settingsFor 11 true 7 false) [] 0 ≡ 16)
+      × (originationNumber (settingsFor 11 false 7 false) [] 5 ≡ 14) × (originationNumber (settingsFor 11 false 7 false) [] 6 ≡ 0)
+      × (originationNumber (settingsFor 12 true 7 false) [] 5 ≡ 14) × (originationNumber (settingsFor 12 true 7 false) [] 6 ≡ 0)
   unfolding originationNumber settingsFault freshHeader _gives_ _orElse_
   in-order = (refl, refl, refl, refl, refl, refl, refl, refl)
 
-  flag-written : fresh (asking 12 true 0 false) [] ≡ 0x00 ∷ 0x08 ∷ 0x00 ∷ 0x00 ∷ 0x00 ∷ 0x05 ∷ []
+  flag-written : fresh (settingsFor 12 true 0 false) [] ≡ 0x00 ∷ 0x08 ∷ 0x00 ∷ 0x00 ∷ 0x00 ∷ 0x05 ∷ []
   unfolding fresh freshHeader encode headerBytes pathBytes
   flag-written = refl
 

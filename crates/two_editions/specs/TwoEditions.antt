@@ -65,8 +65,8 @@ abbrev pub atFault : Node
 atFault = record { settings = nodeAt 2000 true false .settings; lists = listsOf (5 ∷ []) [] [] [] }
 
 -- settings with the edition, the encrypted flag, the hop limit and the reliable service that are asked, for everyone
-abbrev pub asking : ℕ → Bool → ℕ → Bool → asked.Settings
-asking edition encrypted hop reliable =
+abbrev pub settingsFor : ℕ → Bool → ℕ → Bool → asked.Settings
+settingsFor edition encrypted hop reliable =
     record {
       edition = edition;
       source = 5;
@@ -207,11 +207,11 @@ pub record TwoEditions : Type 0 where
   pub before-54 : (walkUnder 13 (nodeAt 2000 true false) 100 tooLong .answers ≡ twice 17 0 Unknown ∷ [])
       × (walkUnder 12 (nodeAt 2000 true false) 100 tooLong .number ≡ 54)
   -- the order of origination's numbers; the flag as it is written; what C sees of three bits that are all set
-  pub order : (originationNumber (asking 13 true 8 true) [] 0 ≡ 17) × (originationNumber (asking 11 true 8 true) [] 0 ≡ 10)
-      × (originationNumber (asking 11 true 7 true) [] 0 ≡ 13) × (originationNumber (asking 11 true 7 false) [] 0 ≡ 16)
-      × (originationNumber (asking 11 false 7 false) [] 5 ≡ 14) × (originationNumber (asking 11 false 7 false) [] 6 ≡ 0)
-      × (originationNumber (asking 12 true 7 false) [] 5 ≡ 14) × (originationNumber (asking 12 true 7 false) [] 6 ≡ 0)
-  pub fresh-set : fresh (asking 12 true 0 false) [] ≡ 0x00 ∷ 0x08 ∷ 0x00 ∷ 0x00 ∷ 0x00 ∷ 0x05 ∷ []
+  pub order : (originationNumber (settingsFor 13 true 8 true) [] 0 ≡ 17) × (originationNumber (settingsFor 11 true 8 true) [] 0 ≡ 10)
+      × (originationNumber (settingsFor 11 true 7 true) [] 0 ≡ 13) × (originationNumber (settingsFor 11 true 7 false) [] 0 ≡ 16)
+      × (originationNumber (settingsFor 11 false 7 false) [] 5 ≡ 14) × (originationNumber (settingsFor 11 false 7 false) [] 6 ≡ 0)
+      × (originationNumber (settingsFor 12 true 7 false) [] 5 ≡ 14) × (originationNumber (settingsFor 12 true 7 false) [] 6 ≡ 0)
+  pub fresh-set : fresh (settingsFor 12 true 0 false) [] ≡ 0x00 ∷ 0x08 ∷ 0x00 ∷ 0x00 ∷ 0x00 ∷ 0x05 ∷ []
   pub in-c-11 : let header = headerInC (readUnder 11 allSet) allSet in
       (header .«has_encrypted» ≡ false) × (header .encrypted ≡ false) × (header .reserved ≡ 7)
   pub in-c-12 : let header = headerInC (readUnder 12 allSet) allSet in
