@@ -9,6 +9,7 @@ import definitions
 USE = re.compile(r'^ *(?:(?:ghost|pub|unfoldable) )*use Rattle·(\w+?)(?:·specs)?\.specs\.([\w+.-]+?)(?:\.\{([^}]*)\}| as (\S+))?;?$', re.M)
 TOKEN = re.compile(r'[^\s(){}\[\],;⌜⌝"`]+')
 FUNCTION = re.compile(r'\bfn (\w+)(.*?)\n *\{\n', re.S)
+EXPORTED = re.compile(r'\bextern "C" fn (\w+)')
 CALL = re.compile(r'\b(\w+)::(?:\w+::)*(\w+)\(')
 BELIEVED_WHOLE = ('audit', 'promises')  # crates whose definitions are what is claimed, and the form of a promise
 CALLED_FROM_OUTSIDE = 'mant'
@@ -61,7 +62,9 @@ class Reading:
         """What is claimed, what the exports promise, and what the programs and the functions that they call do."""
         programs = [file.parts[-3] for file in sorted(self.top.glob('crates/*/src/main.rt')) if file.parts[-3] not in TESTS]
         found = {key for key in self.under if key[0] in BELIEVED_WHOLE}
-        for crate in (CALLED_FROM_OUTSIDE, *programs):
+        exported = {name for file in (self.top / 'crates' / CALLED_FROM_OUTSIDE / 'src').rglob('*.rt') for name in EXPORTED.findall(file.read_text())}
+        found |= set().union(*(names for name, names in self.contracts(CALLED_FROM_OUTSIDE) if name in exported))
+        for crate in programs:
             found |= set().union(*(names for _, names in self.contracts(crate)))
         called = {call for crate in programs for file in (self.top / 'crates' / crate / 'src').rglob('*.rt') for call in CALL.findall(file.read_text())}
         for crate in sorted({crate for crate, _ in called}):
