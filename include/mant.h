@@ -19,8 +19,9 @@
  *     Planning             how often one report can go out at most; the sizes
  *
  * Each begins with what it is for, its memory, the numbers that it answers beside 0 and the stack of its calls, and ends with an example: the body of a main,
- * with mant.h, assert.h and string.h included, which the tests take out of here, compile and run as C11; C++20 takes the .name = of its structs too.
- * examples/box.c is a whole repeater.
+ * with mant.h, assert.h and string.h included, which the tests take out of here, compile and run as C11. C++11 can include this header too; the .name = of
+ * its structs is C++20's, in the order of the struct, and g++ -Wextra warns there of each field that is not named (-Wno-missing-field-initializers). Before
+ * C++20 begin with = {} and set the fields one by one. examples/box.c is a whole repeater.
  *
  * Documents. 01 is the scope document; 02 the requests made after it, W-201 to W-212, each told in docs/requests/W-201.md and so on; 000 the protocol's
  * edition 1.2; 003 the binary elements that serial devices send each other. The four themselves are kept apart from this repository.
@@ -39,7 +40,8 @@
  *
  * Lent memory. What a box remembers lies in arrays of the caller's, who lends one to each call that needs it and keeps it from call to call: a table of
  * stations, a queue, a table of retained PDUs, a record of message numbers. Each is empty when it is all zeros. With a refusal nothing in it changes. Memory
- * put together by hand, or not set at all, gets an answer too, which its group tells.
+ * put together by hand, or not set at all, gets an answer too, which its group tells. Over a restart a box must keep the record, and beside it what it counts
+ * itself, the message number and the PDU ID that it used last; the rest may begin empty again.
  *
  * Edition. In edition 1.1 of the protocol the three bits after the port are one reserved number; in 1.2 the first of them is the encrypted flag
  * (document 02, W-209). What shows a header, writes one or hears as a node takes the edition as a number, MANT_EDITION_1_1 or MANT_EDITION_1_2. Any
@@ -47,8 +49,10 @@
  * the same, byte for byte, under both. Paths, exchanges and queues show none of these bits, and sealing is of 1.2 alone, so these take no edition.
  *
  * Stack. Bytes below the caller's stack pointer, return address included: the most of the calls that tests/stack.c tries of each. tests/run_boundary measures
- * them, and fails where one is above its limit (docs/PERFORMANCE.md) or is not the figure that stands here. No way through the library's code takes more than
- * that limit, counted in its disassembly, apart from what the C library's three functions take.
+ * them, compiled by gcc -O2, and fails where one is above its limit (docs/PERFORMANCE.md) or is not the figure that stands here. No way through the library's
+ * code takes more than that limit, counted in its disassembly, apart from what the C library's three functions take. Two things come on top. A caller can put
+ * 16 bytes more there for arguments; compiled without -O it puts up to 192 more for the four calls that take a MantLists. And where the loader binds memcpy and
+ * its like at their first call, as it does unless told otherwise, that call takes some 3,000 bytes: link with -Wl,-z,now or -static where that is too much.
  *
  * Numbers. Every refusal has one: enum MantNumber below; mant_meaning, at the end, gives its words to a program.
  */
@@ -286,7 +290,8 @@ enum MantChoice {
     MANT_SECOND_LIST = 2
 };
 
-/* What a node is set to. A pass list that is chosen and empty passes nothing; with none chosen the kind is off and stops nothing. */
+/* What a node is set to. What is not set is off, echo and repeating too (in Python both are on by default). A pass list that is chosen and empty passes
+   nothing; with none chosen the kind is off and stops nothing. */
 typedef struct MantNode {
     uint16_t own;
     bool echo;                /* drop a PDU whose path holds the own address, or whose source it is */
@@ -394,11 +399,16 @@ static inline uint8_t mant_list_fault(const MantLists *lists)
 
 /* What a node answers for the PDU at the start of the received bytes: a number for delivery and one for repeating. 17, faults of the lists (20 to 22),
    of reading (1 to 6), 30, 42, 31 to 34 and 40, the first of them in this order, are given as both, and nothing is delivered then. All eight lists are
-   checked, as by mant_list_fault; 31 to 34 are given by those that are chosen. With echo on, 30 is given where the path holds the own address, and 42
-   where the source is the own address, with the path bit or without (document 02, W-203); with echo off, neither. The delivered payload is the
-   delivered_length bytes from received + delivered_place on. With length 0 there are none, and that place may be the end of the received bytes. The
-   repeated PDU is written to the output where the repeat number is 0; with any other the output is left alone. The last sender is told with every
-   number but 17 and those of the lists and of reading, so also where the PDU is dropped (document 02, W-205). */
+   checked, as by mant_list_fault; 31 to 34 are given by those that are chosen, 33 and 34 to no PDU without a destination. With echo on, 30 is given
+   where the path holds the own address, and 42 where the source is the own address, with the path bit or without (document 02, W-203); with echo off,
+   neither. 40 is given where the PDU would be repeated and the output is too short for that. Else delivery is 39, 35 or 0, and repeating 41, 36, 37, 38
+   or 0, the first in this order; so a PDU without a destination can be both delivered and repeated.
+
+   The delivered payload is the delivered_length bytes from received + delivered_place on. With length 0 there are none, and that place may be the end of
+   the received bytes. The repeated PDU is written to the output where the repeat number is 0; with any other the output is left alone. It is the received
+   one with a hop limit that is one lower, but 7 stays 7, and with the path bit the own address behind the others, which makes it 2 bytes longer: room
+   for received_length + 2 bytes is enough. The last sender is told with every number but 17 and those of the lists and of reading, so also where the PDU
+   is dropped (document 02, W-205). */
 static inline MantAnswer mant_hear(uint64_t edition, MantNode settings, const MantLists *lists, const uint8_t *received, size_t received_length,
                                    uint8_t *output, size_t output_length)
 {
@@ -589,12 +599,12 @@ MantLevel mant_queue_level(const uint8_t *queue, size_t queue_length);
 
 /* Adds a PDU to a queue, behind those that it holds. Answers 61 where the bytes are not one PDU and nothing else, whatever the queue holds; then 60 where
    it holds MANT_QUEUE_PDUS PDUs, or where their bytes and the new ones are more than it has room for. With both it leaves the queue alone; else it answers
-   0. */
+   0. A PDU of more than MANT_QUEUE_BYTES bytes, which a node may well repeat, gets 60 from an empty queue too, so to wait for room does not help it. */
 uint8_t mant_queue_add(uint8_t *queue, size_t queue_length, const uint8_t *pdu, size_t pdu_length);
 
 /* Takes PDUs from a queue, from the oldest on, up to the first that the output has no room for: writes them to the output back to back, as one batch
    for mant_step, and releases them. Answers 62 where there is no room for the oldest. Where the queue holds none, the number is 0 and nothing is taken.
-   In these two cases queue and output are left alone. */
+   In these two cases queue and output are left alone. A PDU that no slot has room for holds up all behind it, so do not add one (examples/box.c). */
 MantBatch mant_queue_take(uint8_t *queue, size_t queue_length, uint8_t *output, size_t output_length);
 
 /* Drops all PDUs that a queue holds: both numbers are 0 then, and every byte behind them is kept. Fewer than four bytes, which hold none, are left
@@ -666,7 +676,8 @@ MantWritten mant_write_exchange(const uint8_t *bytes, size_t bytes_length, uint8
  * PDUs of protocol 1 that wait for their acknowledgement (document 02, W-210; document 000, section 3.3): retained when they are sent, sent again where it
  * is late, reported failed where it never comes, freed where it does. What such a PDU asks of the box that it was sent to is written here too. That box
  * acknowledges each copy that reaches it, and each is delivered to it: no call remembers what was delivered, so a command that must not be obeyed twice is
- * known to the box by its source and ID, or is sealed.
+ * known to the box by its source and ID, or is sealed. Who sends therefore gives each command the next ID, and keeps the count over a restart: with an ID
+ * used before it would be taken for a copy.
  * Memory: a table that the caller lends: MANT_RECORDS records, 4,480 bytes. Beside it the caller keeps the last accepted time, which each call answers and
  *     the next is given; 0 stands for no time accepted yet. Times are whole seconds of a clock that does not go back. If it was set back all the same (73), go
  *     on with 0 for the last time and set sent_at of each record to the time now: each is then late after a whole delay, and its count stays. A record is in
