@@ -23,14 +23,14 @@ static const MantNode node = {.own = OWN, .echo = true, .repeating = true, .sour
 static const MantSending sending = {.hop_limit = HOP_LIMIT, .with_path = true};
 static const MantKey key = {{'k', 'e', 'e', 'p', ' ', 'm', 'e', ' ', 's', 'e', 'c', 'r', 'e', 't', '!', '!'}};
 
-/* What the box remembers, all of it empty at first. The record alone is kept over a restart, or old commands would be opened again. */
+/* What the box remembers, all of it empty at first. The record and alarm_id are kept over a restart (save). */
 static uint16_t stations[MANT_STATION_WORDS];
 static uint8_t queue[MANT_QUEUE_LENGTH];
 static MantRetained alarms[MANT_RECORDS];
 static uint64_t last_time; /* in seconds since the start, so that no time is earlier than the last */
 static uint32_t record[MANT_SOURCE_WORDS];
 static uint64_t last_opened = UINT64_MAX; /* of what was opened last the source, PDU ID and message number, as one; at first nobody's */
-static uint8_t raised, alarm_id = 1;      /* the alarms that wait for a slot, a bit each, and the PDU ID that they get */
+static uint8_t raised = 4, alarm_id = 1;  /* the alarms that wait for a slot, a bit each, one from the start; and the PDU ID that they get */
 static uint8_t output[MANT_PDU_LIMIT], plain[MANT_PAYLOAD_LIMIT], slot[SLOT_BYTES]; /* room for what a call writes */
 
 /* What the modem hears, and at which second. */
@@ -74,8 +74,8 @@ static void enqueue(const char *name, const uint8_t *pdu, size_t length)
     }
 }
 
-/* Writes the record to memory that keeps it without power; either all of it is changed there or nothing. */
-static void save_record(void) { }
+/* Keeps record and alarm_id without power, all or nothing: else old commands would open again, and the base take a new alarm for a copy of an old one. */
+static void save(void) { }
 
 /* A sealed payload, a command only where the base sends it to this box; whether to acknowledge it: only what was carried out. Of 82 that is known of the very
    last; any other came too late, or is forged. The record is kept before a command is carried out, so that no restart carries it out twice. */
@@ -88,7 +88,7 @@ static bool open_sealed(const uint8_t *pdu, MantHeader header)
     const uint8_t *number = pdu + header.header_length;
     uint64_t message = (uint64_t)header.source << 32 | (uint64_t)header.pdu_id << 24 | (uint64_t)number[0] << 16 | (uint64_t)number[1] << 8 | number[2];
     if (opened.number == MANT_DONE) {
-        save_record();
+        save();
         print_hex(header.source == BASE && header.has_destination ? "command" : "sealed report", plain, opened.length);
         last_opened = message;
     }
@@ -154,6 +154,7 @@ static size_t begin_with_alarms(uint64_t now)
     }
     raised = 0;
     alarm_id++;
+    save();
     return written.length;
 }
 
@@ -181,7 +182,6 @@ int main(void)
     if (!done("lists", mant_list_fault(&lists))) {
         return 1;
     }
-    raised = 0x04; /* the box starts with an alarm */
     for (uint64_t now = 1, next = 0; now <= 40; now++) { /* a box goes on */
         for (; next < sizeof frames / sizeof frames[0] && frames[next].time == now; next++) {
             printf("%u s: %s\n", (unsigned)now, frames[next].what);
