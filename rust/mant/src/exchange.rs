@@ -20,6 +20,17 @@ impl Exchange<'_> {
 /// The header and the payload in the exchange that the bytes are, all of them.
 /// Refusals: 57 to 59, 1 to 6 on header and payload joined, and 63 where bytes
 /// follow the PDU or the two parts do not meet at the header's end.
+///
+/// ```
+/// use mant::{read_exchange, write_exchange, Exchange};
+///
+/// let pdu = [0x02, 0x00, 0x10, 0x01, 0x03, 0xE8, 0x00, 0x2A];
+/// let mut line = [0; Exchange::LIMIT];
+/// let length = write_exchange(&pdu, &mut line)?;
+/// let parts = read_exchange(&line[..length])?;
+/// assert_eq!([parts.header, parts.payload].concat(), pdu);
+/// # Ok::<(), mant::Refusal>(())
+/// ```
 pub fn read_exchange(bytes: &[u8]) -> Result<Exchange<'_>, Refusal> {
     let exchange = raw::read_exchange(bytes);
     Refusal::check(exchange.number)?;

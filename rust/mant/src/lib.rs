@@ -19,6 +19,19 @@
 //! delivered twice, and so is a command that is sent again. Where that matters
 //! the program remembers it.
 //!
+//! The names are those of `include/mant.h` without `mant_`, but for what lent
+//! memory is: `mant_hear_and_count` is [`Stations::hear`], `mant_station_of`
+//! [`Stations::get`], `mant_stations_held` [`Stations::len`],
+//! `mant_stations_capacity` [`Stations::LIMIT`], `mant_count_heard`
+//! [`Stations::count`], `mant_queue_add` [`Queue::add`], `mant_retain`
+//! [`Reliable::retain`], which keeps the last time itself, `mant_open`
+//! [`Record::open`], `mant_meaning` [`Refusal::meaning`]. What C says with a
+//! flag beside a value is an [`Option`] here.
+//!
+//! Over a restart a box must keep the [`Record`], and beside it what it counts
+//! itself, the message number and the PDU ID that it used last; the rest may
+//! begin empty again.
+//!
 //! To link, `libmant.a` must be there: `rt staticlib mant` makes it for x86-64
 //! Linux in the repository's `target/staticlib`, which is looked for first. On
 //! another processor `tools/build rust staticlib mant` makes one to try it

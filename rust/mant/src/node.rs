@@ -4,7 +4,9 @@ use crate::raw;
 use crate::{Choice, Cursor, Lists, Refusal};
 use std::ops::Range;
 
-/// What a node is set to. A pass list that is chosen and empty passes nothing.
+/// What a node is set to. The default has echo and repeating off, and no list
+/// chosen (in Python both are on). A pass list that is chosen and empty passes
+/// nothing.
 #[derive(Clone, Copy, Debug, Default, PartialEq, Eq)]
 pub struct Node {
     /// Its own address.
@@ -99,9 +101,14 @@ pub enum Step {
 /// Refusals of delivery and repeat alike, the first that applies: 17, 20 to 22
 /// for a fault of the lists, 1 to 6 where there is no PDU, 30 and 42 with echo
 /// on, 31 to 34 by the lists that are chosen, and 40 where the output is too
-/// short for the repeated PDU, which then is not delivered either. Of delivery
-/// alone: 35 and 39; of repeat alone: 36 to 38 and 41. The output is written to
-/// only where repeat is `Ok`; it may be empty where nothing is to be repeated.
+/// short for the repeated PDU, which then is not delivered either. 33 and 34
+/// are given to no PDU without a destination. Of delivery alone: 39, then 35; of
+/// repeat alone: 41, then 36 to 38.
+///
+/// The repeated PDU is the received one with a hop limit that is one lower, but 7
+/// stays 7, and with a path the own address behind the others, 2 bytes more. The
+/// output is written to only where repeat is `Ok`; it may be empty where nothing
+/// is to be repeated.
 pub fn hear(
     edition: u64,
     node: &Node,

@@ -4,9 +4,10 @@ use crate::raw;
 use crate::{Limits, Refusal};
 
 /// The most transmissions that one fresh PDU with a path and this hop limit
-/// can cause among so many repeating nodes, all with echo on; the node at its
-/// source address is not one of them. None: 64 bits do not hold it. Refusal: 10
-/// where the hop limit is above 7.
+/// can cause among so many repeating nodes, its first sending counted. All have
+/// echo on and an address of their own, the node at the PDU's source address
+/// too, which is not one of them. None: 64 bits do not hold it. Refusal: 10 where
+/// the hop limit is above 7.
 ///
 /// ```
 /// assert_eq!(mant::most_transmissions(5, 3), Ok(Some(86)));

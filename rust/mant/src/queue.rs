@@ -74,13 +74,15 @@ impl Queue {
     }
 
     /// Adds a PDU, or answers 61 where the bytes are not exactly one, and then
-    /// 60 where there is no room for it.
+    /// 60 where there is no room for it. For one of more than [`Queue::BYTES`]
+    /// bytes there never is.
     pub fn add(&mut self, pdu: &[u8]) -> Result<(), Refusal> {
         Refusal::check(raw::queue_add(&mut self.memory, pdu))
     }
 
     /// Moves as many of the oldest PDUs to the output as fit there, or answers
-    /// 62 where the oldest doesn't. An empty queue gives none.
+    /// 62 where the oldest doesn't. An empty queue gives none. A PDU that no slot
+    /// has room for holds up all behind it, so do not add one.
     ///
     /// ```
     /// let (mut queue, mut slot) = (mant::Queue::new(), [0; 12]);

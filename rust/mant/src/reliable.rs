@@ -63,7 +63,8 @@ impl Reliable {
     /// earlier than the last, 75 where it is not one fresh reliable PDU, 72
     /// where it has more than 256 bytes, 71 where one of the same source,
     /// destination and ID is retained, 70 where no record is free. Send it only
-    /// once it is retained.
+    /// once it is retained. Give each command the next ID, over a restart too: a
+    /// box that knows copies by source and ID takes one used before for a copy.
     pub fn retain(&mut self, time: u64, pdu: &[u8]) -> Result<Deed, Refusal> {
         let outcome = raw::retain(&mut self.records, self.last, time, pdu);
         self.after(outcome)
@@ -103,6 +104,24 @@ impl Reliable {
     /// only what the node answered for these bytes. Refusals: 10 and 11 where an
     /// acknowledgement is due, and 77 where the output has no room for it, 9
     /// bytes or with a path 10.
+    ///
+    /// ```
+    /// use mant::{hear, Deed, Lists, Node, Reliable, Sending, EDITION_1_2};
+    ///
+    /// let command = [0x09, 0, 0x10, 0, 0x03, 0xE8, 0x06, 0x40, 7]; // 1000 to 1600, ID 7
+    /// let (mut base, mut gate, mut reply) = (Reliable::new(), Reliable::new(), [0; 9]);
+    /// base.retain(100, &command)?;
+    /// let answer_at = |own, pdu: &[u8]| {
+    ///     let node = Node { own, echo: true, ..Node::default() };
+    ///     hear(EDITION_1_2, &node, &Lists::default(), pdu, &mut [])
+    /// };
+    /// let sending = Sending { hop_limit: 1, ..Sending::default() };
+    /// let deed = gate.acknowledge(&command, &answer_at(1600, &command), &sending, &mut reply)?;
+    /// assert!(matches!(deed, Deed::Acknowledged(names, 9) if names.pdu_id == 7));
+    /// let deed = base.acknowledge(&reply, &answer_at(1000, &reply), &sending, &mut [])?;
+    /// assert!(matches!(deed, Deed::Freed(0, names) if names.pdu_id == 7));
+    /// # Ok::<(), mant::Refusal>(())
+    /// ```
     pub fn acknowledge(
         &mut self,
         received: &[u8],

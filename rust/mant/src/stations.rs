@@ -119,6 +119,21 @@ impl Stations {
     /// What [`crate::hear`] answers and writes, and the PDU counted if it could
     /// be read, also where a list then stops it. A full table, 55, changes
     /// nothing in the node's answer.
+    ///
+    /// ```
+    /// use mant::{Lists, Node, Refusal, Stations, EDITION_1_2};
+    ///
+    /// let node = Node { own: 2000, echo: true, repeating: true, ..Node::default() };
+    /// let report = [0x02, 0x00, 0x10, 0x01, 0x03, 0xE8, 0x00, 0x2A];
+    /// let (mut stations, mut repeated) = (Stations::new(), [0; 10]);
+    /// let heard = stations.hear(EDITION_1_2, &node, &Lists::default(), &report, &mut repeated);
+    /// assert_eq!((heard.answer.repeat, heard.table), (Ok(10), Ok(())));
+    /// let echo = stations.hear(EDITION_1_2, &node, &Lists::default(), &repeated, &mut []);
+    /// assert_eq!(echo.answer.delivery, Err(Refusal::Echo));
+    /// let station = stations.get(1000)?;
+    /// assert_eq!((station.reads, station.echoes, station.shortest_path), (2, 1, Some(0)));
+    /// # Ok::<(), mant::Refusal>(())
+    /// ```
     pub fn hear(
         &mut self,
         edition: u64,
