@@ -12,8 +12,8 @@
 //! What is refused is a [`Refusal`], with its number and its meaning; the
 //! functions below name the numbers in the order in which they are looked for,
 //! and with each of them output, table, queue and record stay as they were.
-//! `limits().pdu` bytes are room for every PDU, and [`Exchange::LIMIT`] for
-//! every exchange.
+//! [`PDU_LIMIT`] bytes are room for every PDU, [`PAYLOAD_LIMIT`] for every plain
+//! payload, and [`Exchange::LIMIT`] for every exchange.
 //!
 //! No function remembers what was delivered: the same PDU heard by two ways is
 //! delivered twice, and so is a command that is sent again. Where that matters
@@ -45,8 +45,7 @@
 //!
 //! let fresh = Fresh { source: 1000, hop_limit: 3, with_path: true, ..Fresh::default() };
 //! let node = Node { own: 2000, echo: true, repeating: true, ..Node::default() };
-//! let mut report = vec![0; mant::limits().pdu];
-//! let mut repeated = report.clone();
+//! let (mut report, mut repeated) = ([0; mant::PDU_LIMIT], [0; mant::PDU_LIMIT]);
 //! let length = originate(&fresh, b"rain", &mut report)?;
 //! let answer = hear(EDITION_1_2, &node, &Lists::default(), &report[..length], &mut repeated);
 //! assert_eq!(&report[answer.delivery?], b"rain");
@@ -76,7 +75,8 @@ pub use node::{hear, step, Answer, Node, Step};
 pub use originating::{originate, Fresh};
 pub use planning::{limits, most_bytes, most_transmissions};
 pub use queue::{Queue, Taken};
-pub use raw::{Cursor, Key, Level, Limits, Names, Retained, Sending, EDITION_1_1, EDITION_1_2};
+pub use raw::{Cursor, Key, Level, Limits, Names, Retained, Sending};
+pub use raw::{EDITION_1_1, EDITION_1_2, PAYLOAD_LIMIT, PDU_LIMIT};
 pub use reading::{path_address, path_has, read, write_again, Header};
 pub use refusal::Refusal;
 pub use reliable::{Deed, Reliable};

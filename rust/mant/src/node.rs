@@ -133,7 +133,7 @@ pub fn hear(
 ///
 /// let node = Node { own: 2000, echo: true, repeating: true, ..Node::default() };
 /// let batch = [2, 0, 0x10, 1, 3, 0xE8, 0, 0x2A, 2, 0, 0x10, 1, 0x0B, 0xB8, 0, 0x2B];
-/// let (mut cursor, mut repeated, mut payloads) = (Cursor::default(), [0; 4615], vec![]);
+/// let (mut cursor, mut repeated, mut payloads) = (Cursor::default(), [0; mant::PDU_LIMIT], vec![]);
 /// while let Step::Answered(answer, next) =
 ///     step(EDITION_1_2, &node, &Lists::default(), &batch, cursor, &mut repeated)
 /// {

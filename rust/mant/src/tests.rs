@@ -78,6 +78,7 @@ fn bounds_and_limits() {
     assert_eq!(most_transmissions(3, 8), Err(Refusal::HopLimitAbove7));
     assert_eq!(most_bytes(3, 1, 20), Ok(Some(20 + 3 * 22)));
     let limits = limits();
+    assert_eq!((limits.payload, limits.pdu), (PAYLOAD_LIMIT, PDU_LIMIT));
     assert_eq!((limits.fixed, limits.payload, limits.path), (6, 4095, 255));
     assert_eq!((limits.header, limits.pdu), (520, 4615));
     assert_eq!((limits.list, limits.batch), (128, 16_384));

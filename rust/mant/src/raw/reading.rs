@@ -2,6 +2,11 @@
 
 use super::Written;
 
+/// `MANT_PAYLOAD_LIMIT`: the most bytes of a payload.
+pub const PAYLOAD_LIMIT: usize = 4095;
+/// `MANT_PDU_LIMIT`: the most bytes of a PDU.
+pub const PDU_LIMIT: usize = 4615;
+
 /// The header of a PDU, as an edition shows it. A destination, PDU ID or path
 /// count that the PDU does not have is 0.
 /// In C `MantHeader`.
