@@ -816,14 +816,16 @@ MANT_SIZE(MantKey, 16);
    its payload MANT_SEAL_LENGTH bytes longer; hop limit, path and all else are as they were. Answers 1 to 6 where there is no PDU, 88 where its encrypted
    bit is set already, 85 where the payload would have more than MANT_PAYLOAD_LIMIT bytes, 86 where the number is above MANT_NUMBER_LIMIT, 87 where the
    output is shorter than the sealed PDU, the first that applies, and leaves the output alone then. Bytes after the PDU are not looked at. Under one key
-   no source may use a number twice: the caller counts them up, and keeps the count over a restart. */
+   no source may use a number twice, or who listens learns of both payloads: the caller counts them up, and keeps the count, before the PDU goes out, over
+   a restart. */
 MantWritten mant_seal(MantKey key, uint64_t number, const uint8_t *pdu, size_t pdu_length, uint8_t *output, size_t output_length);
 
 /* Opens the sealed PDU at the start of the bytes: writes its plain payload, and notes its number in the record. Answers 1 to 6 where there is no PDU, 80
    where its encrypted bit is clear, 81 where its payload is shorter than MANT_SEAL_LENGTH, 82 where the record holds its source with this number or a
    greater one, 83 where its hash is another, 84 where its source is new and the record full, 87 where the output is shorter than the plain payload, the
    first that applies, and leaves output and record alone then. Against the same record it opens the same after any repeats as before them; once opened, a
-   repeat of it is 82. Of a source that the record does not hold any number is taken, so an empty record takes what it has taken before. */
+   repeat of it is 82. Of a source that the record does not hold any number is taken, so an empty record takes what it has taken before: keep the record
+   before a command is carried out. */
 MantWritten mant_open(MantKey key, uint32_t *record, size_t record_words, const uint8_t *pdu, size_t pdu_length, uint8_t *output,
                       size_t output_length);
 

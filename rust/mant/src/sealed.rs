@@ -92,9 +92,10 @@ impl fmt::Debug for Record {
 
 /// Seals the PDU at the start of the bytes under a message number, 16,777,215
 /// at most, and gives its length, 7 bytes more than the PDU's. Under one key no
-/// source may use a number twice: the caller counts them up, over a restart too.
-/// The number lies in clear in the first three bytes of the sealed payload.
-/// Refusals: 1 to 6, 88 where the encrypted bit is set already, 85 where the
+/// source may use a number twice, or who listens learns of both payloads: the
+/// caller counts them up, and keeps the count, before the PDU goes out, over a
+/// restart. The number lies in clear in the first three bytes of the sealed
+/// payload. Refusals: 1 to 6, 88 where the encrypted bit is set already, 85 where the
 /// payload would have more than 4,095 bytes, 86 for a greater number, and 87
 /// where the output is shorter than the sealed PDU.
 pub fn seal(key: &Key, number: u64, pdu: &[u8], output: &mut [u8]) -> Result<usize, Refusal> {
