@@ -46,13 +46,15 @@
  * Edition. In edition 1.1 of the protocol the three bits after the port are one reserved number; in 1.2 the first of them is the encrypted flag
  * (document 02, W-209). What shows a header, writes one or hears as a node takes the edition as a number, MANT_EDITION_1_1 or MANT_EDITION_1_2. Any
  * other number, also one that would be 11 or 12 if it were cut to fewer bits, is answered 17 before all else is looked at. A node answers and repeats
- * the same, byte for byte, under both. Paths, exchanges and queues show none of these bits, and sealing is of 1.2 alone, so these take no edition.
+ * the same, byte for byte, under both. Paths, stations, exchanges, queues and retained PDUs show none of these bits, an acknowledgement has them clear, and
+ * sealing is of 1.2 alone, so these take no edition.
  *
  * Stack. Bytes below the caller's stack pointer, return address included: the most of the calls that tests/stack.c tries of each. tests/run_boundary measures
- * them, compiled by gcc -O2, and fails where one is above its limit (docs/PERFORMANCE.md) or is not the figure that stands here. No way through the library's
- * code takes more than that limit, counted in its disassembly, apart from what the C library's three functions take. Two things come on top. A caller can put
- * 16 bytes more there for arguments; compiled without -O it puts up to 192 more for the four calls that take a MantLists. And where the loader binds memcpy and
- * its like at their first call, as it does unless told otherwise, that call takes some 3,000 bytes: link with -Wl,-z,now or -static where that is too much.
+ * them, compiled by gcc -O2, and fails where one is above its limit (docs/PERFORMANCE.md) or more than 64 bytes from the figure here. No way through the
+ * library's code takes more than that limit, counted in its disassembly, apart from what the C library's three functions take. Two things come on top. A
+ * caller can put 16 bytes more there for arguments; compiled without -O it puts up to 192 more for the four calls that take a MantLists. And where the loader
+ * binds memcpy and its like at their first call, as it does unless told otherwise, that call takes some 3,000 bytes: link with -Wl,-z,now or -static where
+ * that is too much.
  *
  * Numbers. Every refusal has one: enum MantNumber below; mant_meaning, at the end, gives its words to a program.
  */
@@ -162,7 +164,7 @@ MANT_SIZE(MantWritten, 16);
  * What the bytes of a PDU say: each field of its header, its path, who sent it last, where its payload lies; and the PDU written again from that.
  * Memory: none.
  * Numbers: 17, 1 to 6; in writing again also 14.
- * Stack: mant_read 136, mant_path_address 136, mant_path_has 136, mant_write_again 232.
+ * Stack: mant_read 72, mant_path_address 136, mant_path_has 136, mant_write_again 232.
  */
 
 /* Sizes in bytes; the path's in addresses. */
@@ -685,7 +687,7 @@ MantWritten mant_write_exchange(const uint8_t *bytes, size_t bytes_length, uint8
  *     of all zeros too, so that the records may hold anything before the first call. The first is always the one at the lowest place. Where a call changes
  *     the table it changes one record; with a refusal none, nor the last time.
  * Numbers: 10, 11, 70 to 75, 77.
- * Stack: mant_retain 656, mant_retry 688, mant_acknowledge 576.
+ * Stack: mant_retain 672, mant_retry 688, mant_acknowledge 576.
  */
 
 /* How many records a table of retained PDUs has, and how many bytes the longest PDU that it retains. */
@@ -796,7 +798,7 @@ MantOutcome mant_acknowledge(MantRetained *table, size_t records, uint64_t last,
  *     together by hand the first entry of a source counts, and an address above 65,535 is no source's. To seal, none, but the caller counts the message
  *     numbers.
  * Numbers: in sealing 1 to 6, 88, 85, 86 and 87; in opening 1 to 6, 80 to 84 and 87.
- * Stack: mant_seal 1,424, mant_open 1,504.
+ * Stack: mant_seal 1,432, mant_open 1,504.
  */
 
 #define MANT_SOURCE_LIMIT 64

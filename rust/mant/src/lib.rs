@@ -1,13 +1,14 @@
 //! The MANT layer of ALERT2: the C library libmant.a with Rust types.
 //!
 //! Every function answers for every input and allocates nothing. An output is
-//! changed only where a PDU or an exchange is written to it, and keeps its
-//! bytes past the end of that. An edition is [`EDITION_1_1`] or
-//! [`EDITION_1_2`], and any other number is refused before all else; the path,
-//! exchanges and queues need none. [`Stations`] holds the stations that a box has
-//! heard, [`Queue`] the PDUs that wait to be sent, [`Reliable`] those that wait
-//! for their acknowledgement, [`Record`] the last message numbers of encrypted
-//! PDUs. [`raw`] gives the library's structs as they are.
+//! changed only where a PDU, its plain payload or an exchange is written to it,
+//! and keeps its bytes past the end of that. An edition is [`EDITION_1_1`] or
+//! [`EDITION_1_2`], and any other number is refused before all else; what takes
+//! none is the same under both, or, as sealing, is of 1.2 alone. [`Stations`]
+//! holds the stations that a box has heard, [`Queue`] the PDUs that wait to be
+//! sent, [`Reliable`] those that wait for their acknowledgement, [`Record`] the
+//! last message numbers of encrypted PDUs. [`raw`] gives the library's structs
+//! as they are.
 //!
 //! What is refused is a [`Refusal`], with its number and its meaning; the
 //! functions below name the numbers in the order in which they are looked for,
