@@ -1,6 +1,7 @@
 """What ./relay, ./reach, ./plan and ./show share: the ways in which a command ends, what it is given, its text written, and a program that it asks."""
 import os
 import pathlib
+import stat
 import subprocess
 import sys
 
@@ -11,14 +12,30 @@ class End(Exception):
     """An exit status, and why, in words; without words it ends silently."""
 
 
-def content_of(name):
-    """The bytes of a file, or of standard input for `-`."""
-    if name == '-' and sys.stdin is None:
-        raise End(2, 'standard input is closed')
+def is_given():
+    """Whether something was given on standard input, by a pipe or a file."""
     try:
-        return sys.stdin.buffer.read() if name == '-' else pathlib.Path(name).read_bytes()
+        mode = os.fstat(0).st_mode
+    except OSError:
+        return False
+    return stat.S_ISFIFO(mode) or stat.S_ISREG(mode)
+
+
+def typed(name, what):
+    """The bytes of standard input; at a terminal it says what it waits for."""
+    if sys.stdin is None:
+        raise End(2, 'standard input is closed')
+    if sys.stdin.isatty():
+        building.say(f'{name}: type or paste {what}, then Ctrl-D')
+    return sys.stdin.buffer.read()
+
+
+def content_of(name, file, what):
+    """The bytes of a file, or of standard input for `-`."""
+    try:
+        return typed(name, what) if file == '-' else pathlib.Path(file).read_bytes()
     except OSError as error:
-        raise End(2, f'{name}: {error.strerror}') from error
+        raise End(2, f'{file}: {error.strerror}') from error
 
 
 def write_out(text):
