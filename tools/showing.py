@@ -5,6 +5,7 @@ from places import exchange_place, place_of
 
 OBSERVER = mant.Node(own=0, echo=False, repeating=False)  # walks a batch and drops nothing
 LENGTHS_ALONE = '\n      PDUs are found by their lengths alone: where an earlier one was cut, none need begin here'
+SERIAL = '\n      the bytes are a serial exchange: --exchange shows it'
 
 
 class Refusal(Exception):
@@ -15,11 +16,19 @@ def refusal(number, place, what=''):
     return Refusal(f'{what}refused, {number}: {number.meaning}' + (f'\n      found {place}' if place else ''))
 
 
+def is_exchange(content):
+    try:
+        return mant.read_exchange(content) is not None
+    except mant.Refused:
+        return False
+
+
 def pdu(content, edition):
     try:
         header = mant.read(content, edition)
     except mant.Refused as refused:
-        raise refusal(refused.number, place_of(refused.number, content)) from refused
+        place = place_of(refused.number, content)
+        raise refusal(refused.number, place + SERIAL if place and is_exchange(content) else place) from refused
     yield from pdu_lines('PDU of ', header, edition)
     after = content[header.pdu_length:]
     if after:
