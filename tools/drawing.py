@@ -6,7 +6,7 @@ import re
 TITLE = re.compile(r'hop limit (\d), originator (\d+)')
 NODE = re.compile(r'node (\d+): (?:(the originator)|chain of (\d+) hearings?, (?:delivered with path count \d+|out of reach)|no chain, out of reach)')
 KINDS = ('originator', 'delivered', 'out of reach', 'no chain')
-SPACE, DISC, MARGIN, LEGEND, LEAST, ROOM = 76, 21, 24, 86, 560, 52
+SPACE, DISC, MARGIN, LEGEND, LEAST, ROOM = 76, 21, 24, 86, 620, 52
 STYLE = ('<style>text{font-family:sans-serif;font-size:12px;fill:#222}.name{text-anchor:middle}.light{fill:#fff;font-weight:bold}.strong{font-weight:bold}'
          '.originator{fill:#111;stroke:#111}.delivered{fill:#2a7f74;stroke:#2a7f74}.out-of-reach,.no-chain{fill:#fff;stroke:#c2410c;stroke-width:3}'
          '.no-chain{stroke-dasharray:5 3}.chain{stroke:#333;stroke-width:2;fill:none}.other{stroke:#888;stroke-width:1;fill:none}'
@@ -161,7 +161,8 @@ def off_line(point, start, end):
 
 
 def length_places(radii, at, below):
-    """Where the rings' lengths are written: on one ray, in the direction in which the nearest disc or straight arrow is farthest; not where that is near."""
+    """Where the rings' lengths are written: on one ray, in the direction in which the nearest disc or straight arrow is farthest; not where that is near, and
+    not straight to a side, where one would cover the next."""
     lines = [(at[one], at[other]) for one in below for other in [one, *below[one]]]
 
     def places(turn):
@@ -170,7 +171,7 @@ def length_places(radii, at, below):
     def room(point):
         return min(ROOM, *(off_line(point, *line) for line in lines), ROOM)
 
-    best = max((places(math.pi * part / 6) for part in range(12)), key=lambda some: min(map(room, some.values()), default=0))
+    best = max((places(math.pi * part / 6) for part in range(12) if part % 6 != 3), key=lambda some: min(map(room, some.values()), default=0))
     return {ring: point for ring, point in best.items() if room(point) == ROOM}
 
 
@@ -181,11 +182,12 @@ def length_names(hop_limit, places):
 
 
 def box(points, last, names):
-    """The part of the plane that shows all nodes, the last ring that is reached and the rings' names: left, top, width, height."""
+    """The part of the plane that shows all nodes, the rings up to the last that is reached, and the rings' names: left, top, width, height."""
     sides = [(x - DISC, x + DISC, y - DISC, y + DISC) for x, y in points] + [(-last, last, -last, last)] + [(x - 40, x + 40, y - 8, y + 8) for x, y in names]
     left, right = min(side[0] for side in sides) - MARGIN, max(side[1] for side in sides) + MARGIN
     top, bottom = min(side[2] for side in sides) - MARGIN, max(side[3] for side in sides) + MARGIN
-    return left, top, max(right - left, LEAST), bottom - top
+    spare = max(LEAST - (right - left), 0)
+    return left - spare / 2, top, right - left + spare, bottom - top
 
 
 def hearing_lines(hearings, below, at):
@@ -215,7 +217,7 @@ def svg(text, answer):
     move_apart(lengths, radii, angles)
     at = {node: (radii[length] * math.cos(angles[node]), radii[length] * math.sin(angles[node])) for node, length in lengths.items()}
     names = length_places(radii, at, below)
-    left, top, width, height = box(at.values(), radii.get(hop_limit + 1, 0), names.values())
+    left, top, width, height = box(at.values(), max(radii[length] for length in radii if length is not None and length <= hop_limit + 1), names.values())
     size = f'width="{width:.0f}" height="{height + LEGEND:.0f}"'
     rings = [f'<circle class="ring{" last" * (length == hop_limit + 1)}" r="{radius:.1f}"/>' for length, radius in radii.items() if length]
     parts = [f'<svg xmlns="http://www.w3.org/2000/svg" {size} viewBox="{left:.1f} {top:.1f} {width:.1f} {height + LEGEND:.1f}">', STYLE,
