@@ -68,6 +68,8 @@ FUNCTIONS = {
 def library():
     """The library, loaded at the first call: the file that MANT_LIB names, or the one that is built here."""
     named = os.environ.get('MANT_LIB')
+    if named and os.path.exists(named):
+        named = os.path.abspath(named)  # a name without a folder would be sought in the system's
     try:
         loaded = ctypes.CDLL(named or str(LIBRARY))
     except OSError as error:

@@ -57,8 +57,9 @@ def program():
 
 
 def reach(hop_limit, heard_by):
-    """Who is delivered a report with this hop limit, 0 to 6, where `heard_by` has for each node the nodes that hear it; the first is the originator. A
-    network that is refused raises ValueError. It holds on the conditions that `./reach` prints. The first call proves and builds the program `reach`.
+    """Who is delivered a report with this hop limit, 0 to 6, where `heard_by` has for each node the nodes that hear it, as a dict or as pairs; the first is
+    the originator. A network that is refused raises ValueError. It holds on the conditions that `./reach` prints. The first call proves and builds the
+    program `reach`.
 
     >>> found = reach(1, {1200: [2001, 2002], 2001: [2003], 2003: [2004]})
     >>> found.out_of_reach, found.least_hop_limit
@@ -66,7 +67,7 @@ def reach(hop_limit, heard_by):
     >>> found.nodes[3]
     Reached(address=2003, chain=2, path_count=1)
     """
-    lines = [[node, *hearing] for node, hearing in dict(heard_by).items()]
+    lines = [[node, *_hearing(node, nodes)] for node, nodes in (heard_by.items() if hasattr(heard_by, 'items') else heard_by)]
     if not lines:
         raise ValueError('heard_by names no node; the first is the originator')
     text = f'{whole("hop_limit", hop_limit, MOST_HOPS)}\n'
@@ -78,6 +79,12 @@ def reach(hop_limit, heard_by):
         raise ValueError(REFUSAL.sub('', run.stderr.strip()).replace('the text', 'the network as a text'))
     least = LEAST.search(run.stdout)
     return Reach(tuple(map(_reached, NODE.findall(run.stdout))), int(least.group(1)) if least else None)
+
+
+def _hearing(node, nodes):
+    if isinstance(nodes, int):
+        raise TypeError(f'what hears {node} is {nodes}; give the addresses that hear it, as [{nodes}]')
+    return nodes
 
 
 def _reached(found):

@@ -120,6 +120,9 @@ def planning():
     same('reach', found, mant.Reach((mant.Reached(7, 0, None), mant.Reached(8, 1, 0), mant.Reached(9, 2, 1), mant.Reached(10, 3, None),
                                      mant.Reached(11, None, None)), None))
     same('out of reach', found.out_of_reach, (10, 11))
+    same('reach, in pairs', mant.reach(1, [(7, [8]), (8, [9]), (9, [10]), (11, [7])]), found)
+    same('a node named twice', mant.reach(1, [(7, [8]), (7, [9])]).out_of_reach, ())
+    same('a hearing that is no list', raised(mant.reach, 1, {1: 2}), ('TypeError', 'what hears 1 is 2; give the addresses that hear it, as [2]'))
     for words, said in (((7, {1: [2]}), 'hop_limit is 7; it can be 0 to 6'), ((1, {}), 'heard_by names no node; the first is the originator'),
                         ((1, {1: [70000]}), 'an address is 70000; it can be 0 to 65535'), ((1, {1: range(2, 257)}), 'there are more than 255 nodes'),
                         ((1, {1: [1] * 16385}), 'there are more than 16384 hearings'),
