@@ -275,6 +275,7 @@ two-lists =
       walks = λ edition node room batch clean. chosen-walk edition node clean room batch;
       stepping-walks = stepping-walks-so;
       choices = λ first second. (refl, refl, refl, refl, refl, refl);
+      changing-over = λ settings lists a b c d. (refl, refl, refl, refl, refl, refl, refl, refl, refl);
       second-alone-stops = (refl, refl, refl, refl);
       first-alone-stops = (refl, refl, refl, refl);
       empty-chosen = (refl, refl, refl);

@@ -14,7 +14,7 @@ use Rattle.pdu.specs.Header.{headerOf}
 use Rattle.editions.specs.Editions.{known}
 use Rattle.origin.specs.declared.Settings as asked
 use Rattle.origin.specs.Origination.{fresh}
-use Rattle.lists.specs.Lists.{faultOf, listFault}
+use Rattle.lists.specs.Lists.{faultOf, listsOf, listFault}
 use Rattle.decision.specs.Decision.{Node}
 use Rattle.node.specs.declared.Answer.{Answer}
 use Rattle.node.specs.Repeat.{repeated}
@@ -52,6 +52,19 @@ listInOrder lists k = getD (inOrderOfKinds lists) k []
 -- lists for all kinds, the first and the second of each, in the order in which they are checked
 abbrev pub eightInOrder : List ℕ → List ℕ → List ℕ → List ℕ → List ℕ → List ℕ → List ℕ → List ℕ → EightLists
 eightInOrder a b c d e f g h = eightOf (two a b) (two c d) (two e f) (two g h)
+
+-- settings with other choices; all else in them is as it was
+abbrev pub changedTo : Choice → Choice → Choice → Choice → SeasonSettings → SeasonSettings
+changedTo a b c d settings =
+    record {
+      own = settings .own;
+      echo = settings .echo;
+      repeating = settings .repeating;
+      «source_pass» = a;
+      «source_reject» = b;
+      «destination_pass» = c;
+      «destination_reject» = d;
+    }
 
 -- a node of a network (demand 3) with two lists of each kind, and the bytes of its output; as a node of 01 with the lists chosen
 pub record SeasonRepeater : Type 0 where
@@ -151,6 +164,17 @@ pub record TwoLists : Type 0 where
   -- what a choice chooses
   pub choices : (first second : List ℕ) → (chosenOf First (two first second) ≡ first) × (chosenOf Second (two first second) ≡ second)
       × (chosenOf Neither (two first second) ≡ []) × (isChosen First ≡ true) × (isChosen Second ≡ true) × (isChosen Neither ≡ false)
+  -- changing over is changing the choice alone: own address, echo and repeating stay, and so does what the eight lists are checked for; each kind's list
+  -- is then the one chosen
+  pub changing-over : (settings : SeasonSettings) (lists : EightLists) (a b c d : Choice)
+      → let node = seasonNodeOf (changedTo a b c d settings) lists in
+      (chosenNode node .settings .own ≡ settings .own) × (chosenNode node .settings .echo ≡ settings .echo)
+      × (chosenNode node .settings .repeating ≡ settings .repeating) × (eightFault (node .lists) ≡ eightFault lists)
+      × (chosenNode node .settings .«source_pass» ≡ isChosen a) × (chosenNode node .settings .«source_reject» ≡ isChosen b)
+      × (chosenNode node .settings .«destination_pass» ≡ isChosen c) × (chosenNode node .settings .«destination_reject» ≡ isChosen d)
+      × (chosenNode node .lists
+      ≡ listsOf (chosenOf a (lists .sourcePass)) (chosenOf b (lists .sourceReject)) (chosenOf c (lists .destinationPass))
+      (chosenOf d (lists .destinationReject)))
   -- the one law: a node whose eight lists have no fault answers as a node of 01 with the four chosen lists would, which have none either, under any
   -- edition; so does its step and its walk, and what they leave
   pub chosen-without-fault : (node : SeasonNode) → eightFault (node .lists) ≡ 0 → listFault (chosenNode node .lists) ≡ 0
