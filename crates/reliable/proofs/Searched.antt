@@ -16,16 +16,16 @@ use prog.Wp.{Heap, Env, Calls, Loops}
 use ghost.Atoms.{Atoms, sem}
 use contract.Monad.{Fun, fact}
 use sound.WpLaws.{FmC}
-use types.Kit.{Given, Item, Seq, Post, runs, lands, ‵, raw, _⊛_, some, later, ⋆, _$_, _∵_, !, qed, move, use2, drop, split, join, pick, fjoin, frame, await, done}
+use types.Kit.{Given, Item, Seq, Post, runs, lands, ‵, raw, _⊛_, some, later, ⋆, _$_, _∵_, !, qed, move, use2, drop, split, join, pick, fjoin}
+use types.Kit.{frame, await, done}
 use types.Run.{Opds}
 use types.Tokens.{lft-new, lft-end}
-use denote.Laws.{Is}
 use denote.Ref.{RefT}
 use denote.Slice.{sliceVal, MutSlice, ShrSlice, Room}
 use denote.Struct.Laws as LL
 use denote.Triple.Statement.{Contract, Triple}
 use denote.Triple.Call.{calls-at}
-use denote.Steps.{owned, nothing}
+use denote.Steps.{nothing}
 use denote.Triple.Spec.{tripleOf}
 use denote.Triple.Clauses.{ensured, lasts}
 use Rattle.retained.specs.declared.Retained.{Retained}
@@ -33,20 +33,13 @@ use Rattle.deciding.specs.declared.Ask.{Ask}
 use Rattle.deciding.specs.declared.Effect.{Effect}
 use Rattle.deciding.specs.Deciding.{effectOn}
 use Rattle.retained.proofs.Retained as T
-use Rattle.deciding.proofs.Ask as Q
-use Rattle.deciding.proofs.Ask.Laws as Q′
 use Rattle.deciding.proofs.Effect as F
 use Rattle.deciding.proofs.Effect.Laws as F′
 use Rattle.reliable.proofs.Shared.{LentShared, lends-shared, back-shared}
 use Rattle.reliable.proofs.Calls.{told}
+use Rattle.reliable.proofs.Values.{qval, fval, IsQ, IsF, own-q}
 use Rattle.reliable.proofs.search as search
 use Rattle.reliable.proofs.search.Symbol as search-def
-
-abbrev qval : Ask → Val
-qval = LL.val Q.the-type Q′.the-laws
-
-abbrev fval : Effect → Val
-fval = LL.val F.the-type F′.the-laws
 
 module _ {M : Type 1} (𝓤 : URA M) (H : Heap 𝓤) (A : Atoms 𝓤) (mem : Memory → SProp 𝓤) (run : Routine → Fun 𝓤) where
   abbrev pub Search : Contract 𝓤
@@ -72,11 +65,11 @@ module _ {M : Type 1} (𝓤 : URA M) (H : Heap 𝓤) (A : Atoms 𝓤) (W : Given
   abbrev pub kept : ℕ → Fml
   kept α = LentShared T.the-row κ (α ∷ []) q γ b o ys
 
-  pre : (α : ℕ) (δ : GName) → Is Q.the-row a (qval a ∷ []) → ent 𝓤 (⋆ 𝓤 H A (‵ (flft (α ∷ []) fullShare) ∷ ‵ (Shr α δ) ∷ []))
+  pre : (α : ℕ) (δ : GName) → IsQ a → ent 𝓤 (⋆ 𝓤 H A (‵ (flft (α ∷ []) fullShare) ∷ ‵ (Shr α δ) ∷ []))
       (Search 𝓤 H A mem run .pre (asked α δ))
   pre α δ ga =
       qed W (‵ (flft (α ∷ []) fullShare) ∷ ‵ (Shr α δ) ∷ []) ∵ nothing ! $ move ! (1 ∷ 0 ∷ []) $ join ! $
-      nothing ! $ owned ! Q.the-row (Is Q.the-row) (LL.makes Q.the-type Q′.the-plain 𝓤 H A) a _ ga $ fjoin ! $ move ! (2 ∷ 0 ∷ []) $ fjoin ! $
+      nothing ! $ own-q ! a ga $ fjoin ! $ move ! (2 ∷ 0 ∷ []) $ fjoin ! $
       move ! (1 ∷ 0 ∷ []) $ join ! $ frame ! $ done !
 
   said : (α : ℕ) (δ : GName) (e : Effect) → ent 𝓤 (ensured 𝓤 H A search.ended (search.clauses 𝓤 H A mem run) (α ∷ [], tt) (x δ, (a, tt)) tt e)
@@ -84,9 +77,9 @@ module _ {M : Type 1} (𝓤 : URA M) (H : Heap 𝓤) (A : Atoms 𝓤) (W : Given
   said α δ e = exE 𝓤 _ (λ ws. snd∗ 𝓤 (sem 𝓤 H A (lasts search.ended (α ∷ [], tt) (x δ, (a, tt)) ws)) (fact 𝓤 (e ≡ effectOn a ys)))
 
   pub searched : {K : Type 0} {Γ : List (Item 𝓤)} {E : Env 𝓤 H} {C : Calls 𝓤 H} {Λ : Loops 𝓤 H} {xs : List Operand} {d : Place} {rest : Body} {p : Post 𝓤 H}
-      → K → FmC 𝓤 H (W .laws) C → Triple 𝓤 (C search-def.name) (Search 𝓤 H A mem run) → Is Q.the-row a (qval a ∷ []) → Room T.the-row (length ys)
+      → K → FmC 𝓤 H (W .laws) C → Triple 𝓤 (C search-def.name) (Search 𝓤 H A mem run) → IsQ a → Room T.the-row (length ys)
       → ((α : ℕ) (δ : GName) → Opds K W (raw (Search 𝓤 H A mem run .pre (asked α δ)) ∷ ‵ (kept α) ∷ Γ) E xs (Search 𝓤 H A mem run .args (asked α δ)))
-      → ((e : Effect) → Is F.the-row e (fval e ∷ []) → e ≡ effectOn a ys → Seq K W (‵ Own ∷ ‵ (flft κ q) ∷ Γ) (lands C Λ E d (fval e) rest p))
+      → ((e : Effect) → IsF e → e ≡ effectOn a ys → Seq K W (‵ Own ∷ ‵ (flft κ q) ∷ Γ) (lands C Λ E d (fval e) rest p))
       → Seq K W (‵ (flft κ q) ∷ ‵ Own ∷ Γ) (runs C Λ E (seq (call search-def.name xs d) rest) p)
   searched t fm known ga gn os k =
       move t (1 ∷ 0 ∷ []) $ lft-new t tt (λ α. move t (1 ∷ 2 ∷ []) $

@@ -15,7 +15,7 @@ use base.Logic.{ent, sep, ex}
 use base.Fml.{Lft, GName, Share, Fml, fsep, flft, fdead, fobs, fauth, flent, fobor}
 use prog.Wp.{Heap}
 use ghost.Atoms.{Atoms, sem}
-use types.Kit.{Given, ‵, _⊛_, some, later, _$_, _∵_, !, qed, move, use1, use2, drop, split, pick, fsplit, fjoin, feqI, frame, await, updating}
+use types.Kit.{Given, ‵, _⊛_, some, later, _$_, _∵_, !, qed, move, use1, drop, split, pick, fsplit, fjoin, feqI, frame, await, updating}
 use types.Kit.{now as at-once, show, done}
 use types.Share.{arr-parts}
 use types.Tokens.{lent-back}
