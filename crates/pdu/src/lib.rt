@@ -1,13 +1,10 @@
 // A PDU: its header and its limits, reading it, and its parts.
+mod fields;
 pub mod parts;
 
 ghost use mathlib.Core.Path.{_≡_};
 ghost use Prim.Native.Nat.{_+_, _*_, _<_, _≤_};
-ghost use mathlib.Core.Bool.{not, _&&_};
-ghost use lib.Dec.{eqb, ltb};
-ghost use Rattle.octets.specs.Numbers.{_gives_, _orElse_};
-ghost use Rattle.pdu.specs.Header.{isSet, version, protocol, pathBit, destinationBit, payloadLength};
-ghost use Rattle.pdu.specs.Header.{pduIdPlace, pathCountPlace, destinationIn, pduIdIn, pathCountIn, headerOf};
+ghost use Rattle.pdu.specs.Header.{headerOf};
 ghost use Rattle.pdu.specs.Sizes.{limits, pathLimit, headerLimit, pduLimit, destinationFlag, pathEntries, pathStart, headerLength, pduLength};
 ghost use Rattle.pdu.specs.Reading.{readOf, refusalNumber, readingNumber, noExtent, extentOf};
 use octets::byte_value;
@@ -165,15 +162,15 @@ pub fn read(bytes: &[u8]) -> Reading
     if bytes.len() < Header::FIXED_LENGTH {
         return Reading::Refused(Refusal::TooShort);
     }
-    let first = first_byte_fault(bytes[0]);
+    let first = fields::first_byte_fault(bytes[0]);
     if first != 0 {
         return Reading::Refused(refusal_of(first));
     }
-    let header = header_from(
+    let header = fields::header_from(
         bytes,
-        destination_in(bytes),
-        pdu_id_in(bytes),
-        path_count_in(bytes),
+        fields::destination_in(bytes),
+        fields::pdu_id_in(bytes),
+        fields::path_count_in(bytes),
     );
     if bytes.len() < header.header_length() {
         return Reading::Refused(Refusal::HeaderCut);
@@ -201,16 +198,16 @@ pub fn extent_of(bytes: &[u8]) -> Extent
         return no_extent(1);
     }
     let byte0 = bytes[0];
-    let first = first_byte_fault(byte0);
+    let first = fields::first_byte_fault(byte0);
     if first != 0 {
         return no_extent(first);
     }
-    let path_count = path_count_in(bytes);
-    let header_length = header_length_in(byte0, path_count);
+    let path_count = fields::path_count_in(bytes);
+    let header_length = fields::header_length_in(byte0, path_count);
     if bytes.len() < header_length {
         return no_extent(5);
     }
-    let payload_length = payload_length(bytes[2], bytes[3]);
+    let payload_length = fields::payload_length(bytes[2], bytes[3]);
     let pdu_length = header_length + word_value(payload_length);
     if bytes.len() < pdu_length {
         return no_extent(6);
@@ -234,21 +231,6 @@ fn no_extent(number: u8) -> Extent
         header_length: 0,
         pdu_length: 0,
     }
-}
-
-// What byte 0 alone is refused for: 2, 3 or 4, or 0.
-fn first_byte_fault(byte0: u8) -> u8
-    ensures { λ r. ⌜ r ≡ (not (eqb (version byte0) 0) gives 2
-        orElse ltb 1 (protocol byte0) gives 3
-        orElse (eqb (protocol byte0) 1 && not (isSet (destinationBit byte0))) gives 4) ⌝ }
-{
-    if byte0 / 64 != 0 {
-        return 2;
-    }
-    if 1 < byte0 / 8 % 8 {
-        return 3;
-    }
-    if no_destination(byte0) { 4 } else { 0 }
 }
 
 // The refusal that has a number, 1 to 6.
@@ -295,11 +277,11 @@ pub fn reading_number(reading: Reading) -> u8
 pub fn header_of(bytes: &[u8]) -> Header
     ensures { λ r. ⌜ r ≡ headerOf (now (bytes .entry)) ⌝ }
 {
-    header_from(
+    fields::header_from(
         bytes,
-        destination_in(bytes),
-        pdu_id_in(bytes),
-        path_count_in(bytes),
+        fields::destination_in(bytes),
+        fields::pdu_id_in(bytes),
+        fields::path_count_in(bytes),
     )
 }
 
@@ -308,101 +290,7 @@ pub fn header_of(bytes: &[u8]) -> Header
 pub fn pdu_length_in(bytes: &[u8]) -> usize
     ensures { λ r. ⌜ (r ≡ pduLength (headerOf (now (bytes .entry)))) × (r ≤ pduLimit) ⌝ }
 {
-    let payload = payload_length(octets::byte(bytes, 2), octets::byte(bytes, 3));
-    header_length_in(octets::byte(bytes, 0), path_count_in(bytes)) + word_value(payload)
-}
-
-// The same header, once its fields that may be missing were found.
-fn header_from(bytes: &[u8], destination: Destination, pdu_id: u8, path_count: u8) -> Header
-    requires { ⌜ (destination ≡ destinationIn (now bytes)) × («pdu_id» ≡ pduIdIn (now bytes)) × («path_count» ≡ pathCountIn (now bytes)) ⌝ }
-    ensures { λ r. ⌜ r ≡ headerOf (now (bytes .entry)) ⌝ }
-{
-    let byte0 = octets::byte(bytes, 0);
-    let byte1 = octets::byte(bytes, 1);
-    let byte2 = octets::byte(bytes, 2);
-    Header {
-        protocol: byte0 / 8 % 8,
-        time_stamp_request: byte0 / 4 % 2 == 1,
-        path_bit: byte0 / 2 % 2 == 1,
-        port: byte1 / 16,
-        encrypted: byte1 / 8 % 2 == 1,
-        reserved: byte1 / 2 % 4,
-        ack: byte1 % 2 == 1,
-        added_header: byte2 / 128 == 1,
-        hop_limit: byte2 / 16 % 8,
-        payload_length: payload_length(byte2, octets::byte(bytes, 3)),
-        source: octets::word(bytes, 4),
-        destination,
-        pdu_id,
-        path_count,
-    }
-}
-
-// Reliable service without a destination.
-fn no_destination(byte0: u8) -> bool
-    ensures { λ r. ⌜ r ≡ (eqb (protocol byte0) 1 && not (isSet (destinationBit byte0))) ⌝ }
-{
-    if byte0 / 8 % 8 == 1 {
-        byte0 % 2 != 1
-    } else {
-        false
-    }
-}
-
-fn payload_length(byte2: u8, byte3: u8) -> u16
-    ensures { λ r. ⌜ r ≡ payloadLength byte2 byte3 ⌝ }
-{
-    (byte2 % 16) as u16 * 256 + byte3 as u16
-}
-
-fn pdu_id_place(byte0: u8) -> usize
-    ensures { λ r. ⌜ r ≡ pduIdPlace byte0 ⌝ }
-{
-    Header::FIXED_LENGTH + 2 * byte_value(byte0 % 2)
-}
-
-fn path_count_place(byte0: u8) -> usize
-    ensures { λ r. ⌜ (r ≡ pathCountPlace byte0) × (r ≤ 9) ⌝ }
-{
-    pdu_id_place(byte0) + byte_value(octets::flag(byte0 / 8 % 8 == 1))
-}
-
-// The header's length by its bytes: up to the path count, the count's own byte if the path bit is set, and 2 bytes for each address.
-fn header_length_in(byte0: u8, path_count: u8) -> usize
-    ensures { λ r. ⌜ (r ≡ pathCountPlace byte0 + pathBit byte0 + 2 * «path_count») × (r ≤ headerLimit) ⌝ }
-{
-    path_count_place(byte0) + byte_value(byte0 / 2 % 2) + 2 * byte_value(path_count)
-}
-
-fn destination_in(bytes: &[u8]) -> Destination
-    ensures { λ r. ⌜ r ≡ destinationIn (now (bytes .entry)) ⌝ }
-{
-    let byte0 = octets::byte(bytes, 0);
-    if byte0 % 2 == 1 {
-        Destination::Address(octets::word(bytes, Header::FIXED_LENGTH))
-    } else {
-        Destination::Everyone
-    }
-}
-
-fn pdu_id_in(bytes: &[u8]) -> u8
-    ensures { λ r. ⌜ r ≡ pduIdIn (now (bytes .entry)) ⌝ }
-{
-    let byte0 = octets::byte(bytes, 0);
-    if byte0 / 8 % 8 == 1 {
-        octets::byte(bytes, pdu_id_place(byte0))
-    } else {
-        0
-    }
-}
-
-fn path_count_in(bytes: &[u8]) -> u8
-    ensures { λ r. ⌜ r ≡ pathCountIn (now (bytes .entry)) ⌝ }
-{
-    let byte0 = octets::byte(bytes, 0);
-    if byte0 / 2 % 2 == 1 {
-        octets::byte(bytes, path_count_place(byte0))
-    } else {
-        0
-    }
+    let payload = fields::payload_length(octets::byte(bytes, 2), octets::byte(bytes, 3));
+    fields::header_length_in(octets::byte(bytes, 0), fields::path_count_in(bytes))
+        + word_value(payload)
 }

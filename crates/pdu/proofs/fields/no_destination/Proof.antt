@@ -1,6 +1,6 @@
 use borrow.Author.Tests.{eq-eqb, ne-eqb}
-use Rattle.pdu.proofs.no_destination.Statement.{statement}
-use Rattle.pdu.proofs.no_destination.Tie as tie
+use Rattle.pdu.proofs.fields.no_destination.Statement.{statement}
+use Rattle.pdu.proofs.fields.no_destination.Tie as tie
 
 returns : tie.Need-returns
 returns c = simp (eq-eqb _ _ (c .if1 .taken))

@@ -4,8 +4,8 @@ use Rattle.octets.proofs.Numbering.{gives-here, gives-later, gives-last, gives-
 use borrow.Author.Tests.{lt-ltb, le-ltb, eq-eqb, ne-eqb}
 use native.Mathlib.Omega.{arith}
 use borrow.Author.Needs.{needs}
-use Rattle.pdu.proofs.first_byte_fault.Statement.{statement}
-use Rattle.pdu.proofs.first_byte_fault.Tie as tie
+use Rattle.pdu.proofs.fields.first_byte_fault.Statement.{statement}
+use Rattle.pdu.proofs.fields.first_byte_fault.Tie as tie
 
 returns : tie.Need-returns
 returns c = sym (gives-here _ 2 _ (omega arith) (ap not (ne-eqb _ _ (c .if1 .taken))))

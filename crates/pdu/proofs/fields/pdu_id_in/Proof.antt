@@ -1,7 +1,7 @@
 use borrow.Author.Tests.{eq-eqb, ne-eqb}
 use borrow.Author.Needs.{needs}
-use Rattle.pdu.proofs.pdu_id_in.Statement.{statement}
-use Rattle.pdu.proofs.pdu_id_in.Tie as tie
+use Rattle.pdu.proofs.fields.pdu_id_in.Statement.{statement}
+use Rattle.pdu.proofs.fields.pdu_id_in.Tie as tie
 
 byte-requires : tie.Need-byte-requires
 byte-requires c κs = search needs

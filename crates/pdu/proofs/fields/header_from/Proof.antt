@@ -2,8 +2,8 @@ use mathlib.Core.Path.{ap, _∙_}
 use Rattle.pdu.specs.Header.{payloadLength}
 use Rattle.pdu.proofs.Showing.{header-is}
 use borrow.Author.Needs.{needs}
-use Rattle.pdu.proofs.header_from.Statement.{statement}
-use Rattle.pdu.proofs.header_from.Tie as tie
+use Rattle.pdu.proofs.fields.header_from.Statement.{statement}
+use Rattle.pdu.proofs.fields.header_from.Tie as tie
 
 byte-requires : tie.Need-byte-requires
 byte-requires c κs = search needs
