@@ -18,10 +18,13 @@ use Rattle.writing.specs.Writing.{onlyIf, headerBytes}
 use Rattle.sources.specs.Sources.{Accepted, capacity, entriesFrom, recordIn, placeOf, isHeld, lastNumber, numberFault, sourceFault}
 use Rattle.sources.proofs.Laws.{length-record}
 use Rattle.sources.proofs.Noting.{last-accepted, last-other}
-use Rattle.sealing.specs.Protection.{hashedHeader}
-use Rattle.sealing.specs.Sealing.{sealedHeader, sealNumber, sealWritten, sealOutput}
-use Rattle.sealing.proofs.Deciding as sealing
-use Rattle.opening.specs.Opening.{openNumber, openWritten, openOutput, memoryAfterOpening}
+use Rattle.message.specs.Protection.{hashedHeader}
+use Rattle.message.specs.Sealable.{sealNumber}
+use Rattle.message.proofs.Sealable as sealing
+use Rattle.sealing.specs.Sealing.{sealedHeader, sealWritten, sealOutput}
+use Rattle.genuine.specs.Genuine.{plainLength}
+use Rattle.opening.specs.Opening.{genuine, openNumber, openWritten, openOutput, memoryAfterOpening}
+use Rattle.opening.proofs.Sealed as keyless
 use Rattle.opening.proofs.Deciding as opening
 use Rattle.protection.proofs.Hashed.{hashedFields, hashed-shown}
 use Rattle.protection.proofs.Repeats.{heard-alike, open-alike, plain-alike, memory-alike}
@@ -168,23 +171,27 @@ encrypted-payloads =
         path-sent key bytes behind number room small zero,
         number-sent key bytes behind number room small zero,
       );
-      unopened = λ key memory bytes room some. opening.early-open key memory bytes room _ (opening.reading-refused memory bytes _ refl some) some;
+      unopened = λ key memory bytes room some. opening.early-open key memory bytes room _ (keyless.reading-refused memory bytes _ refl some) some;
       not-encrypted = λ key memory bytes room read e.
-          opening.early-open key memory bytes room 80 (opening.plain-refused memory bytes (headerOf bytes) refl read e) (λ z. omega arith);
+          opening.early-open key memory bytes room 80 (keyless.plain-refused memory bytes (headerOf bytes) refl read e) (λ z. omega arith);
       too-short = λ key memory bytes room read e h.
-          opening.early-open key memory bytes room 81 (opening.short-refused memory bytes (headerOf bytes) refl read e h) (λ z. omega arith);
+          opening.early-open key memory bytes room 81 (keyless.short-refused memory bytes (headerOf bytes) refl read e h) (λ z. omega arith);
       replayed = λ key memory bytes room read e h f.
-          opening.early-open key memory bytes room 82 (opening.keyless-number memory bytes read e h 82 f) (λ z. omega arith);
-      keyless = opening.keyless-none;
+          opening.early-open key memory bytes room 82 (keyless.keyless-number memory bytes read e h 82 f) (λ z. omega arith);
+      keyless = keyless.keyless-none;
       genuine-only = λ key bytes read long g. genuine-only bytes (read-0 bytes read) key long g;
       genuine-where = genuine-where;
       hash-differs = λ key memory bytes room none g.
-          opening.open-late key memory bytes room none ∙ sym (opening.not-genuine _ _ room memory _ g);
+          opening.open-late key memory bytes room none ∙ sym (opening.not-genuine memory bytes room _ (genuine key bytes) refl g);
       no-room-for-source = λ key memory bytes room none g f.
-          opening.open-late key memory bytes room none ∙ sym (opening.source-refused _ _ room memory _ g 84 (sym f) (λ z. omega arith));
+          opening.open-late key memory bytes room none
+          ∙ sym (opening.source-refused memory bytes room _ (genuine key bytes) refl g (headerOf bytes) 84 refl (sym f) (λ z. omega arith));
       no-room-for-payload = λ key memory bytes room none g f h.
-          opening.open-late key memory bytes room none ∙ sym (opening.room-refused _ _ room memory _ g f h);
-      opens = λ key memory bytes room none g f h. opening.open-late key memory bytes room none ∙ sym (opening.none-refused _ _ room memory _ g f h);
+          opening.open-late key memory bytes room none
+          ∙ sym (opening.room-refused memory bytes room _ (genuine key bytes) refl g (headerOf bytes) 0 refl (sym f) refl (plainLength bytes) refl h);
+      opens = λ key memory bytes room none g f h.
+          opening.open-late key memory bytes room none
+          ∙ sym (opening.none-refused memory bytes room _ (genuine key bytes) refl g (headerOf bytes) 0 refl (sym f) refl (plainLength bytes) refl h);
       open-refused = open-nothing;
       open-done = open-done;
       open-answer = open-answer;

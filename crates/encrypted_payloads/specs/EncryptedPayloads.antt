@@ -13,10 +13,11 @@ use Rattle.pdu.specs.Reading.{readOf, readingNumber}
 use Rattle.pdu.specs.Parts.{pathIn, payloadIn}
 use Rattle.writing.specs.Writing.{onlyIf, headerBytes}
 use Rattle.sources.specs.Sources.{Accepted, capacity, recordIn, isHeld, lastNumber, numberFault, sourceFault, accepted}
-use Rattle.sealing.specs.Protection.{numberBytes, hashedHeader, hashBytes, nonceOf}
-use Rattle.sealing.specs.Sealing.{sealedHeader, sealedPdu, sealNumber, sealWritten, sealOutput}
-use Rattle.opening.specs.Opening.{sourceOf, messageNumber, deciphered, plainLength, plainPayload, genuine}
-use Rattle.opening.specs.Opening.{keylessFault, openNumber, openWritten, openOutput, memoryAfterOpening}
+use Rattle.message.specs.Protection.{numberBytes, hashedHeader, hashBytes, nonceOf}
+use Rattle.message.specs.Sealable.{sealNumber}
+use Rattle.sealing.specs.Sealing.{sealedHeader, sealedPdu, sealWritten, sealOutput}
+use Rattle.genuine.specs.Genuine.{sourceOf, messageNumber, plainLength}
+use Rattle.opening.specs.Opening.{deciphered, plainPayload, genuine, keylessFault, openNumber, openWritten, openOutput, memoryAfterOpening}
 use Rattle.protection.specs.Histories.{Repeat, heard, AllRepeat, Opening, memoryAfter, memoryAfterAll}
 
 -- a header with its hop limit 0

@@ -1,108 +1,54 @@
--- What opening answers, test by test, and what follows where it answers 0.
-use Prim.Native.Nat.{ℕ, _+_, _-_, _≤_, _<_}
+-- What opening answers once the key was used, test by test.
+use Prim.Native.Nat.{ℕ, _-_, _≤_, _<_}
 use native.Mathlib.Omega.{arith}
 use mathlib.Core.Bool.{Bool, true, false, not}
 use mathlib.Core.List.{List}
 use mathlib.Core.Path.{_≡_, refl, ap, sym, _∙_}
 use lib.Dec.{ltb}
-use lib.ListN.{length}
-use borrow.Author.Tests.{lt-ltb, le-ltb, ltb-false, ne-eqb, not-false}
+use borrow.Author.Tests.{lt-ltb, le-ltb}
 use Rattle.octets.specs.Numbers.{_gives_, _orElse_}
-use Rattle.octets.specs.Octets.{over}
-use Rattle.octets.proofs.Numbering.{orElse-zero, gives-zero, gives-here, gives-later, gives-last, gives-none, orElse-first, orElse-later}
+use Rattle.octets.proofs.Numbering.{gives-here, gives-later, gives-last, gives-none, orElse-first, orElse-later}
 use Rattle.pdu.specs.declared.Header.{Header}
-use Rattle.pdu.specs.declared.Reading.the-variants.{Pdu}
-use Rattle.pdu.specs.declared.Written.{Written}
 use Rattle.pdu.specs.Header.{headerOf}
-use Rattle.pdu.specs.Reading.{readOf, readingNumber}
-use Rattle.pdu.specs.Parts.{payloadIn}
-use Rattle.pdu.proofs.Number.{read-0}
-use Rattle.sources.specs.Sources.{recordIn, numberFault, sourceFault}
-use Rattle.sealing.specs.Protection.{numberIn}
-use Rattle.opening.specs.Opening.{sourceOf, messageNumber, plainLength, genuine, keylessFault, openNumber}
+use Rattle.sources.specs.Sources.{sourceFault}
+use Rattle.message.specs.Protection.{addedLength}
+use Rattle.genuine.specs.Genuine.{sourceOf, plainLength, genuineUnder}
+use Rattle.opening.specs.Opening.{genuine, keylessFault, openNumber}
+use Rattle.opening.proofs.Sealed.{negated, affirmed}
 
-negated : (test : Bool) → test ≡ false → not test ≡ true
-negated test e = rw e
+-- the tests after the hash, by whether it is right
+abbrev pub late : List ℕ → List ℕ → ℕ → Bool → ℕ
+late memory bytes room right = not right gives 83 orElse sourceFault (sourceOf bytes) memory orElse ltb room (plainLength bytes) gives 87
 
-affirmed : (test : Bool) → test ≡ true → not test ≡ false
-affirmed test e = rw e
+module _ (memory bytes : List ℕ) (room : ℕ) where
+  pub wrong-refused : (right : Bool) → right ≡ false → _≡_ {A = ℕ} 83 (late memory bytes room right)
+  wrong-refused right e = sym (gives-here _ 83 _ (omega arith) (negated right e))
 
--- the tests one by one: each refusal where those above it do not hold
-module _ (memory bytes : List ℕ) where
-  pub reading-refused : (fault : ℕ) → fault ≡ readingNumber (readOf bytes) → (fault ≡ 0 → ⊥) → fault ≡ keylessFault memory bytes
-  unfolding keylessFault
-  reading-refused fault e some = sym (rw (← e) (orElse-first fault _ some))
+  module _ (right found : Bool) (is : found ≡ right) where
+    pub not-genuine : found ≡ false → _≡_ {A = ℕ} 83 (late memory bytes room right)
+    not-genuine e = wrong-refused right (sym is ∙ e)
 
-  module _ (header : Header) (is : header ≡ headerOf bytes) (read : readingNumber (readOf bytes) ≡ 0) where
-    pub plain-refused : header .encrypted ≡ false → _≡_ {A = ℕ} 80 (keylessFault memory bytes)
-    unfolding keylessFault
-    plain-refused e = sym (orElse-later _ _ read ∙ gives-here _ 80 _ (omega arith) (negated (headerOf bytes .encrypted) (rw (← is) e)))
+    module _ (e : found ≡ true) (header : Header) (fault : ℕ) (known : header ≡ headerOf bytes) (ef : fault ≡ sourceFault (header .source) memory) where
+      affirms : not right ≡ false
+      affirms = affirmed right (sym is ∙ e)
 
-    module _ (encrypted : header .encrypted ≡ true) where
-      pub short-refused : header .«payload_length» < 7 → _≡_ {A = ℕ} 81 (keylessFault memory bytes)
-      unfolding keylessFault
-      short-refused h =
-          sym (orElse-later _ _ read ∙ gives-later _ 80 _ (affirmed (headerOf bytes .encrypted) (rw (← is) encrypted)) ∙ gives-here _ 81 _
-          (omega arith) (rw (← is) (lt-ltb _ _ h)))
+      source-is : fault ≡ sourceFault (sourceOf bytes) memory
+      source-is = ef ∙ ap (λ (h : Header). sourceFault (h .source) memory) known
 
-      pub number-tested : (sealed : List ℕ) (number fault : ℕ) → 7 ≤ header .«payload_length» → sealed ≡ payloadIn header bytes
-          → number ≡ numberIn sealed → fault ≡ numberFault (header .source) number (recordIn memory) → fault ≡ keylessFault memory bytes
-      unfolding keylessFault messageNumber
-      number-tested sealed number fault h es en ef =
-          let same : fault ≡ numberFault (sourceOf bytes) (numberIn (payloadIn (headerOf bytes) bytes)) (recordIn memory) = ef ∙ rw (en, es, is) in
-          same
-          ∙ sym (orElse-later _ _ read ∙ gives-later _ 80 _ (affirmed (headerOf bytes .encrypted) (rw (← is) encrypted)) ∙ gives-later _ 81 _
-          (rw (← is) (le-ltb _ _ h)))
+      pub source-refused : (fault ≡ 0 → ⊥) → fault ≡ late memory bytes room right
+      source-refused some = sym (gives-later _ 83 _ affirms ∙ rw (← source-is) (orElse-first fault _ some))
 
--- what follows where nothing is refused without the key
-pub record Sealed (memory bytes : List ℕ) : Type 0 where
-  pub read : readOf bytes ≡ Pdu (headerOf bytes)
-  pub encrypted : headerOf bytes .encrypted ≡ true
-  pub long : 7 ≤ headerOf bytes .«payload_length»
-  pub greater : numberFault (sourceOf bytes) (messageNumber bytes) (recordIn memory) ≡ 0
+      module _ (none : fault ≡ 0) (size : ℕ) (ez : size ≡ header .«payload_length» - addedLength) where
+        size-is : size ≡ plainLength bytes
+        size-is = ez ∙ ap (λ (h : Header). h .«payload_length» - addedLength) known
 
-pub is-sealed : (memory bytes : List ℕ) → keylessFault memory bytes ≡ 0 → Sealed memory bytes
-unfolding keylessFault
-is-sealed memory bytes e =
-    let t1 = orElse-zero _ _ e in
-    let t2 = orElse-zero _ _ (t1 .1) in
-    let t3 = orElse-zero _ _ (t2 .1) in
-    record {
-      read = read-0 bytes (t1 .0);
-      encrypted = not-false _ (gives-zero _ 80 (omega arith) (t2 .0));
-      long = ltb-false _ _ (gives-zero _ 81 (omega arith) (t3 .0));
-      greater = t3 .1;
-    }
+        pub room-refused : room < size → _≡_ {A = ℕ} 87 (late memory bytes room right)
+        room-refused h =
+            sym (gives-later _ 83 _ affirms ∙ orElse-later _ _ (sym source-is ∙ none) ∙ gives-last _ 87 (rw (← size-is) (lt-ltb _ _ h)))
 
--- the tests after the hash
-module _ (source size room : ℕ) (memory : List ℕ) where
-  abbrev pub late : Bool → ℕ
-  late genuine = not genuine gives 83 orElse sourceFault source memory orElse ltb room size gives 87
-
-  pub not-genuine : (genuine : Bool) → genuine ≡ false → _≡_ {A = ℕ} 83 (late genuine)
-  not-genuine genuine e = sym (gives-here _ 83 _ (omega arith) (negated genuine e))
-
-  module _ (genuine : Bool) (e : genuine ≡ true) where
-    pub source-refused : (fault : ℕ) → fault ≡ sourceFault source memory → (fault ≡ 0 → ⊥) → fault ≡ late genuine
-    source-refused fault ef some = sym (gives-later _ 83 _ (affirmed genuine e) ∙ rw (← ef) (orElse-first fault _ some))
-
-    pub room-refused : sourceFault source memory ≡ 0 → room < size → _≡_ {A = ℕ} 87 (late genuine)
-    room-refused z h = sym (gives-later _ 83 _ (affirmed genuine e) ∙ orElse-later _ _ z ∙ gives-last _ 87 (lt-ltb _ _ h))
-
-    pub none-refused : sourceFault source memory ≡ 0 → size ≤ room → _≡_ {A = ℕ} 0 (late genuine)
-    none-refused z h = sym (gives-later _ 83 _ (affirmed genuine e) ∙ orElse-later _ _ z ∙ gives-none _ 87 (le-ltb _ _ h))
-
--- what the record says of the number is the answer where nothing above it is refused
-pub keyless-number : (memory bytes : List ℕ) → readingNumber (readOf bytes) ≡ 0 → headerOf bytes .encrypted ≡ true → 7 ≤ headerOf bytes .«payload_length»
-    → (fault : ℕ) → numberFault (sourceOf bytes) (messageNumber bytes) (recordIn memory) ≡ fault → fault ≡ keylessFault memory bytes
-unfolding messageNumber
-keyless-number memory bytes read encrypted long fault e =
-    number-tested memory bytes (headerOf bytes) refl read encrypted (payloadIn (headerOf bytes) bytes) (numberIn (payloadIn (headerOf bytes) bytes)) fault
-    long refl refl (sym e)
-
-pub keyless-none : (memory bytes : List ℕ) → readingNumber (readOf bytes) ≡ 0 → headerOf bytes .encrypted ≡ true → 7 ≤ headerOf bytes .«payload_length»
-    → numberFault (sourceOf bytes) (messageNumber bytes) (recordIn memory) ≡ 0 → keylessFault memory bytes ≡ 0
-keyless-none memory bytes read encrypted long greater = sym (keyless-number memory bytes read encrypted long 0 greater)
+        pub none-refused : size ≤ room → _≡_ {A = ℕ} 0 (late memory bytes room right)
+        none-refused h =
+            sym (gives-later _ 83 _ affirms ∙ orElse-later _ _ (sym source-is ∙ none) ∙ gives-none _ 87 (rw (← size-is) (le-ltb _ _ h)))
 
 -- the answer, by what is refused without the key and after it
 module _ (key memory bytes : List ℕ) (room : ℕ) where
@@ -110,7 +56,6 @@ module _ (key memory bytes : List ℕ) (room : ℕ) where
   unfolding openNumber
   early-open fault e some = rw (← e) (orElse-first fault _ some)
 
-  module _ (none : keylessFault memory bytes ≡ 0) where
-    pub open-late : openNumber key memory bytes room ≡ late (sourceOf bytes) (plainLength bytes) room memory (genuine key bytes)
-    unfolding openNumber
-    open-late = orElse-later _ _ none
+  pub open-late : keylessFault memory bytes ≡ 0 → openNumber key memory bytes room ≡ late memory bytes room (genuine key bytes)
+  unfolding openNumber
+  open-late none = orElse-later _ _ none

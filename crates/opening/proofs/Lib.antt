@@ -1,3 +1,4 @@
-pub mod Deciphering
+pub mod Sealed
 pub mod Deciding
+pub mod Putting
 pub mod Opened

@@ -1,44 +1,28 @@
 -- Document 02, W-212, opening: the plain payload (document 000, 3.5.3), the refusals in their order, and what is left in output and record.
-use Prim.Native.Nat.{ℕ, _-_}
-use mathlib.Core.Bool.{Bool, not, cond, _&&_}
+use Prim.Native.Nat.{ℕ}
+use mathlib.Core.Bool.{Bool, not, cond}
 use mathlib.Core.List.{List}
 use lib.Dec.{eqb, ltb}
-use lib.ListN.{length, take, drop}
+use lib.ListN.{length}
 use Rattle.octets.specs.Numbers.{_gives_, _orElse_}
-use Rattle.octets.specs.Octets.{at, over}
-use Rattle.counter.specs.Counter.{counterMode}
+use Rattle.octets.specs.Octets.{over}
+use Rattle.aes.specs.Cipher.{keyExpansion}
 use Rattle.pdu.specs.declared.Written.{Written}
 use Rattle.pdu.specs.Header.{headerOf}
 use Rattle.pdu.specs.Reading.{readOf, readingNumber}
-use Rattle.pdu.specs.Parts.{payloadIn}
 use Rattle.sources.specs.Sources.{recordIn, numberFault, sourceFault, memoryAccepted}
-use Rattle.sealing.specs.Protection.{numberIn, addedLength, hashBytes, nonceOf}
+use Rattle.message.specs.Protection.{addedLength}
+use Rattle.genuine.specs.Genuine.{sourceOf, messageNumber, plainLength, decipheredUnder, plainUnder, genuineUnder}
 
--- of the sealed PDU at the start of bytes: its source, and its message number, which the payload begins with
-abbrev pub sourceOf : List ℕ → ℕ
-sourceOf bytes = headerOf bytes .source
-
-unfoldable pub messageNumber : List ℕ → ℕ
-messageNumber bytes = numberIn (payloadIn (headerOf bytes) bytes)
-
--- what follows the number, deciphered: the plain payload, then the hash's 4 bytes
+-- under a key: what follows the number deciphered, the plain payload, and whether the hash is right
 unfoldable pub deciphered : List ℕ → List ℕ → List ℕ
-deciphered key bytes = counterMode key (nonceOf (sourceOf bytes) (messageNumber bytes)) (drop 3 (payloadIn (headerOf bytes) bytes))
-
-abbrev pub plainLength : List ℕ → ℕ
-plainLength bytes = headerOf bytes .«payload_length» - addedLength
+deciphered key bytes = decipheredUnder (keyExpansion key) bytes
 
 unfoldable pub plainPayload : List ℕ → List ℕ → List ℕ
-plainPayload key bytes = take (plainLength bytes) (deciphered key bytes)
+plainPayload key bytes = plainUnder (keyExpansion key) bytes
 
--- whether two hashes have the same 4 bytes
-abbrev pub sameFour : List ℕ → List ℕ → Bool
-sameFour x y = eqb (at x 0) (at y 0) && (eqb (at x 1) (at y 1) && (eqb (at x 2) (at y 2) && eqb (at x 3) (at y 3)))
-
--- whether the hash that was sent is that of the header, the number and the plain payload
 unfoldable pub genuine : List ℕ → List ℕ → Bool
-genuine key bytes =
-    sameFour (hashBytes bytes (messageNumber bytes) (plainPayload key bytes)) (drop (plainLength bytes) (deciphered key bytes))
+genuine key bytes = genuineUnder (keyExpansion key) bytes
 
 -- what is refused without the key: 1 to 6, 80, 81, 82 in that order, or 0
 unfoldable pub keylessFault : List ℕ → List ℕ → ℕ

@@ -21,13 +21,14 @@ use Rattle.pdu.specs.Parts.{pathIn, payloadIn}
 use Rattle.pdu.proofs.Inversion.{shown}
 use Rattle.writing.specs.Writing.{headerBytes, pathBytes, encode}
 use Rattle.writing.proofs.Encoding.{length-header, length-pathIn}
-use Rattle.sealing.specs.Protection.{numberBytes, hashBytes, nonceOf}
-use Rattle.sealing.specs.Sealing.{sealedHeader, sealedPayload, sealedPdu, sealNumber, sealWritten, sealOutput}
-use Rattle.sealing.proofs.Deciding.{sealable}
+use Rattle.message.specs.Protection.{numberBytes, hashBytes, nonceOf}
+use Rattle.message.specs.Sealable.{sealNumber}
+use Rattle.message.proofs.Sealable.{sealable}
+use Rattle.sealing.specs.Sealing.{sealedHeader, sealedPayload, sealedPdu, sealWritten, sealOutput}
 use Rattle.sealing.proofs.Laying.{length-hash, length-enciphered}
-use Rattle.opening.specs.Opening.{sourceOf, messageNumber, deciphered, plainLength, plainPayload, sameFour, genuine}
-use Rattle.opening.specs.Opening.{keylessFault, openNumber, openWritten, openOutput}
-use Rattle.opening.proofs.Deciding.{is-sealed}
+use Rattle.genuine.specs.Genuine.{sourceOf, messageNumber, plainLength, decipheredUnder, plainUnder, sameFour, genuineUnder}
+use Rattle.opening.specs.Opening.{deciphered, plainPayload, genuine, keylessFault, openNumber, openWritten, openOutput}
+use Rattle.opening.proofs.Sealed.{is-sealed}
 use Rattle.protection.proofs.RoundTrip.{same-self}
 
 -- four bytes that are the same one by one
@@ -56,13 +57,13 @@ module _ (bytes : List ℕ) (read : readOf bytes ≡ Pdu (headerOf bytes)) where
 
   module _ (key : List ℕ) where
     length-deciphered : length (deciphered key bytes) ≡ headerOf bytes .«payload_length» - 3
-    unfolding deciphered
+    unfolding deciphered decipheredUnder counterMode
     length-deciphered =
         let payload = payloadIn (headerOf bytes) bytes in
         length-enciphered key (nonceOf (sourceOf bytes) (messageNumber bytes)) (drop 3 payload) ∙ omega (arith, length-drop 3 payload, length-payload)
 
     pub length-plain : 7 ≤ headerOf bytes .«payload_length» → length (plainPayload key bytes) ≡ plainLength bytes
-    unfolding plainPayload
+    unfolding plainPayload plainUnder deciphered
     length-plain long = length-take-le (plainLength bytes) (deciphered key bytes) (omega (arith, length-deciphered))
 
     hash-long : 7 ≤ headerOf bytes .«payload_length» → length (drop (plainLength bytes) (deciphered key bytes)) ≡ 4
@@ -70,7 +71,7 @@ module _ (bytes : List ℕ) (read : readOf bytes ≡ Pdu (headerOf bytes)) where
 
     pub genuine-only : 7 ≤ headerOf bytes .«payload_length» → genuine key bytes ≡ true
         → drop (plainLength bytes) (deciphered key bytes) ≡ hashBytes bytes (messageNumber bytes) (plainPayload key bytes)
-    unfolding genuine
+    unfolding genuine genuineUnder plainPayload deciphered
     genuine-only long e =
         let hash = hashBytes bytes (messageNumber bytes) (plainPayload key bytes) in
         let sent = drop (plainLength bytes) (deciphered key bytes) in
@@ -78,7 +79,7 @@ module _ (bytes : List ℕ) (read : readOf bytes ≡ Pdu (headerOf bytes)) where
 
 pub genuine-where : (key bytes : List ℕ) → drop (plainLength bytes) (deciphered key bytes) ≡ hashBytes bytes (messageNumber bytes) (plainPayload key bytes)
     → genuine key bytes ≡ true
-unfolding genuine
+unfolding genuine genuineUnder plainPayload deciphered
 genuine-where key bytes e = rw e (same-self (hashBytes bytes (messageNumber bytes) (plainPayload key bytes)))
 
 -- the sealed PDU is 7 bytes longer

@@ -18,7 +18,7 @@ use Rattle.pdu.specs.Parts.{pathIn, payloadIn}
 use Rattle.writing.specs.Writing.{destinationBytes, onlyIf, headerBytes, pathBytes, encode, WellFormed}
 use Rattle.writing.proofs.Encoding.{length-destination, length-onlyIf}
 use Rattle.writing.proofs.Same.{written-same, shown-well-formed}
-use Rattle.sealing.specs.Protection.{maskedByte, hashedHeader}
+use Rattle.message.specs.Protection.{maskedByte, hashedHeader}
 use Rattle.sealing.proofs.Laying.{count-place, hashed-header}
 
 abbrev byteZero : Header → ℕ

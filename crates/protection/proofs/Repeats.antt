@@ -15,8 +15,9 @@ use Rattle.pdu.proofs.Inversion.{shown}
 use Rattle.node.specs.Repeat.{repeated, repeatedHeader}
 use Rattle.node.proofs.Encoded.{repeat-reads, repeat-payload, repeat-bytes}
 use Rattle.node.proofs.Heard.{repeats}
-use Rattle.sealing.specs.Protection.{numberIn, hashedHeader, hashBytes}
-use Rattle.opening.specs.Opening.{messageNumber, deciphered, plainPayload, genuine, keylessFault, openNumber, memoryAfterOpening}
+use Rattle.message.specs.Protection.{numberIn, hashedHeader, hashBytes}
+use Rattle.genuine.specs.Genuine.{messageNumber, decipheredUnder, plainUnder, genuineUnder}
+use Rattle.opening.specs.Opening.{deciphered, plainPayload, genuine, keylessFault, openNumber, memoryAfterOpening}
 use Rattle.protection.specs.Histories.{Repeat, heardAfter, heard, RepeatedBy, AllRepeat}
 use Rattle.protection.proofs.Hashed.{hashedFields, hashed-shown}
 
@@ -50,15 +51,15 @@ module _ {a b : List ℕ} (same : Alike a b) where
 
   module _ (key : List ℕ) where
     deciphered-alike : deciphered key a ≡ deciphered key b
-    unfolding deciphered
+    unfolding deciphered decipheredUnder
     deciphered-alike = rw (same .source, number-alike, same .payload)
 
     pub plain-alike : plainPayload key a ≡ plainPayload key b
-    unfolding plainPayload
+    unfolding plainPayload plainUnder deciphered
     plain-alike = rw (same .size, deciphered-alike)
 
     genuine-alike : genuine key a ≡ genuine key b
-    unfolding genuine hashBytes
+    unfolding genuine genuineUnder plainPayload deciphered hashBytes
     genuine-alike = rw (same .hashed, number-alike, plain-alike, same .size, deciphered-alike)
 
     module _ (memory : List ℕ) (room : ℕ) where

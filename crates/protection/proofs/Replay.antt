@@ -10,8 +10,9 @@ use Rattle.octets.specs.Numbers.{_gives_, _orElse_}
 use Rattle.octets.proofs.Numbering.{orElse-zero}
 use Rattle.sources.specs.Sources.{recordIn, numberFault, sourceFault, accepted}
 use Rattle.sources.proofs.Noting.{nextNumber, record-accepted, taken-from, next-accepted, never-falls}
-use Rattle.opening.specs.Opening.{sourceOf, messageNumber, keylessFault, openNumber, memoryAfterOpening}
-use Rattle.opening.proofs.Deciding.{is-sealed}
+use Rattle.genuine.specs.Genuine.{sourceOf, messageNumber}
+use Rattle.opening.specs.Opening.{keylessFault, openNumber, memoryAfterOpening}
+use Rattle.opening.proofs.Sealed.{is-sealed}
 use Rattle.protection.specs.Histories.{Opening, memoryAfter, memoryAfterAll}
 
 -- what an opening that answered 0 has passed, and the record that it leaves

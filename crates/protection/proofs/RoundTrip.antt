@@ -27,11 +27,13 @@ use Rattle.writing.specs.Writing.{headerBytes, pathBytes, encode, WellFormed}
 use Rattle.writing.proofs.Back.{read-encode, path-encode, payload-encode}
 use Rattle.writing.proofs.Same.{shown-well-formed}
 use Rattle.sources.specs.Sources.{recordIn, numberFault, sourceFault}
-use Rattle.sealing.specs.Protection.{numberBytes, numberIn, hashedHeader, hashBytes, nonceOf}
-use Rattle.sealing.specs.Sealing.{sealedHeader, sealedPayload, sealedPdu, sealNumber}
-use Rattle.sealing.proofs.Deciding.{Sealable, sealable}
+use Rattle.message.specs.Protection.{numberBytes, numberIn, hashedHeader, hashBytes, nonceOf}
+use Rattle.message.specs.Sealable.{sealNumber}
+use Rattle.message.proofs.Sealable.{Sealable, sealable}
+use Rattle.sealing.specs.Sealing.{sealedHeader, sealedPayload, sealedPdu}
 use Rattle.sealing.proofs.Laying.{length-hash, length-enciphered, hashed-header}
-use Rattle.opening.specs.Opening.{sourceOf, messageNumber, deciphered, plainLength, plainPayload, sameFour, genuine, keylessFault, openNumber}
+use Rattle.genuine.specs.Genuine.{sourceOf, messageNumber, plainLength, decipheredUnder, plainUnder, sameFour, genuineUnder}
+use Rattle.opening.specs.Opening.{deciphered, plainPayload, genuine, keylessFault, openNumber}
 
 sealed-encrypted : (header : Header) → sealedHeader header .encrypted ≡ true
 unfolding sealedHeader
@@ -142,12 +144,12 @@ module _ (key bytes behind : List ℕ) (number room : ℕ) (small : AllBytes byt
   size-sent = omega (arith, ap (λ (h : Header). h .«payload_length») header-sent, formed .payload-long)
 
   deciphered-back : deciphered key heard ≡ plain ++ hash
-  unfolding deciphered sealedPayload sealedHeader
+  unfolding deciphered decipheredUnder counterMode sealedPayload sealedHeader
   deciphered-back =
       rw (source-sent, number-sent, payload-sent) (twice key (nonceOf (header .source) number) (plain ++ hash))
 
   pub plain-back : plainPayload key heard ≡ plain
-  unfolding plainPayload
+  unfolding plainPayload plainUnder deciphered
   plain-back = rw (deciphered-back) (take-at plain hash (plainLength heard) (sym size-sent))
 
   hash-sent : hashBytes heard number plain ≡ hash
@@ -158,7 +160,7 @@ module _ (key bytes behind : List ℕ) (number room : ℕ) (small : AllBytes byt
       ap (λ (l : List ℕ). take 4 (sha1 (l ++ numberBytes number ++ plain))) (ap hashedHeader split ∙ hashed-header sealed tail (sealed-formed .known))
 
   genuine-back : genuine key heard ≡ true
-  unfolding genuine
+  unfolding genuine genuineUnder plainPayload deciphered
   genuine-back =
       rw (plain-back, number-sent, hash-sent, deciphered-back, drop-at plain hash (plainLength heard) (sym size-sent)) (same-self hash)
 

@@ -1,5 +1,6 @@
 // The rounds of AES: what is done with the state of 16 bytes.
 ghost use mathlib.Core.Path.{_≡_};
+ghost use mathlib.Core.Bool.{cond};
 ghost use mathlib.Core.List.{_∷_, []};
 ghost use Rattle.field.specs.Field.{substitutes};
 ghost use Rattle.rounds.specs.Rounds.{subBytes, shiftRows, mixColumn, mixColumns, addRoundKey, round, lastRound};
@@ -67,18 +68,28 @@ fn mixed(s: [u8; 16]) -> [u8; 16]
     columns
 }
 
+// A round that mixes columns, or the last, which does not. FIPS 197, 5.1.
+fn round_with(s: [u8; 16], k: [u8; 16], mixes: bool) -> [u8; 16]
+    ensures { λ r. ⌜ r ≡ cond mixes (round s k) (lastRound s k) ⌝ }
+{
+    let table = all_substitutes();
+    let rows = shifted(&table, s);
+    if mixes {
+        return add_round_key(mixed(rows), k);
+    }
+    add_round_key(rows, k)
+}
+
 // A round. FIPS 197, 5.1.
 pub fn one_round(s: [u8; 16], k: [u8; 16]) -> [u8; 16]
     ensures { λ r. ⌜ r ≡ round s k ⌝ }
 {
-    let table = all_substitutes();
-    add_round_key(mixed(shifted(&table, s)), k)
+    round_with(s, k, true)
 }
 
 // The last round. FIPS 197, 5.1.
 pub fn last_round(s: [u8; 16], k: [u8; 16]) -> [u8; 16]
     ensures { λ r. ⌜ r ≡ lastRound s k ⌝ }
 {
-    let table = all_substitutes();
-    add_round_key(shifted(&table, s), k)
+    round_with(s, k, false)
 }

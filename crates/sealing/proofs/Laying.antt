@@ -31,7 +31,7 @@ use Rattle.writing.specs.Writing.{headerBytes, pathBytes, encode, fieldFault, h
 use Rattle.writing.proofs.Encoding.{header-begins, length-header, length-pathIn}
 use Rattle.writing.proofs.Within.{within, all-within, shown-within}
 use Rattle.writing.proofs.Same.{written-same, shown-well-formed}
-use Rattle.sealing.specs.Protection.{numberBytes, hashedHeader, hashBytes, nonceOf}
+use Rattle.message.specs.Protection.{numberBytes, hashedHeader, hashBytes, nonceOf}
 use Rattle.sealing.specs.Sealing.{sealedHeader, sealedPayload}
 
 -- the hash sees nothing behind the header's path count
@@ -135,15 +135,16 @@ module _ (bytes output : List ℕ) (header : Header) (small : AllBytes bytes) (r
       ∙ ap (take (start + size)) (sym (written-same bytes header small read)) ∙ take-at (front ++ path) (payloadIn header bytes) (start + size) long in
       sym (drop-at front path start (length-header header)) ∙ ap (drop start) (sym joined) ∙ drop-at (take start bytes) part start begins
 
-  pub head-put : (sealed : Header) (written : Written) (begun part now : List ℕ) (from entries next : ℕ) → sealed ≡ sealedHeader header
+  pub head-put : (sealed : Header) (written : Written) (begun part now : List ℕ) (entries next : ℕ) → sealed ≡ sealedHeader header
       → (written ≡ headerWritten sealed (length output)) × (begun ≡ headerOutput sealed output)
-      → from ≡ pathStart header → entries ≡ pathEntries header → part ≡ take (2 * entries) (drop from bytes)
+      → entries ≡ pathEntries header → part ≡ take (2 * entries) (drop (written .length) bytes)
       → (next ≡ placeAfter begun (written .length) part) × (now ≡ placed begun (written .length) part)
       → (next ≡ headerLength header) × (now ≡ over head output)
-  head-put sealed written begun part now from entries next is put-header ef en ep put =
+  head-put sealed written begun part now entries next is put-header en ep put =
       let s = sealedHeader header in
-      let is-part : part ≡ path = ep ∙ rw (ef, en) (sym path-part) in
       let b = header-begins s output sealed-within (omega (arith, same-start)) begun written (rw is at (put-header .0)) (rw is at (put-header .1)) in
+      let from : written .length ≡ pathStart header = sym (b .ends) ∙ length-header s ∙ same-start in
+      let is-part : part ≡ path = ep ∙ rw (from, en) (sym path-part) in
       let size = length-pathIn header bytes in
       let all = more path begun now next b (omega (arith, b .ends, length-header s, same-start, size))
       (rw is-part at (put .0)) (rw is-part at (put .1)) in
@@ -152,7 +153,7 @@ module _ (bytes output : List ℕ) (header : Header) (small : AllBytes bytes) (r
   module _ (digits plain hash : List ℕ) (number n1 p2 p3 p4 : ℕ) (o1 o2 o3 o4 : List ℕ)
       (e1 : (n1 ≡ headerLength header) × (o1 ≡ over head output)) (ed : digits ≡ numberBytes number)
       (e2 : (p2 ≡ placeAfter o1 n1 digits) × (o2 ≡ placed o1 n1 digits)) (ep : plain ≡ payloadIn header bytes)
-      (e3 : (p3 ≡ placeAfter o2 p2 plain) × (o3 ≡ placed o2 p2 plain)) (eh : hash ≡ hashBytes o3 number plain)
+      (e3 : (p3 ≡ placeAfter o2 p2 plain) × (o3 ≡ placed o2 p2 plain)) (eh : hash ≡ hashBytes o3 number (payloadIn header bytes))
       (e4 : (p4 ≡ placeAfter o3 p3 hash) × (o4 ≡ placed o3 p3 hash)) where
     length-head : length head ≡ headerLength header
     length-head =
@@ -165,7 +166,7 @@ module _ (bytes output : List ℕ) (header : Header) (small : AllBytes bytes) (r
     length-digits = ap length ed
 
     hash-long : length hash ≡ 4
-    hash-long = ap length eh ∙ length-hash o3 number plain
+    hash-long = ap length eh ∙ length-hash o3 number (payloadIn header bytes)
 
     b1 : Begins output o1 head n1
     b1 = record { is = e1 .1; ends = length-head ∙ sym (e1 .0) }
@@ -205,7 +206,7 @@ module _ (bytes output : List ℕ) (header : Header) (small : AllBytes bytes) (r
         let split : all ++ rest ≡ s ++ tail = simp append-assoc in
         let front : hashedHeader o3 ≡ hashedHeader s =
         ap hashedHeader (b3 .is ∙ split) ∙ hashed-header (sealedHeader header) tail (within (sealedHeader header) sealed-within .protocol) in
-        eh ∙ ap₂ (λ (l m : List ℕ). take 4 (sha1 (l ++ numberBytes number ++ m))) front ep
+        eh ∙ ap (λ (l : List ℕ). take 4 (sha1 (l ++ numberBytes number ++ payloadIn header bytes))) front
 
     pub sealed-put : (key nonce o5 : List ℕ) → nonce ≡ nonceOf (header .source) number
         → o5 ≡ take p2 o4 ++ (counterMode key nonce (take (p4 - p2) (drop p2 o4)) ++ drop (p4 - p2) (drop p2 o4))

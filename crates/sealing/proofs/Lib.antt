@@ -1,3 +1,2 @@
-pub mod Hashing
 pub mod Deciding
 pub mod Laying

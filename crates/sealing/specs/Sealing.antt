@@ -1,20 +1,18 @@
--- Document 02, W-212, sealing: the sealed PDU (document 000, 3.5.3), the refusals in their order, and what is left in the output.
+-- Document 02, W-212, sealing: the sealed PDU (document 000, 3.5.3), and what is left in the output.
 use Prim.Native.Nat.{ℕ, _+_}
 use mathlib.Core.Bool.{true, false, cond}
 use mathlib.Core.List.{List, _++_}
-use lib.Dec.{eqb, ltb}
+use lib.Dec.{eqb}
 use lib.ListN.{length}
-use Rattle.octets.specs.Numbers.{_gives_, _orElse_}
 use Rattle.octets.specs.Octets.{over}
 use Rattle.counter.specs.Counter.{counterMode}
 use Rattle.pdu.specs.declared.Header.{Header}
 use Rattle.pdu.specs.declared.Written.{Written}
 use Rattle.pdu.specs.Header.{headerOf}
-use Rattle.pdu.specs.Sizes.{payloadLimit, pduLength}
-use Rattle.pdu.specs.Reading.{readOf, readingNumber}
 use Rattle.pdu.specs.Parts.{pathIn, payloadIn}
 use Rattle.writing.specs.Writing.{headerBytes, encode}
-use Rattle.sealing.specs.Protection.{numberLimit, numberBytes, addedLength, hashBytes, nonceOf}
+use Rattle.message.specs.Protection.{numberBytes, addedLength, hashBytes, nonceOf}
+use Rattle.message.specs.Sealable.{sealedLength, sealNumber}
 
 -- the header as it is sent: encrypted, without a time stamp request, and its payload 7 bytes longer
 unfoldable pub sealedHeader : Header → Header
@@ -46,18 +44,6 @@ unfoldable pub sealedPdu : List ℕ → ℕ → List ℕ → List ℕ
 sealedPdu key number bytes =
     let header = headerOf bytes in
     encode (sealedHeader header) (pathIn header bytes) (sealedPayload key (sealedHeader header) number (payloadIn header bytes))
-
-abbrev pub sealedLength : List ℕ → ℕ
-sealedLength bytes = pduLength (headerOf bytes) + addedLength
-
--- 1 to 6, 88, 85, 86, 87 in that order, or 0
-unfoldable pub sealNumber : ℕ → List ℕ → ℕ → ℕ
-sealNumber number bytes room =
-    readingNumber (readOf bytes)
-    orElse headerOf bytes .encrypted gives 88
-    orElse ltb payloadLimit (headerOf bytes .«payload_length» + addedLength) gives 85
-    orElse ltb numberLimit number gives 86
-    orElse ltb room (sealedLength bytes) gives 87
 
 -- the number, and the length of what was written: 0 with a refusal
 unfoldable pub sealWritten : ℕ → List ℕ → ℕ → Written

@@ -14,9 +14,10 @@ use lib.Dec.{eqb}
 use lib.ListN.{length, replicate, take, drop, set, length-append, length-set, length-drop, drop-of-length-le}
 use lib.Seq.{append-snoc, take-suc, take-all, take-suc-set, take-append-le, drop-append-le}
 use Rattle.octets.specs.Octets.{at}
-use Rattle.sha1.specs.declared.Five.{Five}
+use Rattle.compression.specs.declared.Five.{Five}
+use Rattle.compression.specs.Compression.{compressed}
 use Rattle.sha1.specs.declared.Running.{Running}
-use Rattle.sha1.specs.Sha1.{eightBytes, zeros, padding, padded, compressed, blockAt, hashed, digest, sha1, begun, fedByte, fed, finished}
+use Rattle.sha1.specs.Sha1.{eightBytes, zeros, padding, padded, blockAt, hashed, digest, sha1, begun, fedByte, fed, finalHash, finished}
 
 pub running :
     {h h′ : Five} {b b′ : List ℕ} {t t′ : ℕ} → h ≡ h′ → b ≡ b′ → t ≡ t′
@@ -154,7 +155,7 @@ padding-counted n =
 
 -- the digest of what came is the message's
 pub finished-fed : (m : List ℕ) → finished (fed begun m) ≡ sha1 m
-unfolding finished sha1 padded
+unfolding finished finalHash sha1 padded
 finished-fed m =
     let r = fed begun m in
     let came : Came m r = came-on [] m begun came-none in
@@ -178,10 +179,10 @@ marked n m {l} h e p = ap₂ take e p ∙ ap (λ (x : List ℕ). 0x80 ∷ x) (ta
 
 -- the marker and the length, fed one after the other
 pub finished-by :
-    (r : Running) {s all : Running} {first last d : List ℕ} → first ≡ 0x80 ∷ replicate (zeros (r .total)) 0 → last ≡ eightBytes (8 * r .total % 2 ^ 64)
-    → s ≡ fed r first → all ≡ fed s last → d ≡ digest (all .hash) → d ≡ finished r
-unfolding finished padding
-finished-by r {s} {all} {first} {last} p q u v w =
+    (r : Running) {s all : Running} {first last : List ℕ} → first ≡ 0x80 ∷ replicate (zeros (r .total)) 0 → last ≡ eightBytes (8 * r .total % 2 ^ 64)
+    → s ≡ fed r first → all ≡ fed s last → all .hash ≡ finalHash r
+unfolding finalHash padding
+finished-by r {s} {all} {first} {last} p q u v =
     let e : all ≡ fed r ((0x80 ∷ replicate (zeros (r .total)) 0) ++ eightBytes (8 * r .total % 2 ^ 64)) =
     v ∙ ap₂ fed (u ∙ ap (fed r) p) q ∙ fed-append r (0x80 ∷ replicate (zeros (r .total)) 0) (eightBytes (8 * r .total % 2 ^ 64)) in
-    w ∙ ap (λ (x : Running). digest (x .hash)) e
+    ap (λ (x : Running). x .hash) e

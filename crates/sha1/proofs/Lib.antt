@@ -1,3 +1,1 @@
-pub mod Equal
-pub mod Words
 pub mod Feeding

@@ -1,4 +1,5 @@
 // Published vectors, run: what is printed is compared with the file `stdout`.
+use compression::Five;
 use libc::STDOUT_FILENO;
 
 // The bytes in hexadecimal, and the end of a line.
@@ -21,9 +22,22 @@ fn show_cipher(key: [u8; 16], block: [u8; 16]) {
     show(&out);
 }
 
+// A digest: the five words of a hash value.
+fn show_hash(hash: Five) {
+    show_word(hash.a);
+    show_word(hash.b);
+    show_word(hash.c);
+    show_word(hash.d);
+    show_word(hash.e);
+    io::write_all(STDOUT_FILENO, b"\n");
+}
+
+fn show_word(word: u32) {
+    io::print_hex(STDOUT_FILENO, word as u64, 8);
+}
+
 fn show_digest(message: &[u8]) {
-    let digest = sha1::finish(sha1::feed(sha1::begin(), message));
-    show(&digest);
+    show_hash(sha1::finish(sha1::feed(sha1::begin(), message)));
 }
 
 // The letter a, a million times, in a thousand parts.
@@ -36,8 +50,7 @@ fn show_million() {
         running = next;
         n += 1;
     }
-    let digest = sha1::finish(running);
-    show(&digest);
+    show_hash(sha1::finish(running));
 }
 
 // Document 002's example: the payload and its hash, enciphered as one and in two parts.

@@ -10,17 +10,19 @@ use Rattle.octets.specs.Octets.{at}
 use Rattle.field.specs.Field.{xtime, product, _•_, raised, inverse, affineBit, gathered, affine, subByte}
 use Rattle.rounds.specs.Rounds.{mixColumn, round, lastRound}
 use Rattle.aes.specs.Cipher.{roundKey, rounds, cipher, power, temp, nextWord, expansion, keyExpansion}
-use Rattle.sha1.specs.Sha1.{mixing, constant, padding, padded, wordAt, words, schedule, step, steps, compressed, hashed, sha1}
+use Rattle.compression.specs.Compression.{mixing, constant, wordAt, words, schedule, step, steps, compressed}
+use Rattle.sha1.specs.Sha1.{padding, padded, hashed, sha1}
 use Rattle.counter.specs.Counter.{counterBlock, stream, added, counterMode}
 use Rattle.pdu.specs.Header.{headerOf}
 use Rattle.pdu.specs.Parts.{addressesAt}
 use Rattle.pdu.specs.Reading.{readOf}
 use Rattle.writing.specs.Writing.{headerBytes, pathBytes, encode}
 use Rattle.sources.specs.Sources.{entriesFrom, recordIn, placeOf, numberFault}
-use Rattle.sealing.specs.Protection.{hashedHeader, hashBytes}
+use Rattle.message.specs.Protection.{hashedHeader, hashBytes}
 use Rattle.sealing.specs.Sealing.{sealedHeader, sealedPayload, sealedPdu}
-use Rattle.opening.specs.Opening.{sourceOf, messageNumber, deciphered, plainLength, plainPayload, sameFour, genuine, keylessFault, openNumber}
-use Rattle.opening.proofs.Deciding.{open-late, not-genuine}
+use Rattle.genuine.specs.Genuine.{messageNumber, decipheredUnder, plainUnder, sameFour, genuineUnder}
+use Rattle.opening.specs.Opening.{deciphered, genuine, keylessFault, openNumber}
+use Rattle.opening.proofs.Deciding.{open-late, wrong-refused}
 
 -- "keep me secret!!"
 abbrev pub key : List ℕ
@@ -78,14 +80,14 @@ unfolding headerOf readOf _gives_ _orElse_ entriesFrom recordIn placeOf numberFa
 taken = refl
 
 opened : deciphered key changed ≡ payload ++ (0x72 ∷ 0x5d ∷ 0xb2 ∷ 0xb3 ∷ [])
-unfolding headerOf messageNumber deciphered stream added counterMode
+unfolding headerOf messageNumber deciphered decipheredUnder stream added counterMode
 opened = ap (λ (b : List ℕ). added (λ i. at b (i % 16)) 0 (drop 12 changed)) block
 
 differs : genuine key changed ≡ false
-unfolding headerOf messageNumber hashedHeader hashBytes plainPayload genuine
+unfolding headerOf messageNumber hashedHeader hashBytes deciphered plainUnder genuineUnder genuine
 differs =
     ap (λ (d : List ℕ). sameFour (hashBytes changed 850 (take 11 d)) (drop 11 d)) opened
     ∙ ap (λ (h : List ℕ). sameFour h (0x72 ∷ 0x5d ∷ 0xb2 ∷ 0xb3 ∷ [])) digest
 
 pub refused : openNumber key memory changed 11 ≡ 83
-refused = open-late key memory changed 11 taken ∙ sym (not-genuine (sourceOf changed) (plainLength changed) 11 memory (genuine key changed) differs)
+refused = open-late key memory changed 11 taken ∙ sym (wrong-refused memory changed 11 (genuine key changed) differs)

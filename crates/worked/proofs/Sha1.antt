@@ -2,7 +2,8 @@
 -- Assumes nothing.
 use mathlib.Core.Path.{_≡_, refl}
 use mathlib.Core.List.{[], _∷_}
-use Rattle.sha1.specs.Sha1.{mixing, constant, padding, padded, wordAt, words, schedule, step, steps, compressed, hashed, sha1}
+use Rattle.compression.specs.Compression.{mixing, constant, wordAt, words, schedule, step, steps, compressed}
+use Rattle.sha1.specs.Sha1.{padding, padded, hashed, sha1}
 
 pub abc :
     sha1 (97 ∷ 98 ∷ 99 ∷ [])

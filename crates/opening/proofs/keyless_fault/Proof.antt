@@ -1,4 +1,4 @@
-use Rattle.opening.proofs.Deciding.{reading-refused, plain-refused, short-refused, number-tested}
+use Rattle.opening.proofs.Sealed.{reading-refused, plain-refused, short-refused, number-tested}
 use borrow.Author.Tests.{not-true, not-false}
 use mathlib.Core.Path.{sym, _∙_}
 use native.Mathlib.Omega.{arith}

@@ -10,9 +10,6 @@ sealed-header-requires c κs = c .before .before .before .pre .1
 put-header-requires : tie.Need-put-header-requires
 put-header-requires c κs = search needs
 
-path-start-requires : tie.Need-path-start-requires
-path-start-requires c κs = search needs
-
 path-entries-requires : tie.Need-path-entries-requires
 path-entries-requires c κs = search needs
 
@@ -33,14 +30,13 @@ returns c =
     let at-put = c .before .before in
     let at-part = at-put .before in
     let at-entries = at-part .before in
-    let at-start = at-entries .before in
-    let at-header = at-start .before .before .before .before in
+    let at-header = at-entries .before .before .before .before in
     let at-sealed = at-header .before in
     let at-known = at-sealed .before .before in
     let start = at-known .before .before in
     let a = start .args in
     head-put (a .pdu .now) (a .output .now) (a .header) (λ i. at-known .shared-slice-known .given i .fits) (start .pre .0) (start .pre .1) (start .pre .2)
-    _ _ _ _ _ _ _ _ (at-sealed .sealed-header .ensures) (at-header .put-header .ensures) (at-start .path-start .ensures .0)
+    _ _ _ _ _ _ _ (at-sealed .sealed-header .ensures) (at-header .put-header .ensures)
     (at-entries .path-entries .ensures .0) (at-part .part .ensures .bytes) (at-put .put .ensures)
 
 pub put-head-spec : {M : Type 1} → statement M
@@ -49,7 +45,6 @@ put-head-spec =
     (tie.spec
     sealed-header-requires
     put-header-requires
-    path-start-requires
     path-entries-requires
     mul-part
     part-requires

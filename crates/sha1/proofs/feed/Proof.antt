@@ -6,7 +6,8 @@ use Prim.Native.Nat.{_≤_, _-_, _%_}
 use native.Mathlib.Omega.{arith}
 use lib.ListN.{length, take, length-set}
 use Rattle.sha1.specs.declared.Running.{Running}
-use Rattle.sha1.specs.Sha1.{compressed, fed}
+use Rattle.compression.specs.Compression.{compressed}
+use Rattle.sha1.specs.Sha1.{fed}
 use Rattle.sha1.proofs.Feeding.{full, not-full, fed-more, fed-all}
 use borrow.Author.Needs.{needs}
 use Rattle.sha1.proofs.feed.Statement.{statement}

@@ -15,11 +15,11 @@ returns c =
     let f = e .before .before in
     let r = f .before .before .before .args .running in
     finished-by r (marked (zeros (r .total)) (1 + zeros (r .total) - 0) (omega arith) (omega arith) refl)
-    (e .eight-bytes .ensures ∙ ap eightBytes (e .before .bits .ensures)) (f .feed .ensures) (c .before .feed2 .ensures) (c .bytes-of .ensures)
+    (e .eight-bytes .ensures ∙ ap eightBytes (e .before .bits .ensures)) (f .feed .ensures) (c .before .feed2 .ensures)
 
 pub finish-spec : {M : Type 1} → statement M
 finish-spec =
     tie.close
     (tie.spec
     (λ c. search needs) (λ c. search needs) (λ c. search needs) (λ c. search needs) (λ c. search needs) (λ c. search needs) (λ c κs. search needs)
-    (λ c κs. search needs) (λ c κs. search needs) (λ c. search needs) (λ c κs. search needs) (λ c κs. search needs) returns)
+    (λ c κs. search needs) (λ c κs. search needs) (λ c. search needs) (λ c κs. search needs) returns)

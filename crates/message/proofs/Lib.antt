@@ -1,0 +1,2 @@
+pub mod Hashing
+pub mod Sealable
