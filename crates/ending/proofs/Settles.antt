@@ -200,7 +200,8 @@ module _ (s : Settings) (now : ℕ) (room : recordLimit ≤ s .room) where
       some true k m h = omega arith
       some false k m h = omega arith
 
-      by : (r : Retained) → (isSpent (r .count) (s .tries) ≡ true) ⊎ (isSpent (r .count) (s .tries) ≡ false) → often (stepped r now (s .tries)) + 1 ≤ s .tries - r .count + 1
+      by : (r : Retained) → (isSpent (r .count) (s .tries) ≡ true) ⊎ (isSpent (r .count) (s .tries) ≡ false)
+          → often (stepped r now (s .tries)) + 1 ≤ s .tries - r .count + 1
       by r (inl e) = subst (λ (b : Bool). often (cond b freedRecord (sentRecord now r)) + 1 ≤ s .tries - r .count + 1) (sym e)
           (simp (free-not-due now (s .delay) freedRecord freed-free) (omega arith))
       by r (inr e) = subst (λ (b : Bool). often (cond b freedRecord (sentRecord now r)) + 1 ≤ s .tries - r .count + 1) (sym e)

@@ -65,7 +65,8 @@ unfolding said
 first-alone stepper blind keeps =
     let node = nodeAt 2000 true false in
     let same : said right ≡ said wrong =
-    ap deliveryIn (sym (keeps node right second lentOutput .0) ∙ blind node right wrong second lentOutput (omega arith) ∙ keeps node wrong second lentOutput .0) in
+    ap deliveryIn
+    (sym (keeps node right second lentOutput .0) ∙ blind node right wrong second lentOutput (omega arith) ∙ keeps node wrong second lentOutput .0) in
     omega (arith, same, read-there, unread-there)
 
 module _ (stepper : Stepper) (keeps : KeepsStepping stepper) (node : Node) (batch output : List ℕ) where
