@@ -1,41 +1,19 @@
-// Whether a sealed PDU is genuine: its number, the length of its plain payload, and its hash.
-use message::Key;
-use pdu::Header;
+// Whether a sealed PDU is genuine.
 use sha1::Running;
 ghost use mathlib.Core.Path.{_≡_};
 ghost use mathlib.Core.List.{_++_};
-ghost use Prim.Native.Nat.{_-_, _≤_, _<_};
+ghost use Prim.Native.Nat.{_≤_, _<_};
 ghost use lib.ListN.{length, replicate};
 ghost use Rattle.octets.specs.Octets.{over};
 ghost use Rattle.counter.specs.Counter.{stream, added};
 ghost use Rattle.sha1.specs.Sha1.{fourBytes, begun, fed, finalHash};
-ghost use Rattle.message.specs.Protection.{numberBytes, numberIn, addedLength, hashedHeader};
+ghost use Rattle.message.specs.Protection.{numberBytes, hashedHeader};
 ghost use Rattle.genuine.specs.Genuine.{sameFour, genuineUnder};
-
-// The message number that a sealed payload begins with; a byte that is not there counts as 0. Document 000, 3.5.3.
-pub fn number_in(sealed: &[u8]) -> u32
-    ensures { λ r. ⌜ r ≡ numberIn (now (sealed .entry)) ⌝ }
-{
-    wide(octets::byte(sealed, 0)) * 65536
-        + wide(octets::byte(sealed, 1)) * 256
-        + wide(octets::byte(sealed, 2))
-}
 
 fn wide(byte: u8) -> u32
     ensures { λ r. ⌜ (r ≡ byte) × (r < 256) ⌝ }
 {
     byte as u32
-}
-
-// The length of the plain payload under a header: 0 where there is no room for number and hash. Document 000, 3.5.3.
-pub fn plain_length(header: Header) -> usize
-    ensures { λ r. ⌜ (r ≡ header .«payload_length» - addedLength) × (r ≤ 65528) ⌝ }
-{
-    let size = octets::word_value(header.payload_length);
-    if size < Key::ADDED_LENGTH {
-        return 0;
-    }
-    size - Key::ADDED_LENGTH
 }
 
 // Up to 16 bytes deciphered, the first of which stands at a place of the key stream; zeros behind them. SP 800-38A, 6.5.
@@ -80,7 +58,11 @@ fn expected(keys: &[u8; 176], nonce: [u8; 5], number: u32, pdu: &[u8], enciphere
 fn begins_with(word: u32, block: [u8; 16]) -> bool
     ensures { λ r. ⌜ r ≡ sameFour (fourBytes word) block ⌝ }
 {
-    word == wide(block[0]) * 16777216 + wide(block[1]) * 65536 + wide(block[2]) * 256 + wide(block[3])
+    word
+        == wide(block[0]) * 16777216
+            + wide(block[1]) * 65536
+            + wide(block[2]) * 256
+            + wide(block[3])
 }
 
 // Whether the hash that the sealed PDU at the start of `pdu` ends with is that of its header, its number and its plain payload, under an expanded key.
@@ -90,9 +72,9 @@ pub fn is_genuine(keys: &[u8; 176], pdu: &[u8]) -> bool
 {
     let header = pdu::header_of(pdu);
     let sealed = pdu::parts::payload(pdu, header);
-    let number = number_in(sealed);
+    let number = message::number_in(sealed);
     let nonce = message::nonce(header.source, number);
-    let size = plain_length(header);
+    let size = message::plain_length(header);
     let hash = expected(keys, nonce, number, pdu, octets::part(sealed, 3, size));
     let sent = opened_block(keys, nonce, size, octets::part(sealed, size + 3, 4));
     begins_with(hash, sent)

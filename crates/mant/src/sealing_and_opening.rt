@@ -1,6 +1,6 @@
 // Sealing and opening: payloads that nobody without the key can read or make.
-use pdu::Written;
 use message::Key;
+use pdu::Written;
 ghost use mathlib.Core.Path.{_≡_};
 ghost use lib.ListN.{length};
 ghost use Rattle.sealing.specs.Sealing.{sealWritten, sealOutput};

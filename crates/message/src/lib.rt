@@ -1,15 +1,15 @@
-// A message that is sealed: its number, its nonce, its hash, and what keeps a PDU from being sealed.
+// A message that is sealed: its number, its nonce, its plain length, its hash, and what keeps a PDU from being sealed.
 use pdu::Header;
 use pdu::Written;
 use sha1::Running;
 ghost use mathlib.Core.Path.{_≡_};
 ghost use mathlib.Core.List.{_++_};
-ghost use Prim.Native.Nat.{_≤_};
+ghost use Prim.Native.Nat.{_-_, _<_, _≤_};
 ghost use lib.ListN.{take};
 ghost use Rattle.sha1.specs.Sha1.{begun, fed, finished};
-ghost use Rattle.pdu.specs.Header.{pathCountPlace};
+ghost use Rattle.pdu.specs.Header.{headerOf, pathCountPlace};
 ghost use Rattle.pdu.specs.Parts.{payloadIn};
-ghost use Rattle.message.specs.Protection.{numberBytes, maskedByte, hashedHeader, hashBytes, nonceOf};
+ghost use Rattle.message.specs.Protection.{numberBytes, numberIn, addedLength, maskedByte, hashedHeader, hashBytes, nonceOf};
 ghost use Rattle.message.specs.Sealable.{sealNumber, refusedWith};
 
 // What C hands over as a key.
@@ -30,14 +30,29 @@ impl Key {
 }
 
 // The three bytes of a message number, the most significant first. Document 000, 3.5.3.
-pub fn number_bytes(number: u32) -> [u8; 3]
-    ensures { λ r. ⌜ r ≡ numberBytes number ⌝ }
+pub fn number_bytes(value: u32) -> [u8; 3]
+    ensures { λ r. ⌜ r ≡ numberBytes value ⌝ }
 {
     [
-        (number / 65536 % 256) as u8,
-        (number / 256 % 256) as u8,
-        (number % 256) as u8,
+        (value / 65536 % 256) as u8,
+        (value / 256 % 256) as u8,
+        (value % 256) as u8,
     ]
+}
+
+// The message number that a sealed payload begins with; a byte that is not there counts as 0. Document 000, 3.5.3.
+pub fn number_in(sealed: &[u8]) -> u32
+    ensures { λ r. ⌜ r ≡ numberIn (now (sealed .entry)) ⌝ }
+{
+    wide(octets::byte(sealed, 0)) * 65536
+        + wide(octets::byte(sealed, 1)) * 256
+        + wide(octets::byte(sealed, 2))
+}
+
+fn wide(byte: u8) -> u32
+    ensures { λ r. ⌜ (r ≡ byte) × (r < 256) ⌝ }
+{
+    byte as u32
 }
 
 // What every counter block of a message begins with: its source and its number, of which three bytes count. Document 000, 3.5.3.
@@ -99,12 +114,24 @@ fn finish_hash(running: Running) -> [u8; 4]
     ]
 }
 
-// The hash's 4 bytes: of the header at the start of `sent`, the number, and the plain payload of the PDU given. Document 000, 3.5.3.
-pub fn hash_of(sent: &[u8], number: u32, pdu: &[u8], header: Header) -> [u8; 4]
-    ensures { λ r. ⌜ r ≡ hashBytes (now (sent .entry)) number (payloadIn header (now (pdu .entry))) ⌝ }
+// The hash's 4 bytes: of the header at the start of `sent`, the number, and the payload of the PDU at the start of `pdu`. Document 000, 3.5.3.
+pub fn hash_of(sent: &[u8], number: u32, pdu: &[u8]) -> [u8; 4]
+    ensures { λ r. ⌜ r ≡ hashBytes (now (sent .entry)) number (payloadIn (headerOf (now (pdu .entry))) (now (pdu .entry))) ⌝ }
 {
     let begun = begin_hash(sent, number);
+    let header = pdu::header_of(pdu);
     finish_hash(sha1::feed(begun, pdu::parts::payload(pdu, header)))
+}
+
+// The length of the plain payload under a header: 0 where there is no room for number and hash. Document 000, 3.5.3.
+pub fn plain_length(header: Header) -> usize
+    ensures { λ r. ⌜ (r ≡ header .«payload_length» - addedLength) × (r ≤ 65528) ⌝ }
+{
+    let size = octets::word_value(header.payload_length);
+    if size < Key::ADDED_LENGTH {
+        return 0;
+    }
+    size - Key::ADDED_LENGTH
 }
 
 // The first thing that keeps a PDU from being sealed into so many bytes: 1 to 6, 88, 85, 86, 87, or 0. Document 02, W-212.

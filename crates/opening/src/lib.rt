@@ -30,7 +30,7 @@ fn keyless_fault(memory: &[u32], pdu: &[u8]) -> u8
     if octets::word_value(header.payload_length) < Key::ADDED_LENGTH {
         return 81;
     }
-    let number = genuine::number_in(pdu::parts::payload(pdu, header));
+    let number = message::number_in(pdu::parts::payload(pdu, header));
     sources::number_fault(memory, header.source, number)
 }
 
@@ -48,7 +48,7 @@ fn keyed_fault(keys: &[u8; 176], memory: &[u32], pdu: &[u8], header: Header, roo
     if full != 0 {
         return full;
     }
-    if room < genuine::plain_length(header) {
+    if room < message::plain_length(header) {
         87
     } else {
         0
@@ -56,7 +56,13 @@ fn keyed_fault(keys: &[u8; 176], memory: &[u32], pdu: &[u8], header: Header, roo
 }
 
 // Puts the plain payload at the start of the output, and answers its length; does nothing and answers 0 where the PDU is refused.
-fn put_plain(refused: u8, keys: &[u8; 176], nonce: [u8; 5], sealed: &[u8], output: &mut [u8]) -> usize
+fn put_plain(
+    refused: u8,
+    keys: &[u8; 176],
+    nonce: [u8; 5],
+    sealed: &[u8],
+    output: &mut [u8],
+) -> usize
     requires { ⌜ (7 ≤ length (now sealed)) × (refused ≡ 0 → length (now sealed) - 7 ≤ length (now output)) ⌝ }
     ensures { λ r. ⌜ (r ≡ cond (eqb refused 0) (length (now (sealed .entry)) - 7) 0) × (now (output .exit)
         ≡ cond (eqb refused 0) (over (added (stream (now (keys .entry)) nonce) 0 (take (length (now (sealed .entry)) - 7) (drop 3 (now (sealed .entry)))))
@@ -72,10 +78,10 @@ fn put_plain(refused: u8, keys: &[u8; 176], nonce: [u8; 5], sealed: &[u8], outpu
 }
 
 // Notes a number as the last accepted from a source, unless the PDU is refused.
-fn note(refused: u8, memory: &mut [u32], source: u16, number: u32)
-    ensures { λ _. ⌜ now (memory .exit) ≡ cond (eqb refused 0) (memoryAccepted source number (now (memory .entry))) (now (memory .entry)) ⌝ }
+fn note(fault: u8, memory: &mut [u32], source: u16, number: u32)
+    ensures { λ _. ⌜ now (memory .exit) ≡ cond (eqb fault 0) (memoryAccepted source number (now (memory .entry))) (now (memory .entry)) ⌝ }
 {
-    if refused != 0 {
+    if fault != 0 {
         return;
     }
     sources::accept(memory, source, number);
@@ -99,7 +105,7 @@ pub fn open(key: [u8; 16], memory: &mut [u32], pdu: &[u8], output: &mut [u8]) ->
     let header = pdu::header_of(pdu);
     let late = keyed_fault(&keys, memory, pdu, header, output.len());
     let sealed = pdu::parts::payload(pdu, header);
-    let number = genuine::number_in(sealed);
+    let number = message::number_in(sealed);
     let nonce = message::nonce(header.source, number);
     let length = put_plain(late, &keys, nonce, sealed, output);
     note(late, memory, header.source, number);

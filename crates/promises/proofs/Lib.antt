@@ -2,6 +2,7 @@ pub mod Octets
 pub mod Field
 pub mod Rounds
 pub mod Aes
+pub mod Compression
 pub mod Sha1
 pub mod Counter
 pub mod Pdu
@@ -31,7 +32,9 @@ pub mod Retained
 pub mod Deciding
 pub mod Answering
 pub mod Sources
+pub mod Message
 pub mod Sealing
+pub mod Genuine
 pub mod Opening
 pub mod Chains
 pub mod Bound

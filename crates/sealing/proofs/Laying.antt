@@ -21,7 +21,7 @@ use Rattle.sha1.proofs.Feeding.{twenty}
 use Rattle.pdu.specs.declared.Header.{Header}
 use Rattle.pdu.specs.declared.Reading.the-variants.{Pdu}
 use Rattle.pdu.specs.declared.Written.{Written}
-use Rattle.pdu.specs.Header.{sourcePlace, pathCountPlace}
+use Rattle.pdu.specs.Header.{headerOf, sourcePlace, pathCountPlace}
 use Rattle.pdu.specs.Sizes.{destinationFlag, pathEntries, pathStart, headerLength, pduLength}
 use Rattle.pdu.specs.Reading.{readOf}
 use Rattle.pdu.specs.Parts.{pathIn, payloadIn}
@@ -32,7 +32,8 @@ use Rattle.writing.proofs.Encoding.{header-begins, length-header, length-pathIn
 use Rattle.writing.proofs.Within.{within, all-within, shown-within}
 use Rattle.writing.proofs.Same.{written-same, shown-well-formed}
 use Rattle.message.specs.Protection.{numberBytes, hashedHeader, hashBytes, nonceOf}
-use Rattle.sealing.specs.Sealing.{sealedHeader, sealedPayload}
+use Rattle.message.specs.Sealable.{sealedLength}
+use Rattle.sealing.specs.Sealing.{sealedHeader, sealedPayload, sealedPdu}
 
 -- the hash sees nothing behind the header's path count
 hashed-before : (header tail : List ℕ) → 4 ≤ length header → pathCountPlace (at header 0) ≤ length header
@@ -153,7 +154,8 @@ module _ (bytes output : List ℕ) (header : Header) (small : AllBytes bytes) (r
   module _ (digits plain hash : List ℕ) (number n1 p2 p3 p4 : ℕ) (o1 o2 o3 o4 : List ℕ)
       (e1 : (n1 ≡ headerLength header) × (o1 ≡ over head output)) (ed : digits ≡ numberBytes number)
       (e2 : (p2 ≡ placeAfter o1 n1 digits) × (o2 ≡ placed o1 n1 digits)) (ep : plain ≡ payloadIn header bytes)
-      (e3 : (p3 ≡ placeAfter o2 p2 plain) × (o3 ≡ placed o2 p2 plain)) (eh : hash ≡ hashBytes o3 number (payloadIn header bytes))
+      (e3 : (p3 ≡ placeAfter o2 p2 plain) × (o3 ≡ placed o2 p2 plain)) (is : header ≡ headerOf bytes)
+      (eh : hash ≡ hashBytes o3 number (payloadIn (headerOf bytes) bytes))
       (e4 : (p4 ≡ placeAfter o3 p3 hash) × (o4 ≡ placed o3 p3 hash)) where
     length-head : length head ≡ headerLength header
     length-head =
@@ -166,7 +168,7 @@ module _ (bytes output : List ℕ) (header : Header) (small : AllBytes bytes) (r
     length-digits = ap length ed
 
     hash-long : length hash ≡ 4
-    hash-long = ap length eh ∙ length-hash o3 number (payloadIn header bytes)
+    hash-long = ap length eh ∙ length-hash o3 number (payloadIn (headerOf bytes) bytes)
 
     b1 : Begins output o1 head n1
     b1 = record { is = e1 .1; ends = length-head ∙ sym (e1 .0) }
@@ -206,21 +208,23 @@ module _ (bytes output : List ℕ) (header : Header) (small : AllBytes bytes) (r
         let split : all ++ rest ≡ s ++ tail = simp append-assoc in
         let front : hashedHeader o3 ≡ hashedHeader s =
         ap hashedHeader (b3 .is ∙ split) ∙ hashed-header (sealedHeader header) tail (within (sealedHeader header) sealed-within .protocol) in
-        eh ∙ ap (λ (l : List ℕ). take 4 (sha1 (l ++ numberBytes number ++ payloadIn header bytes))) front
+        eh ∙ ap₂ (λ (l : List ℕ) (h : Header). take 4 (sha1 (l ++ numberBytes number ++ payloadIn h bytes))) front (sym is)
 
     pub sealed-put : (key nonce o5 : List ℕ) → nonce ≡ nonceOf (header .source) number
         → o5 ≡ take p2 o4 ++ (counterMode key nonce (take (p4 - p2) (drop p2 o4)) ++ drop (p4 - p2) (drop p2 o4))
-        → (p4 ≡ pduLength header + 7)
-        × (o5 ≡ over (encode (sealedHeader header) (pathIn header bytes) (sealedPayload key (sealedHeader header) number (payloadIn header bytes))) output)
-    unfolding encode sealedPayload sealedHeader
+        → (p4 ≡ sealedLength bytes) × (o5 ≡ over (sealedPdu key number bytes) output)
+    unfolding encode sealedPayload sealedHeader sealedPdu
     sealed-put key nonce o5 en e5 =
         let mid = plain ++ hash in
         let together : head ++ digits ++ plain ++ hash ≡ head ++ digits ++ mid = append-assoc (head ++ digits) plain hash in
-        let is : o4 ≡ over (head ++ digits ++ mid) output = b4 .is ∙ ap (λ (l : List ℕ). over l output) together in
+        let before : o4 ≡ over (head ++ digits ++ mid) output = b4 .is ∙ ap (λ (l : List ℕ). over l output) together in
         let long : length (head ++ digits ++ mid) ≡ p4 = ap length (sym together) ∙ b4 .ends in
-        let laid = changed-over (head ++ digits) mid output o4 o5 p2 p4 (counterMode key nonce) (length-enciphered key nonce mid) (b2 .ends) long is e5 in
+        let laid = changed-over (head ++ digits) mid output o4 o5 p2 p4 (counterMode key nonce) (length-enciphered key nonce mid) (b2 .ends) long before e5 in
         let whole : head ++ digits ++ counterMode key nonce mid
         ≡ head ++ (numberBytes number ++ counterMode key (nonceOf (header .source) number) (payloadIn header bytes
         ++ hashBytes (headerBytes (sealedHeader header)) number (payloadIn header bytes))) =
         append-assoc head digits (counterMode key nonce mid) ∙ rw (ed, en, hash-same, ep) in
-        (place-4, laid ∙ ap (λ (l : List ℕ). over l output) whole)
+        let sealed : over (encode (sealedHeader header) (pathIn header bytes) (sealedPayload key (sealedHeader header) number (payloadIn header bytes))) output
+        ≡ over (sealedPdu key number bytes) output =
+        ap (λ (h : Header). over (encode (sealedHeader h) (pathIn h bytes) (sealedPayload key (sealedHeader h) number (payloadIn h bytes))) output) is in
+        (place-4 ∙ ap (λ (h : Header). pduLength h + 7) is, laid ∙ ap (λ (l : List ℕ). over l output) whole ∙ sealed)

@@ -8,12 +8,14 @@ ghost use lib.ListN.{length, take, drop};
 ghost use Rattle.octets.specs.Octets.{over};
 ghost use Rattle.counter.specs.Counter.{counterMode};
 ghost use Rattle.pdu.specs.declared.Reading.the-variants.{Pdu};
+ghost use Rattle.pdu.specs.Header.{headerOf};
 ghost use Rattle.pdu.specs.Sizes.{headerLength, pduLength};
 ghost use Rattle.pdu.specs.Reading.{readOf};
-ghost use Rattle.pdu.specs.Parts.{pathIn, payloadIn};
-ghost use Rattle.writing.specs.Writing.{headerBytes, pathBytes, encode};
+ghost use Rattle.pdu.specs.Parts.{pathIn};
+ghost use Rattle.writing.specs.Writing.{headerBytes, pathBytes};
 ghost use Rattle.message.specs.Protection.{addedLength};
-ghost use Rattle.sealing.specs.Sealing.{sealedHeader, sealedPayload, sealWritten, sealOutput};
+ghost use Rattle.message.specs.Sealable.{sealedLength};
+ghost use Rattle.sealing.specs.Sealing.{sealedHeader, sealedPdu, sealWritten, sealOutput};
 
 // The length of a payload with number and hash.
 fn longer(length: u16) -> u16
@@ -53,7 +55,11 @@ fn put_head(output: &mut [u8], pdu: &[u8], header: Header) -> usize
         × (now (output .exit) ≡ over (headerBytes (sealedHeader header) ++ pathBytes (pathIn header (now (pdu .entry)))) (now (output .entry))) ⌝ }
 {
     let path = writing::put_header(output, sealed_header(header)).length;
-    octets::put(output, path, octets::part(pdu, path, 2 * header.path_entries()))
+    octets::put(
+        output,
+        path,
+        octets::part(pdu, path, 2 * header.path_entries()),
+    )
 }
 
 // Puts a part of an output, from `place` to `end`, through the key stream. SP 800-38A, 6.5.
@@ -78,22 +84,24 @@ pub fn seal(key: [u8; 16], number: u64, pdu: &[u8], output: &mut [u8]) -> Writte
     if refused != 0 {
         return message::refused(refused);
     }
-    let length = put_sealed(key, number as u32, pdu, pdu::header_of(pdu), output);
+    let length = put_sealed(key, number as u32, pdu, output);
     Written { number: 0, length }
 }
 
-fn put_sealed(key: [u8; 16], number: u32, pdu: &[u8], header: Header, output: &mut [u8]) -> usize
-    requires { ⌜ (readOf (now pdu) ≡ Pdu header) × (header .«payload_length» ≤ 4088) × (pduLength header + 7 ≤ length (now output)) ⌝ }
-    ensures { λ r. ⌜ (r ≡ pduLength header + 7)
-        × (now (output .exit) ≡ over (encode (sealedHeader header) (pathIn header (now (pdu .entry)))
-        (sealedPayload key (sealedHeader header) number (payloadIn header (now (pdu .entry))))) (now (output .entry))) ⌝ }
+fn put_sealed(key: [u8; 16], number: u32, pdu: &[u8], output: &mut [u8]) -> usize
+    requires { ⌜ (readOf (now pdu) ≡ Pdu (headerOf (now pdu))) × (headerOf (now pdu) .«payload_length» ≤ 4088)
+        × (sealedLength (now pdu) ≤ length (now output)) ⌝ }
+    ensures { λ r. ⌜ (r ≡ sealedLength (now (pdu .entry)))
+        × (now (output .exit) ≡ over (sealedPdu key number (now (pdu .entry))) (now (output .entry))) ⌝ }
 {
+    let header = pdu::header_of(pdu);
     let number_place = put_head(output, pdu, header);
     let digits = message::number_bytes(number);
     let place = octets::put(output, number_place, &digits);
     let hash_place = octets::put(output, place, pdu::parts::payload(pdu, header));
-    let hash = message::hash_of(output, number, pdu, header);
+    let hash = message::hash_of(output, number, pdu);
     let end = octets::put(output, hash_place, &hash);
-    encipher(key, message::nonce(header.source, number), output, place, end);
+    let nonce = message::nonce(header.source, number);
+    encipher(key, nonce, output, place, end);
     end
 }
