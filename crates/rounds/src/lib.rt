@@ -68,28 +68,28 @@ fn mixed(s: [u8; 16]) -> [u8; 16]
     columns
 }
 
-// A round that mixes columns, or the last, which does not. FIPS 197, 5.1.
-fn round_with(s: [u8; 16], k: [u8; 16], mixes: bool) -> [u8; 16]
-    ensures { λ r. ⌜ r ≡ cond mixes (round s k) (lastRound s k) ⌝ }
+// The state with its columns mixed, or as it is. FIPS 197, 5.1.
+fn mixed_where(mixes: bool, s: [u8; 16]) -> [u8; 16]
+    ensures { λ r. ⌜ r ≡ cond mixes (mixColumns s) s ⌝ }
 {
-    let table = all_substitutes();
-    let rows = shifted(&table, s);
     if mixes {
-        return add_round_key(mixed(rows), k);
+        return mixed(s);
     }
-    add_round_key(rows, k)
+    s
 }
 
 // A round. FIPS 197, 5.1.
 pub fn one_round(s: [u8; 16], k: [u8; 16]) -> [u8; 16]
     ensures { λ r. ⌜ r ≡ round s k ⌝ }
 {
-    round_with(s, k, true)
+    let table = all_substitutes();
+    add_round_key(mixed_where(true, shifted(&table, s)), k)
 }
 
-// The last round. FIPS 197, 5.1.
+// The last round, which mixes no columns. FIPS 197, 5.1.
 pub fn last_round(s: [u8; 16], k: [u8; 16]) -> [u8; 16]
     ensures { λ r. ⌜ r ≡ lastRound s k ⌝ }
 {
-    round_with(s, k, false)
+    let table = all_substitutes();
+    add_round_key(mixed_where(false, shifted(&table, s)), k)
 }
