@@ -798,7 +798,7 @@ MantOutcome mant_acknowledge(MantRetained *table, size_t records, uint64_t last,
  *     together by hand the first entry of a source counts, and an address above 65,535 is no source's. To seal, none, but the caller counts the message
  *     numbers.
  * Numbers: in sealing 1 to 6, 88, 85, 86 and 87; in opening 1 to 6, 80 to 84 and 87.
- * Stack: mant_seal 1,432, mant_open 1,504.
+ * Stack: mant_seal 1,480, mant_open 1,504.
  */
 
 #define MANT_SOURCE_LIMIT 64
