@@ -51,7 +51,7 @@ Follows node batch place (offset ∷ later) end = (offset ≡ place) × Follows 
 abbrev pub lentOutput : List ℕ
 lentOutput = replicate 100 0
 
--- node 2000 with a source pass or a source reject list on that holds its own address alone
+-- node 2000 with these lists, and its source pass or its source reject list on
 abbrev pub listing : Bool → Bool → Lists → Node
 listing pass reject lists =
     record {
@@ -86,10 +86,10 @@ pub record ShutOut : Type 0 where
       → ((node : Node) (batch other : List ℕ) (cursor : Cursor) (output : List ℕ) → 0 < cursor .place
       → stepper node batch cursor output .0 ≡ stepper node other cursor output .0)
       → KeepsStepping stepper → ⊥
-  -- guesses: at each PDU, steps that keep the promise say what 01's walk has there
+  -- guesses, and an invented count of PDUs: steps that keep the promise give 01's walk, an answer for each of its PDUs and no other
   pub no-guess : (stepper : Stepper) → KeepsStepping stepper → (node : Node) (batch output : List ℕ)
       → walkedBy stepper node batch output (length batch) (record { place = 0; ended = false }) ≡ walk node (length output) batch
-  -- an invented count of PDUs: there is one for each offset, and these follow from the bytes up to the end
+  -- and where they are: the offsets of that walk follow from the bytes, up to the end
   pub offsets-follow : (node : Node) (room : ℕ) (batch : List ℕ)
       → Follows node batch 0 (walk node room batch .offsets) (walk node room batch .end)
   -- an invented count of path entries, in the repeat of the example of document 002

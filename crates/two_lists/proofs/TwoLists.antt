@@ -276,6 +276,7 @@ two-lists =
       stepping-walks = stepping-walks-so;
       choices = λ first second. (refl, refl, refl, refl, refl, refl);
       changing-over = λ settings lists a b c d. (refl, refl, refl, refl, refl, refl, refl, refl, refl);
+      none-stops = (refl, refl, refl, refl);
       second-alone-stops = (refl, refl, refl, refl);
       first-alone-stops = (refl, refl, refl, refl);
       empty-chosen = (refl, refl, refl);
@@ -299,4 +300,5 @@ two-lists =
           (firsts-step-under edition node room batch cursor, firsts-step-output-under edition node batch cursor output);
       job-walks = firsts-walk-under;
       in-c = (refl, refl, refl, in-c);
+      in-c-each = λ node. (refl, refl, refl, refl, refl, refl, refl);
     }

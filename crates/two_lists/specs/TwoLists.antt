@@ -42,7 +42,8 @@ use Rattle.flood.specs.Air.{Repeater, Nodes, Open, Begins, Originated, address,
 use Rattle.flood.specs.Complete.{Heard, Complete}
 use Rattle.coverage.specs.Hearing.{Taken}
 use Rattle.coverage.specs.Delivery.{Planned, Delivers, Delivered}
-use Rattle.boundary.specs.Boundary.{choiceFromC}
+use Rattle.boundary.specs.declared.MantNode.{MantNode}
+use Rattle.boundary.specs.Boundary.{choiceFromC, nodeFromC}
 use Rattle.checked_by_hand.specs.Examples.{example}
 
 -- the list at a place of the order in which the eight are checked, the first at 0
@@ -223,7 +224,7 @@ pub record TwoLists : Type 0 where
       → ((n : SeasonRepeater) → List·Memᴰ n nodes → eightFault (n .node .lists) ≡ 0) → (first : List ℕ) (receptions : List Reception)
       → seasonAir editionOf nodes first receptions ≡ onTheAir (map asChosen nodes) first receptions
   -- so both bounds are reached, as in demand 3, where no list has a fault, each of the others has no list chosen, repeats what it may and has room, every
-  -- node hears every transmission, and the message is for everyone; and such receptions exist
+  -- node hears every transmission, the message is for everyone, and there are at most 255 others or its hop limit is below 7; and such receptions exist
   pub reached : (editionOf : ℕ → ℕ) → ((a : ℕ) → known (editionOf a) ≡ true) → (nodes : List SeasonRepeater) → Nodes (map asChosen nodes)
       → ((n : SeasonRepeater) → List·Memᴰ n nodes → eightFault (n .node .lists) ≡ 0)
       → (settings : asked.Settings) (payload : List ℕ) (room : ℕ) → Originated settings payload room
@@ -301,7 +302,15 @@ pub record TwoLists : Type 0 where
       → (answer .delivery ≡ 0) × (take (answer .«delivered_length») (drop (answer .«delivered_place») received) ≡ payload)
   -- C's numbers of a choice: 1 the first, 2 the second, 0 and every other none
   pub in-c : (choiceFromC 0 ≡ Neither) × (choiceFromC 1 ≡ First) × (choiceFromC 2 ≡ Second) × ((number : ℕ) → 2 < number → choiceFromC number ≡ Neither)
+  pub in-c-each : (node : MantNode) → let settings = nodeFromC node in
+      (settings .own ≡ node .own) × (settings .echo ≡ node .echo) × (settings .repeating ≡ node .repeating)
+      × (settings .«source_pass» ≡ choiceFromC (node .«source_pass»)) × (settings .«source_reject» ≡ choiceFromC (node .«source_reject»))
+      × (settings .«destination_pass» ≡ choiceFromC (node .«destination_pass»))
+      × (settings .«destination_reject» ≡ choiceFromC (node .«destination_reject»))
   -- IV. WORKED CASES
+  -- where each list chosen lets the example pass, and where none is chosen, no list stops it
+  pub none-stops : (numberBy firstsPass First First First First ≡ 39) × (numberBy firstsPass Neither Neither Neither Neither ≡ 39)
+      × (numberBy secondsPass Second Second Second Second ≡ 39) × (numberBy secondsPass Neither Neither Neither Neither ≡ 39)
   -- each kind by itself: where the list chosen does not let the example pass, the kind's own number is given
   pub second-alone-stops : (numberBy firstsPass Second Neither Neither Neither ≡ 31) × (numberBy firstsPass Neither Second Neither Neither ≡ 32)
       × (numberBy firstsPass Neither Neither Second Neither ≡ 33) × (numberBy firstsPass Neither Neither Neither Second ≡ 34)
