@@ -1,18 +1,15 @@
 -- After any hearings and removals a table shows of each station what was heard from it.
-use Prim.Native.Nat.{ℕ, suc, _+_, _-_, _≤_, _<_, min}
+use Prim.Native.Nat.{ℕ, suc, _+_, _≤_, _<_, min}
 use native.Mathlib.Omega.{arith}
-use native.Mathlib.Numerals.{add-one}
-use mathlib.Core.Bool.{Bool, true, false, not, cond, _&&_, _||_}
+use mathlib.Core.Bool.{Bool, true, false, cond, _&&_}
 use mathlib.Core.List.{List, [], _∷_, _++_}
-use mathlib.Core.Path.{_≡_, refl, ap, ap₂, sym, subst, _∙_}
-use lib.Dec.{T, leb, eqb}
-use lib.ListN.{length, take, drop, length-append, length-drop}
-use lib.Seq.{length-take-le, take-at, drop-at, split-at}
-use borrow.Author.Tests.{eqb-true, eqb-false, ne-eqb, leb-false}
+use mathlib.Core.Path.{_≡_, refl, ap, sym, subst, _∙_}
+use lib.Dec.{leb, eqb}
+use lib.ListN.{length, take, drop}
+use borrow.Author.Tests.{eqb-true, eqb-false, leb-false}
 use Rattle.octets.specs.Numbers.{_gives_}
 use Rattle.octets.specs.Octets.{at, over}
 use Rattle.stations.specs.declared.Station.{Station}
-use Rattle.stations.specs.declared.Found.{Found}
 use Rattle.stations.specs.Table.{capacity, stationsFrom, tableIn, memoryOf, addresses, newStation, stationAt, nextPlace, searched, placeOf, isHeld}
 use Rattle.stations.specs.Asking.{foundIf, stationOf}
 use Rattle.stations.proofs.Memory.{length-table, table-fits, length-addresses}
@@ -21,129 +18,15 @@ use Rattle.node.specs.declared.Answer.{Answer}
 use Rattle.decision.specs.Decision.{Node}
 use Rattle.node.specs.Answers.{answerOf}
 use Rattle.counting.specs.declared.Heard.{Heard}
-use Rattle.counting.specs.Counting.{oneMore, counted, countNumber, tableAfterCount, memoryAfterCount}
+use Rattle.counting.specs.Counting.{counted, countNumber, tableAfterCount, memoryAfterCount}
 use Rattle.counting.specs.Removing.{without, memoryAfterRemoval}
 use Rattle.listening.specs.Listening.{wasRead, heardOf, answerNumber, memoryAfterAnswer}
-use Rattle.listening.specs.History.{Deed, Hearing, Removal, memoryAfter, isCounted, since, echoesOf, pathCounts, least, shownBy, Rises}
+use Rattle.listening.specs.History.{Deed, Hearing, Removal, memoryAfter, isCounted, since, shownBy, Rises}
 use Rattle.listening.proofs.Rising.{held-at}
 use Rattle.listening.proofs.Inserting.{inserted, address-at, length-inserted, shows-new, none-before, shows-others, rises-before, rises-after}
 use Rattle.listening.proofs.Kept.{AllSound, table-sound, sound-append, sound-take, sound-drop, sound-at, sound-counted, table-kept}
-
-abbrev found : Station → Found
-found station = record { number = 0; station = station }
-
--- one PDU more
-has-more : (counts : List ℕ) (bit : Bool) (count : ℕ)
-    → (not (eqb (length counts) 0) || bit) ≡ not (eqb (length (cond bit (count ∷ counts) counts)) 0)
-has-more counts true count = go (not (eqb (length counts) 0))
-  where
-    go : (t : Bool) → (t || true) ≡ not (eqb (suc (length counts)) 0)
-    go true = rw (ne-eqb (suc (length counts)) 0 (λ z. omega arith))
-    go false = rw (ne-eqb (suc (length counts)) 0 (λ z. omega arith))
-has-more counts false count = go (not (eqb (length counts) 0))
-  where
-    go : (t : Bool) → (t || false) ≡ t
-    go true = refl
-    go false = refl
-
-shortest-more : (counts : List ℕ) (bit : Bool) (count : ℕ)
-    → cond bit (cond (not (eqb (length counts) 0)) (min (least counts) count) count) (least counts) ≡ least (cond bit (count ∷ counts) counts)
-unfolding least
-shortest-more [] true count = refl
-shortest-more (other ∷ others) true count = rw (ne-eqb (suc (length others)) 0 (λ z. omega arith)) (omega arith)
-shortest-more counts false count = refl
-
-echoes-more : (echo : Bool) (count : ℕ) → cond echo (oneMore (min count 65535)) (min count 65535) ≡ min (cond echo (count + 1) count) 65535
-echoes-more true count = omega arith
-echoes-more false count = refl
-
--- what many PDUs show, once there is one more
-pub shown-more : (address : ℕ) (heard : Heard) (before : List Heard) (station : Station) → shownBy address before ≡ found station
-    → found (counted heard station) ≡ shownBy address (heard ∷ before)
-unfolding counted echoesOf pathCounts
-shown-more address heard [] station e = let n : _≡_ {A = ℕ} 56 0 = ap (λ (f : Found). f .number) e in absurd (omega arith)
-shown-more address heard (first ∷ others) station e =
-    let before = first ∷ others in
-    let counts = pathCounts before in
-    let reads : oneMore (min (length before) 65535) ≡ min (length (heard ∷ before)) 65535 = omega arith in
-    ap (λ (f : Found). found (counted heard (f .station))) (sym e)
-    ∙ (λ i. record {
-      number = 0;
-      station = record {
-        address = address;
-        reads = reads i;
-        echoes = echoes-more (heard .echo) (echoesOf before) i;
-        «has_path» = has-more counts (heard .«path_bit») (heard .«path_count») i;
-        «shortest_path» = shortest-more counts (heard .«path_bit») (heard .«path_count») i;
-      };
-    })
-
--- and of a station's first PDU
-pub shown-first : (address : ℕ) (heard : Heard) → found (counted heard (newStation address)) ≡ shownBy address (heard ∷ [])
-unfolding counted echoesOf pathCounts least
-shown-first address heard = go (heard .echo) (heard .«path_bit»)
-  where
-    go : (echo bit : Bool)
-        → _≡_ {A = Found}
-        (record {
-          number = 0;
-          station = record {
-            address = address;
-            reads = 1;
-            echoes = cond echo 1 0;
-            «has_path» = bit;
-            «shortest_path» = cond bit (heard .«path_count») 0;
-          };
-        })
-        (record {
-          number = 0;
-          station = record {
-            address = address;
-            reads = 1;
-            echoes = min (cond echo 1 0) 65535;
-            «has_path» = not (eqb (length (cond bit (heard .«path_count» ∷ []) [])) 0);
-            «shortest_path» = least (cond bit (heard .«path_count» ∷ []) []);
-          };
-        })
-    go true true = refl
-    go true false = refl
-    go false true = refl
-    go false false = refl
-
--- where nothing is shown, nothing was heard
-pub shown-none : (address : ℕ) (heards : List Heard) → foundIf false [] 0 ≡ shownBy address heards → heards ≡ []
-shown-none address [] e = refl
-shown-none address (heard ∷ others) e = let n : _≡_ {A = ℕ} 56 0 = ap (λ (f : Found). f .number) e in absurd (omega arith)
-
--- an address that is not held is not shown
-pub not-shown : (address : ℕ) (table : List Station) → isHeld address (addresses table) ≡ false → stationOf address table ≡ foundIf false [] 0
-unfolding stationOf
-not-shown address table e = rw e
-
--- a table taken apart at a place
-put-there : (table : List Station) (place : ℕ) (station : Station) → place < length table
-    → take place table ++ station ∷ drop (place + 1) table ≡ inserted place station (without place table)
-put-there table place station h =
-    let front = take place table in
-    let back = drop (place + 1) table in
-    let long : length front ≡ place = length-take-le place table (omega arith) in
-    ap₂ (λ (xs ys : List Station). xs ++ station ∷ ys) (sym (take-at front back place long)) (sym (drop-at front back place long))
-
-stood-there : (table : List Station) (place : ℕ) → place < length table → table ≡ inserted place (stationAt table place) (without place table)
-stood-there table place h =
-    split-at table place (newStation 0) h
-    ∙ ap (λ (n : ℕ). take place table ++ stationAt table place ∷ drop n table) (sym (add-one place))
-    ∙ put-there table place (stationAt table place) h
-
-length-without : (table : List Station) (place : ℕ) → place < length table → suc (length (without place table)) ≡ length table
-length-without table place h =
-    let parts = length-append (take place table) (drop (place + 1) table) in
-    omega (arith, parts, length-take-le place table (omega arith), length-drop (place + 1) table)
-
-same-addresses : (front back : List Station) (one other : Station) → one .address ≡ other .address
-    → addresses (front ++ one ∷ back) ≡ addresses (front ++ other ∷ back)
-same-addresses [] back one other e = ap (λ (a : ℕ). a ∷ addresses back) e
-same-addresses (station ∷ front) back one other e = ap (λ (l : List ℕ). station .address ∷ l) (same-addresses front back one other e)
+use Rattle.listening.proofs.Without.{put-there, stood-there, length-without, same-addresses}
+use Rattle.listening.proofs.Shown.{found, shown-more, shown-first, shown-none, not-shown}
 
 first-word : (stations : List Station) (memory : List ℕ) → at (memoryOf stations memory) 0 ≡ length stations
 unfolding memoryOf over
