@@ -1,1 +1,4 @@
+pub mod Reading
+pub mod Hearing
+pub mod Originating
 pub mod TwoEditions
