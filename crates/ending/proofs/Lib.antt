@@ -1,6 +1,10 @@
 pub mod First
 pub mod Facts
 pub mod Holding
+pub mod Good
+pub mod AfterRetaining
+pub mod AfterHearing
+pub mod AfterStep
 pub mod Ends
 pub mod Settles
 pub mod Lowest
