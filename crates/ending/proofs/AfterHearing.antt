@@ -11,14 +11,12 @@ use Rattle.retained.specs.declared.Names.{Names}
 use Rattle.retained.specs.declared.Retained.{Retained}
 use Rattle.retained.specs.declared.Outcome.{Outcome}
 use Rattle.retained.specs.Records.{isNamed, namesOf, exchanged, sameNames, freedRecord}
-use Rattle.retained.specs.Table.{first, has, recordAt, answers, did, sent}
-use Rattle.retained.specs.Table.{freed}
+use Rattle.retained.specs.Table.{first, has, recordAt, answers, did, sent, freed}
 use Rattle.pdu.specs.Header.{headerOf}
 use Rattle.pdu.specs.Sizes.{pduLength}
 use Rattle.answering.specs.declared.Sending.{Sending}
 use Rattle.answering.specs.Delivered.{isAcknowledgement, isAnswered, ackHeader, answered, acknowledgeNumber, acknowledge, tableAcknowledged}
-use Rattle.ending.specs.History.{Arrived, Settings, HearPdu, Life}
-use Rattle.ending.specs.History.{watch, next}
+use Rattle.ending.specs.History.{Arrived, Settings, HearPdu, Life, watch, next}
 use Rattle.ending.proofs.First.{has-hit}
 use Rattle.ending.proofs.Facts.{names-eq, free-is, other-name, freed-free}
 use Rattle.ending.proofs.Holding.{never, elsewhere, removed}

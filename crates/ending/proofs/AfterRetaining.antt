@@ -14,10 +14,8 @@ use Rattle.octets.proofs.Numbering.{orElse-zero, gives-zero}
 use Rattle.retained.specs.declared.Names.{Names}
 use Rattle.retained.specs.declared.Retained.{Retained}
 use Rattle.retained.specs.Records.{unfit, isUsed, isFree, isNamed, namesOf, sameNames, retainedRecord}
-use Rattle.retained.specs.Table.{tableFault, timeFault, first, has, recordAt, answers, did, kept, sent}
-use Rattle.retained.specs.Table.{retainNumber, retain, tableRetained}
-use Rattle.ending.specs.History.{Waiting, Settings, RetainAt, Life}
-use Rattle.ending.specs.History.{watch, next}
+use Rattle.retained.specs.Table.{tableFault, timeFault, first, has, recordAt, answers, did, kept, sent, retainNumber, retain, tableRetained}
+use Rattle.ending.specs.History.{Waiting, Settings, RetainAt, Life, watch, next}
 use Rattle.ending.proofs.First.{has-hit, has-none}
 use Rattle.ending.proofs.Facts.{names-eq, free-is, retained-named}
 use Rattle.ending.proofs.Holding.{never, elsewhere, retained}

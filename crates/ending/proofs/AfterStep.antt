@@ -14,10 +14,8 @@ use Rattle.retained.specs.declared.Names.{Names}
 use Rattle.retained.specs.declared.Retained.{Retained}
 use Rattle.retained.specs.declared.Outcome.{Outcome}
 use Rattle.retained.specs.Records.{isUsed, isNamed, isDue, pduOf, namesOf, sameNames, sentRecord, freedRecord}
-use Rattle.retained.specs.Table.{tableFault, timeFault, has, recordAt, due, isSpent, answers, did, sent}
-use Rattle.retained.specs.Table.{failed, stepNumber, step, tableStepped}
-use Rattle.ending.specs.History.{Lost, isWaiting, Settings, StepAt, Life}
-use Rattle.ending.specs.History.{watch, next}
+use Rattle.retained.specs.Table.{tableFault, timeFault, has, recordAt, due, isSpent, answers, did, sent, failed, stepNumber, step, tableStepped}
+use Rattle.ending.specs.History.{Lost, isWaiting, Settings, StepAt, Life, watch, next}
 use Rattle.ending.proofs.First.{has-hit, has-none}
 use Rattle.ending.proofs.Facts.{named-is, free-is, freed-free, sent-named, due-used}
 use Rattle.ending.proofs.Holding.{Kept, Status, gone, here, never, quiet, elsewhere, again, removed, kept-at, passes}

@@ -1,10 +1,9 @@
 -- An acknowledgement reads back as it was made; a PDU waits where it was retained.
 use native.Mathlib.Omega.{arith}
 use mathlib.Core.Path.{_≡_, refl, sym, _∙_, ap, subst}
-use Prim.Native.Nat.{ℕ, zero, suc, _+_, _<_, _≤_}
-use mathlib.Core.Bool.{Bool, true, false, not, cond, _&&_}
-use mathlib.Core.List.{List, [], _∷_, _++_}
-use lib.Dec.{eqb, leb, ltb}
+use Prim.Native.Nat.{ℕ, _<_, _≤_}
+use mathlib.Core.Bool.{true}
+use mathlib.Core.List.{List, [], _++_}
 use lib.ListN.{length, set, length-set}
 use borrow.Author.Tests.{eq-eqb}
 use Rattle.pdu.specs.declared.Header.{Header}
@@ -12,17 +11,16 @@ use Rattle.pdu.specs.declared.Reading.the-variants.{Pdu}
 use Rattle.pdu.specs.Header.{headerOf}
 use Rattle.pdu.specs.Reading.{readOf}
 use Rattle.pdu.proofs.Inversion.{shown}
-use Rattle.writing.specs.Writing.{encode, WellFormed}
+use Rattle.writing.specs.Writing.{WellFormed}
 use Rattle.writing.proofs.Back.{read-encode}
 use Rattle.retained.specs.declared.Names.{Names}
 use Rattle.retained.specs.declared.Retained.{Retained}
-use Rattle.retained.specs.Records.{isRetainable, isUsed, isFree, isNamed, namesOf, addressOf, exchanged, retainedRecord, freedRecord, unfit, sameNames}
-use Rattle.retained.specs.Table.{first, has, recordAt, answers, did, kept, freed, retain, tableRetained}
+use Rattle.retained.specs.Records.{isNamed, namesOf, addressOf, exchanged, retainedRecord, unfit, sameNames}
 use Rattle.answering.specs.declared.Sending.{Sending}
 use Rattle.answering.specs.Delivered.{ackHeader, acknowledgement}
 use Rattle.ending.specs.First.{FirstAt, Nowhere}
 use Rattle.ending.proofs.First.{same-place, other-place}
-use Rattle.ending.proofs.Facts.{retained-named, names-eq}
+use Rattle.ending.proofs.Facts.{retained-named}
 
 module _ (sending : Sending) (names : Names) (hop : sending .«hop_limit» ≤ 7) (port : sending .port ≤ 15) (rest : List ℕ) where
   pub formed : WellFormed (ackHeader sending names) [] []

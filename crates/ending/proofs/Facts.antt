@@ -1,15 +1,13 @@
 -- Names, and what a record is named after it was retained, sent again or freed.
 use native.Mathlib.Omega.{arith}
 use mathlib.Core.Path.{_≡_, refl, sym, _∙_, ap, subst}
-use Prim.Native.Nat.{ℕ, zero, suc, _+_, _<_, _≤_}
-use mathlib.Core.Logic.{_⊎_, inl, inr}
-use mathlib.Core.Bool.{true, false, not, cond, _&&_}
-use mathlib.Core.List.{List, [], _∷_}
-use lib.Dec.{eqb, leb, ltb}
+use Prim.Native.Nat.{ℕ, _+_, _≤_}
+use mathlib.Core.Bool.{true, false, _&&_}
+use mathlib.Core.List.{List}
+use lib.Dec.{eqb}
 use lib.ListN.{length, take, replicate, length-replicate}
-use borrow.Author.Tests.{eqb-true, eq-eqb, leb-true, le-leb, ltb-false}
+use borrow.Author.Tests.{eqb-true, eq-eqb, le-leb, ltb-false}
 use Rattle.octets.specs.Numbers.{_gives_, _orElse_}
-use Rattle.octets.specs.Octets.{placed, over}
 use Rattle.octets.proofs.Numbering.{orElse-zero, gives-zero}
 use Rattle.octets.proofs.Placing.{placed-start, take-over}
 use Rattle.octets.proofs.Tests.{both}

@@ -7,8 +7,7 @@ use lib.ListN.{length, set, length-set}
 use Rattle.retained.specs.declared.Names.{Names}
 use Rattle.retained.specs.declared.Retained.{Retained}
 use Rattle.retained.specs.Table.{tableSize}
-use Rattle.ending.specs.History.{Fate, NotYet, Waiting, Lost, Arrived, Settings, Life}
-use Rattle.ending.specs.History.{World}
+use Rattle.ending.specs.History.{Fate, NotYet, Waiting, Lost, Arrived, Settings, Life, World}
 use Rattle.ending.proofs.Holding.{Status}
 
 abbrev pub isLost : Fate → Bool

@@ -1,29 +1,25 @@
 -- What a PDU heard is answered and leaves, case by case; the cases leave none out.
-use native.Mathlib.Omega.{arith}
-use mathlib.Core.Path.{_≡_, refl, sym, _∙_, ap, subst}
-use Prim.Native.Nat.{ℕ, zero, suc, _+_, _<_, _≤_}
-use mathlib.Core.Logic.{_⊎_, inl, inr}
+use mathlib.Core.Path.{_≡_, refl, sym, _∙_, ap}
+use Prim.Native.Nat.{ℕ, _<_, _≤_}
 use mathlib.Core.Bool.{Bool, true, false, not, cond, _&&_}
-use mathlib.Core.List.{List, [], _∷_}
-use lib.Dec.{eqb, leb, ltb}
+use mathlib.Core.List.{List}
+use lib.Dec.{eqb, ltb}
 use lib.ListN.{length, set}
-use borrow.Author.Tests.{eq-eqb, ne-eqb, lt-ltb, le-ltb, ltb-true, ltb-false}
+use borrow.Author.Tests.{eq-eqb, ne-eqb, lt-ltb, le-ltb}
 use Rattle.octets.specs.Numbers.{_gives_, _orElse_}
 use Rattle.octets.specs.Octets.{over}
 use Rattle.octets.proofs.Numbering.{orElse-none}
 use Rattle.pdu.specs.Header.{headerOf}
 use Rattle.pdu.specs.Sizes.{pduLength}
-use Rattle.retained.specs.declared.Names.{Names}
 use Rattle.retained.specs.declared.Retained.{Retained}
 use Rattle.retained.specs.declared.Outcome.{Outcome}
-use Rattle.retained.specs.Records.{isRetainable, unfit, isUsed, isFree, isNamed, isDue, pduOf, namesOf, exchanged, retainedRecord, sentRecord, freedRecord}
-use Rattle.retained.specs.Table.{first, has, recordAt, due, dueRecord, answers, did, kept, sent, failed, freed}
-use Rattle.retained.specs.Table.{retainNumber, retain, tableRetained, stepNumber, step, tableStepped, outputStepped}
+use Rattle.retained.specs.Records.{namesOf, exchanged, freedRecord}
+use Rattle.retained.specs.Table.{first, has, answers, did, freed}
 use Rattle.answering.specs.declared.Sending.{Sending}
 use Rattle.answering.specs.Delivered.{isAnswered, isAcknowledgement, matching, ackHeader, acknowledgement, answered}
 use Rattle.answering.specs.Delivered.{acknowledgeNumber, acknowledge, tableAcknowledged, outputAcknowledged}
 use Rattle.ending.specs.First.{FirstAt, Nowhere}
-use Rattle.ending.proofs.First.{has-at, has-nowhere}
+use Rattle.ending.proofs.First.{has-nowhere}
 use Rattle.ending.proofs.Lowest.{first-at, has-first, no-match, some}
 
 module _ (table : List Retained) (last delivery : ℕ) (sending : Sending) (received output : List ℕ) where
@@ -90,7 +86,8 @@ module _ (table : List Retained) (last delivery : ℕ) (sending : Sending) (rece
 
           number-77 : room < long → acknowledgeNumber table delivery sending room received ≡ 77
           unfolding acknowledgeNumber _gives_ _orElse_
-          number-77 l = simp (a, le-ltb 7 (sending .«hop_limit») h, le-ltb 15 (sending .port) p, eq-eqb (length table) 16 s) (tested (ltb room long) (lt-ltb room long l))
+          number-77 l =
+              simp (a, le-ltb 7 (sending .«hop_limit») h, le-ltb 15 (sending .port) p, eq-eqb (length table) 16 s) (tested (ltb room long) (lt-ltb room long l))
             where
               tested : (b : Bool) → b ≡ true → cond {A = ℕ} b 77 0 ≡ 77
               tested b e = simp e
@@ -100,7 +97,8 @@ module _ (table : List Retained) (last delivery : ℕ) (sending : Sending) (rece
 
           number-0 : long ≤ room → acknowledgeNumber table delivery sending room received ≡ 0
           unfolding acknowledgeNumber _gives_ _orElse_
-          number-0 l = simp (a, le-ltb 7 (sending .«hop_limit») h, le-ltb 15 (sending .port) p, eq-eqb (length table) 16 s) (tested (ltb room long) (le-ltb room long l))
+          number-0 l =
+              simp (a, le-ltb 7 (sending .«hop_limit») h, le-ltb 15 (sending .port) p, eq-eqb (length table) 16 s) (tested (ltb room long) (le-ltb room long l))
             where
               tested : (b : Bool) → b ≡ false → cond {A = ℕ} b 77 0 ≡ 0
               tested b e = simp e

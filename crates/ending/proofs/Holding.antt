@@ -1,20 +1,20 @@
 -- What holds of the table and of a PDU's life, and how each kind of change keeps it.
 use native.Mathlib.Omega.{arith}
-use mathlib.Core.Path.{_≡_, refl, sym, _∙_, ap, subst}
-use Prim.Native.Nat.{ℕ, zero, suc, _+_, _<_, _≤_}
+use mathlib.Core.Path.{_≡_, sym, _∙_, ap, subst}
+use Prim.Native.Nat.{ℕ, _+_, _<_, _≤_}
 use mathlib.Core.Logic.{_⊎_, inl, inr}
-use mathlib.Core.Bool.{Bool, true, false, not, cond, _&&_}
-use mathlib.Core.List.{List, [], _∷_}
-use lib.Dec.{eqb, leb, ltb}
+use mathlib.Core.Bool.{Bool, true, false, cond}
+use mathlib.Core.List.{List}
+use lib.Dec.{eqb}
 use lib.ListN.{length, set, length-set}
 use borrow.Author.Tests.{eqb-true, eqb-false}
 use Rattle.retained.specs.declared.Names.{Names}
 use Rattle.retained.specs.declared.Retained.{Retained}
-use Rattle.retained.specs.Records.{unfit, isUsed, isNamed, isDue, namesOf, sameNames, retainedRecord, sentRecord, freedRecord}
-use Rattle.retained.specs.Table.{tableSize, recordAt}
+use Rattle.retained.specs.Records.{isNamed, isDue}
+use Rattle.retained.specs.Table.{recordAt}
 use Rattle.ending.specs.History.{Life, isWaiting}
 use Rattle.ending.proofs.First.{by-cases, at-set, same-place, other-place}
-use Rattle.ending.proofs.Facts.{named-used, free-is, freed-free, sent-named, retained-named, is-due}
+use Rattle.ending.proofs.Facts.{named-used, is-due}
 
 -- the record of a PDU that is held: its count is how often it was sent; it was sent oftener than moments were counted, or as often and not after the last
 -- of them

@@ -1,29 +1,17 @@
 -- What retaining answers and leaves, case by case; the cases leave none out.
-use native.Mathlib.Omega.{arith}
-use mathlib.Core.Path.{_≡_, refl, sym, _∙_, ap, subst}
-use Prim.Native.Nat.{ℕ, zero, suc, _+_, _<_, _≤_}
-use mathlib.Core.Logic.{_⊎_, inl, inr}
-use mathlib.Core.Bool.{Bool, true, false, not, cond, _&&_}
-use mathlib.Core.List.{List, [], _∷_}
-use lib.Dec.{eqb, leb, ltb}
+use mathlib.Core.Path.{_≡_}
+use Prim.Native.Nat.{ℕ, suc, _<_, _≤_}
+use mathlib.Core.Bool.{true, false}
+use mathlib.Core.List.{List}
 use lib.ListN.{length, set}
-use borrow.Author.Tests.{eq-eqb, ne-eqb, lt-ltb, le-ltb, ltb-true, ltb-false}
+use borrow.Author.Tests.{eq-eqb, ne-eqb, lt-ltb, le-ltb}
 use Rattle.octets.specs.Numbers.{_gives_, _orElse_}
-use Rattle.octets.specs.Octets.{over}
-use Rattle.pdu.specs.Header.{headerOf}
-use Rattle.pdu.specs.Sizes.{pduLength}
-use Rattle.retained.specs.declared.Names.{Names}
 use Rattle.retained.specs.declared.Retained.{Retained}
-use Rattle.retained.specs.declared.Outcome.{Outcome}
-use Rattle.retained.specs.Records.{isRetainable, unfit, isUsed, isFree, isNamed, isDue, pduOf, namesOf, exchanged, retainedRecord, sentRecord, freedRecord}
-use Rattle.retained.specs.Table.{first, has, recordAt, due, dueRecord, answers, did, kept, sent, failed, freed}
-use Rattle.retained.specs.Table.{retainNumber, retain, tableRetained, stepNumber, step, tableStepped, outputStepped}
-use Rattle.answering.specs.declared.Sending.{Sending}
-use Rattle.answering.specs.Delivered.{isAnswered, isAcknowledgement, matching, ackHeader, acknowledgement, answered}
-use Rattle.answering.specs.Delivered.{acknowledgeNumber, acknowledge, tableAcknowledged, outputAcknowledged}
+use Rattle.retained.specs.Records.{isRetainable, unfit, isFree, isNamed, namesOf, retainedRecord}
+use Rattle.retained.specs.Table.{first, has, recordAt, answers, did, kept, retainNumber, retain, tableRetained}
 use Rattle.ending.specs.First.{FirstAt, Nowhere}
 use Rattle.ending.proofs.First.{has-at, has-nowhere}
-use Rattle.ending.proofs.Lowest.{first-at, has-first, no-match, some}
+use Rattle.ending.proofs.Lowest.{first-at, has-first, some}
 
 module _ (table : List Retained) (last now : ℕ) (bytes : List ℕ) where
   abbrev Refuses : ℕ → Type 0

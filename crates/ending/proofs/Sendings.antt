@@ -1,13 +1,12 @@
 -- What goes out on the air: a retained PDU and an acknowledgement, as PDUs with no address in their paths.
 use native.Mathlib.Omega.{arith}
-use mathlib.Core.Path.{_≡_, refl, sym, _∙_, ap, subst}
-use Prim.Native.Nat.{ℕ, zero, suc, _+_, _<_, _≤_}
-use mathlib.Core.Bool.{Bool, true, false, not, cond, _&&_}
+use mathlib.Core.Path.{_≡_, refl, sym, _∙_, ap}
+use Prim.Native.Nat.{ℕ, _<_, _≤_}
+use mathlib.Core.Bool.{Bool, true, false, not, cond}
 use mathlib.Core.List.{List, [], _∷_, _++_, append-nil}
-use lib.Dec.{eqb, ltb}
+use lib.Dec.{eqb}
 use lib.ListN.{length}
-use borrow.Author.Tests.{eqb-true, eq-eqb, ltb-false, not-false, not-true}
-use Rattle.octets.specs.Numbers.{flag, _gives_, _orElse_}
+use borrow.Author.Tests.{eqb-true, ltb-false, not-false, not-true}
 use Rattle.octets.specs.Octets.{AllBytes, wordBytes}
 use Rattle.octets.proofs.Numbering.{orElse-zero, gives-zero}
 use Rattle.octets.proofs.Words.{bytes-none, bytes-more, bytes-joined, bytes-word, bytes-four}
@@ -21,7 +20,7 @@ use Rattle.pdu.specs.Parts.{addressesAt, pathIn}
 use Rattle.pdu.specs.Reading.{readOf, exactlyOne}
 use Rattle.pdu.proofs.Exact.{is-exact}
 use Rattle.writing.specs.Writing.{fixedPart, destinationBytes, onlyIf, headerBytes, pathBytes, encode}
-use Rattle.writing.proofs.Back.{path-encode, length-encode}
+use Rattle.writing.proofs.Back.{length-encode}
 use Rattle.retained.specs.declared.Names.{Names}
 use Rattle.retained.specs.Records.{isRetainable, unfit}
 use Rattle.answering.specs.declared.Sending.{Sending}

@@ -8,18 +8,16 @@ use mathlib.Core.Bool.{Bool, true, false, not, cond, _&&_}
 use mathlib.Core.List.{List, [], _∷_}
 use lib.Dec.{eqb, leb, ltb}
 use lib.ListN.{length, set, length-set}
-use borrow.Author.Tests.{eqb-true, eqb-false, eq-eqb, ltb-true, ltb-false, le-ltb, lt-leb, leb-true, leb-false, not-true, not-false}
+use borrow.Author.Tests.{eqb-false, eq-eqb, ltb-true, le-ltb, lt-leb, leb-true, not-false}
 use Rattle.octets.specs.Numbers.{_gives_, _orElse_}
 use Rattle.octets.proofs.Tests.{both}
 use Rattle.retained.specs.declared.Names.{Names}
 use Rattle.retained.specs.declared.Retained.{Retained}
-use Rattle.retained.specs.declared.Outcome.{Outcome}
 use Rattle.retained.specs.Records.{recordLimit, isUsed, isDue, pduOf, namesOf, sentRecord, freedRecord}
-use Rattle.retained.specs.Table.{tableSize, tableFault, timeFault, first, has, recordAt, due, isSpent, stepped, answers, did, sent, failed}
-use Rattle.retained.specs.Table.{stepNumber, step, tableStepped}
-use Rattle.ending.specs.History.{Settings, Operation, StepAt, World, answer, noneDue, watch, next, history}
-use Rattle.ending.specs.Ending.{enough, steps, Settling}
-use Rattle.ending.proofs.First.{by-cases, has-hit, has-none, has-nowhere}
+use Rattle.retained.specs.Table.{tableSize, has, recordAt, due, isSpent, stepped, answers, did, sent, failed, stepNumber, step, tableStepped}
+use Rattle.ending.specs.History.{Settings, StepAt, World, noneDue, next, history}
+use Rattle.ending.specs.Ending.{steps, Settling}
+use Rattle.ending.proofs.First.{by-cases, has-hit, has-none}
 use Rattle.ending.proofs.Facts.{freed-free, due-used}
 
 free-not-due : (now delay : ℕ) (r : Retained) → isUsed r ≡ false → isDue now delay r ≡ false

@@ -1,29 +1,20 @@
 -- What a step answers and leaves, case by case; the cases leave none out.
-use native.Mathlib.Omega.{arith}
-use mathlib.Core.Path.{_≡_, refl, sym, _∙_, ap, subst}
-use Prim.Native.Nat.{ℕ, zero, suc, _+_, _<_, _≤_}
-use mathlib.Core.Logic.{_⊎_, inl, inr}
-use mathlib.Core.Bool.{Bool, true, false, not, cond, _&&_}
-use mathlib.Core.List.{List, [], _∷_}
-use lib.Dec.{eqb, leb, ltb}
+use mathlib.Core.Path.{_≡_, _∙_, ap}
+use Prim.Native.Nat.{ℕ, _<_, _≤_}
+use mathlib.Core.Bool.{true, false, not, cond, _&&_}
+use mathlib.Core.List.{List}
+use lib.Dec.{ltb}
 use lib.ListN.{length, set}
-use borrow.Author.Tests.{eq-eqb, ne-eqb, lt-ltb, le-ltb, ltb-true, ltb-false}
+use borrow.Author.Tests.{eq-eqb, ne-eqb, lt-ltb, le-ltb}
 use Rattle.octets.specs.Numbers.{_gives_, _orElse_}
 use Rattle.octets.specs.Octets.{over}
-use Rattle.pdu.specs.Header.{headerOf}
-use Rattle.pdu.specs.Sizes.{pduLength}
-use Rattle.retained.specs.declared.Names.{Names}
 use Rattle.retained.specs.declared.Retained.{Retained}
 use Rattle.retained.specs.declared.Outcome.{Outcome}
-use Rattle.retained.specs.Records.{isRetainable, unfit, isUsed, isFree, isNamed, isDue, pduOf, namesOf, exchanged, retainedRecord, sentRecord, freedRecord}
-use Rattle.retained.specs.Table.{first, has, recordAt, due, dueRecord, lacksRoom, told, stepped, answers, did, kept, sent, failed, freed}
-use Rattle.retained.specs.Table.{retainNumber, retain, tableRetained, stepNumber, step, tableStepped, outputStepped}
-use Rattle.answering.specs.declared.Sending.{Sending}
-use Rattle.answering.specs.Delivered.{isAnswered, isAcknowledgement, matching, ackHeader, acknowledgement, answered}
-use Rattle.answering.specs.Delivered.{acknowledgeNumber, acknowledge, tableAcknowledged, outputAcknowledged}
+use Rattle.retained.specs.Records.{isDue, pduOf, namesOf, sentRecord, freedRecord}
+use Rattle.retained.specs.Table.{has, recordAt, due, lacksRoom, told, stepped, answers, did, sent, failed, stepNumber, step, tableStepped, outputStepped}
 use Rattle.ending.specs.First.{FirstAt, Nowhere}
-use Rattle.ending.proofs.First.{has-at, has-nowhere}
-use Rattle.ending.proofs.Lowest.{first-at, has-first, no-match, some}
+use Rattle.ending.proofs.First.{has-nowhere}
+use Rattle.ending.proofs.Lowest.{first-at, has-first, some}
 
 module _ (table : List Retained) (last now delay tries : ℕ) (output : List ℕ) where
   abbrev room : ℕ

@@ -21,20 +21,17 @@ use Rattle.node.proofs.Heard.{repeats}
 use Rattle.node.proofs.Encoded.{repeat-reads}
 use Rattle.retained.specs.declared.Names.{Names}
 use Rattle.retained.specs.declared.Retained.{Retained}
-use Rattle.retained.specs.Records.{unfit, isFree, addressOf, namesOf, exchanged, isNamed}
-use Rattle.retained.specs.Records.{retainedRecord, freedRecord}
+use Rattle.retained.specs.Records.{unfit, isFree, addressOf, namesOf, exchanged, isNamed, retainedRecord, freedRecord}
 use Rattle.retained.specs.Table.{did, freed, tableRetained}
 use Rattle.answering.specs.declared.Sending.{Sending}
-use Rattle.answering.specs.Delivered.{isAnswered, isAcknowledgement, ackHeader, acknowledgement}
-use Rattle.answering.specs.Delivered.{outputAcknowledged}
+use Rattle.answering.specs.Delivered.{isAnswered, isAcknowledgement, ackHeader, acknowledgement, outputAcknowledged}
 use Rattle.ending.specs.First.{FirstAt, Nowhere}
 use Rattle.ending.proofs.Retaining.{retain-kept}
 use Rattle.ending.proofs.Hearing.{answer-sent, acknowledged}
 use Rattle.ending.proofs.Exchanged.{ack-shows, ack-names, retained-waits}
 use Rattle.ending.proofs.Sendings.{fit-is, no-entries, ack-alone-shows, ack-one, ack-path, ack-small}
 use Rattle.flood.specs.Air.{Begins, sourceOf, hopOf}
-use Rattle.reliable_messages.specs.ReliableMessages.{Handles, SamePdu}
-use Rattle.reliable_messages.specs.ReliableMessages.{sendingOf}
+use Rattle.reliable_messages.specs.ReliableMessages.{Handles, SamePdu, sendingOf}
 use Rattle.reliable_messages.proofs.Tests.{are-asked}
 
 -- an acknowledgement beside a fresh PDU with the same settings

@@ -12,11 +12,9 @@ use Rattle.pdu.specs.Parts.{addressesAt, inPath}
 use Rattle.lists.specs.Lists.{lowAboveHigh, faultOf, firstFault, holds}
 use Rattle.decision.specs.Decision.{echoFault, passFault, dropFault, deliveryFault, repeatFault}
 use Rattle.node.specs.Answers.{listOrReadingFault, stopFault, deliveryNumber}
-use Rattle.retained.specs.Records.{isRetainable, unfit, isUsed, namesOf, isNamed, isDue}
-use Rattle.retained.specs.Records.{retainedRecord, freedRecord}
+use Rattle.retained.specs.Records.{isRetainable, unfit, isUsed, namesOf, isNamed, isDue, retainedRecord, freedRecord}
 use Rattle.retained.specs.Table.{first, retainNumber, retain, tableRetained, stepNumber, step, tableStepped}
-use Rattle.answering.specs.Delivered.{acknowledgement}
-use Rattle.answering.specs.Delivered.{acknowledgeNumber, acknowledge, tableAcknowledged}
+use Rattle.answering.specs.Delivered.{acknowledgement, acknowledgeNumber, acknowledge, tableAcknowledged}
 use Rattle.ending.specs.History.{RetainAt, HearPdu, StepAt, Waiting, Lost, Arrived, watch, next, history, start}
 use Rattle.ending.proofs.Facts.{freed-free, is-due, retained-pdu}
 use Rattle.ending.proofs.Lowest.{first-or-none}
