@@ -1,2 +1,5 @@
+pub mod Faults
 pub mod SeasonAir
+pub mod SeasonBound
+pub mod SeasonReach
 pub mod TwoLists

@@ -1,1 +1,3 @@
+pub mod ListsAndChoices
+pub mod SeasonNetwork
 pub mod TwoLists

@@ -1,23 +1,19 @@
 -- Document 02, W-211, as one record; `proofs/TwoLists.antt` gives it from its parts. The edition is W-209's, and a variable wherever it does not matter.
 use Prim.Native.Nat.{ℕ, _+_, _*_, _-_, _<_, _≤_}
-use mathlib.Core.Bool.{Bool, true, false, cond}
+use mathlib.Core.Bool.{Bool, true, false}
 use mathlib.Core.List.{List, [], _∷_, map, flatten, List·Memᴰ, List·Nodup}
 use mathlib.Core.Logic.{_⊎_, _≢_}
-use mathlib.Core.Option.{Option, none, some}
 use mathlib.Core.Path.{_≡_}
-use lib.Dec.{eqb}
-use lib.ListN.{length, getD, getElem?, take, drop}
+use lib.ListN.{length, take, drop}
 use Rattle.pdu.specs.declared.Destination.the-variants.{Everyone}
 use Rattle.pdu.specs.declared.Sender.the-variants.{Unknown}
 use Rattle.pdu.specs.Sizes.{pathLimit}
-use Rattle.pdu.specs.Header.{headerOf}
 use Rattle.editions.specs.Editions.{known}
 use Rattle.origin.specs.declared.Settings as asked
 use Rattle.origin.specs.Origination.{fresh}
 use Rattle.lists.specs.Lists.{faultOf, listsOf, listFault}
 use Rattle.decision.specs.Decision.{Node}
 use Rattle.node.specs.declared.Answer.{Answer}
-use Rattle.node.specs.Repeat.{repeated}
 use Rattle.node.specs.Answers.{delivered, twice}
 use Rattle.batch.specs.declared.Cursor.{Cursor}
 use Rattle.batch.specs.declared.Stepped.the-variants.{TooLong, Ended, Answered}
@@ -26,10 +22,8 @@ use Rattle.hearing.specs.Hearing.{answerUnder, outputUnder, stepUnder, stepOutp
 use Rattle.seasons.specs.declared.Choice.{Choice}
 use Rattle.seasons.specs.declared.Choice.the-variants.{First, Second, Neither}
 use Rattle.seasons.specs.declared.SeasonSettings.{SeasonSettings}
-use Rattle.seasons.specs.Choosing.{two, EightLists, eightOf, inOrderOfKinds, eightFault, isChosen, chosenOf}
-use Rattle.seasons.specs.Choosing.{SeasonNode, seasonNodeOf, chosenNode, withFirsts}
-use Rattle.seasons.specs.Under.{seasonAnswerUnder, seasonOutputUnder, SeasonHears, seasonStepUnder, seasonStepOutputUnder, seasonWalkUnder}
-use Rattle.seasons.specs.Under.{seasonStepsUnder}
+use Rattle.seasons.specs.Choosing.{two, EightLists, inOrderOfKinds, eightFault, isChosen, chosenOf, SeasonNode, seasonNodeOf, chosenNode, withFirsts}
+use Rattle.seasons.specs.Under.{seasonAnswerUnder, seasonOutputUnder, SeasonHears, seasonStepUnder, seasonStepOutputUnder, seasonWalkUnder, seasonStepsUnder}
 use Rattle.job.specs.declared.Job.{Job}
 use Rattle.job.specs.Jobs.{nodeIn}
 use Rattle.listening.specs.Listening.{answerNumber, memoryAfterAnswer}
@@ -37,112 +31,15 @@ use Rattle.queue.specs.Queue.{heldIn, front}
 use Rattle.transmit.specs.History.{places, allReadable}
 use Rattle.bound.specs.Bound.{terms, bound, bytesBound}
 use Rattle.chains.specs.Chains.{Chain, Shortest}
-use Rattle.flood.specs.Flood.{Reception, flood, total, others, Bounded}
+use Rattle.flood.specs.Flood.{Reception, total, others, Bounded}
 use Rattle.flood.specs.Air.{Repeater, Nodes, Open, Begins, Originated, address, sourceOf, pathOf, hopOf, onTheAir}
-use Rattle.flood.specs.Complete.{Heard, Complete}
+use Rattle.flood.specs.Complete.{Complete}
 use Rattle.coverage.specs.Hearing.{Taken}
 use Rattle.coverage.specs.Delivery.{Planned, Delivers, Delivered}
 use Rattle.boundary.specs.declared.MantNode.{MantNode}
 use Rattle.boundary.specs.Boundary.{choiceFromC, nodeFromC}
-use Rattle.checked_by_hand.specs.Examples.{example}
-
--- the list at a place of the order in which the eight are checked, the first at 0
-abbrev pub listInOrder : EightLists → ℕ → List ℕ
-listInOrder lists k = getD (inOrderOfKinds lists) k []
-
--- lists for all kinds, the first and the second of each, in the order in which they are checked
-abbrev pub eightInOrder : List ℕ → List ℕ → List ℕ → List ℕ → List ℕ → List ℕ → List ℕ → List ℕ → EightLists
-eightInOrder a b c d e f g h = eightOf (two a b) (two c d) (two e f) (two g h)
-
--- settings with other choices; all else in them is as it was
-abbrev pub changedTo : Choice → Choice → Choice → Choice → SeasonSettings → SeasonSettings
-changedTo a b c d settings =
-    record {
-      own = settings .own;
-      echo = settings .echo;
-      repeating = settings .repeating;
-      «source_pass» = a;
-      «source_reject» = b;
-      «destination_pass» = c;
-      «destination_reject» = d;
-    }
-
--- a node of a network (demand 3) with two lists of each kind, and the bytes of its output; as a node of 01 with the lists chosen
-pub record SeasonRepeater : Type 0 where
-  pub node : SeasonNode
-  pub room : ℕ
-
-abbrev pub own : SeasonRepeater → ℕ
-own repeater = repeater .node .settings .own
-
-abbrev pub asChosen : SeasonRepeater → Repeater
-asChosen repeater = record { node = chosenNode (repeater .node); room = repeater .room }
-
--- what it sends under its edition when it hears a PDU: the repeated PDU where the repeat number of its answer is 0, else nothing
-unfoldable pub seasonSends : (ℕ → ℕ) → SeasonRepeater → List ℕ → Option (List ℕ)
-seasonSends editionOf repeater received =
-    cond (eqb (seasonAnswerUnder (editionOf (own repeater)) (repeater .node) (repeater .room) received .repeat) 0)
-    (some (repeated (own repeater) received))
-    none
-
-abbrev pub seasonAir : (ℕ → ℕ) → List SeasonRepeater → List ℕ → List Reception → List (List ℕ)
-seasonAir editionOf nodes first receptions = flood (seasonSends editionOf) nodes (first ∷ []) receptions
-
--- W-208: among the receptions there is one by that node, of a transmission already made; its own answer under its edition has delivery number 0 and names
--- the payload, and the transmission's path count is that
-pub record SeasonDelivered (editionOf : ℕ → ℕ) (nodes : List SeasonRepeater) (first : List ℕ) (receptions : List Reception) (n : SeasonRepeater)
-    (payload : List ℕ) (count : ℕ) : Type 0 where
-  pub reception : Reception
-  pub taken : Heard (seasonSends editionOf) nodes (first ∷ []) receptions (reception .node) (reception .transmission)
-  pub node-at : getElem? nodes (reception .node) ≡ some n
-  pub received : List ℕ
-  pub received-at : getElem? (seasonAir editionOf nodes first receptions) (reception .transmission) ≡ some received
-  pub number : seasonAnswerUnder (editionOf (own n)) (n .node) (n .room) received .delivery ≡ 0
-  pub part : let answer = seasonAnswerUnder (editionOf (own n)) (n .node) (n .room) received in
-      take (answer .«delivered_length») (drop (answer .«delivered_place») received) ≡ payload
-  pub path-count : headerOf received .«path_count» ≡ count
-
--- For the worked cases: node 2000, echo and repeating on, with these choices
-abbrev pub settingsAt : Choice → Choice → Choice → Choice → SeasonSettings
-settingsAt a b c d =
-    record {
-      own = 2000;
-      echo = true;
-      repeating = true;
-      «source_pass» = a;
-      «source_reject» = b;
-      «destination_pass» = c;
-      «destination_reject» = d;
-    }
-
--- lists that let the example of document 002 pass, from source 1000 to 1600, and lists that stop it: one of each in every kind, and the other way round
-abbrev pub firstsPass : EightLists
-firstsPass =
-    eightOf (two (1000 ∷ 1000 ∷ []) (5 ∷ 999 ∷ [])) (two (5 ∷ 999 ∷ []) (1000 ∷ 1000 ∷ [])) (two (1600 ∷ 1600 ∷ []) (5 ∷ 999 ∷ []))
-    (two (5 ∷ 999 ∷ []) (1600 ∷ 1600 ∷ []))
-
-abbrev pub secondsPass : EightLists
-secondsPass =
-    eightOf (two (5 ∷ 999 ∷ []) (1000 ∷ 1000 ∷ [])) (two (1000 ∷ 1000 ∷ []) (5 ∷ 999 ∷ [])) (two (5 ∷ 999 ∷ []) (1600 ∷ 1600 ∷ []))
-    (two (1600 ∷ 1600 ∷ []) (5 ∷ 999 ∷ []))
-
--- the delivery number of the example at that node with such lists; 39 is for another address, where no list stops it
-abbrev pub numberBy : EightLists → Choice → Choice → Choice → Choice → ℕ
-numberBy lists a b c d = seasonAnswerUnder 12 (seasonNodeOf (settingsAt a b c d) lists) 100 example .delivery
-
--- a list with one value, 21
-abbrev pub odd : List ℕ
-odd = 7 ∷ []
-
--- with eight empty lists and that choice for source pass: the example's delivery number. With a first source pass list that holds its source, and a second
--- one at fault: the answer
-abbrev pub byEmpty : Choice → ℕ
-byEmpty choice =
-    seasonAnswerUnder 12 (seasonNodeOf (settingsAt choice Neither Neither Neither) (eightInOrder [] [] [] [] [] [] [] [])) 100 example .delivery
-
-abbrev pub besideOdd : Choice → Answer
-besideOdd choice =
-    seasonAnswerUnder 12 (seasonNodeOf (settingsAt choice Neither Neither Neither) (eightInOrder (1000 ∷ 1000 ∷ []) odd [] [] [] [] [] [])) 100 example
+use Rattle.two_lists.specs.ListsAndChoices.{listInOrder, eightInOrder, changedTo, firstsPass, secondsPass, numberBy, byEmpty, besideOdd}
+use Rattle.two_lists.specs.SeasonNetwork.{SeasonRepeater, own, asChosen, seasonSends, seasonAir, SeasonDelivered}
 
 pub record TwoLists : Type 0 where
   -- I. WHAT 02 ASKS
