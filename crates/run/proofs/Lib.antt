@@ -1,3 +1,4 @@
+pub mod Answered
 pub mod Lining
 pub mod Jobs
 pub mod Short

@@ -1,5 +1,5 @@
 use lib.Seq.{length-take-le}
-use Rattle.run.proofs.Lining.{with-room, went-step, printed-step}
+use Rattle.run.proofs.Answered.{with-room, went-step, printed-step}
 use mathlib.Core.Path.{refl, sym, _∙_}
 use denote.Ref.{now}
 use Rattle.lists.specs.Lists.{listsOf}
@@ -24,9 +24,9 @@ abbrev μ-loop : tie.MeasureT-loop
 loop-holds : tie.Need-loop-holds Inv-loop μ-loop
 loop-holds c =
     let a = c .before .before .before .before .before .before .args in
-    going-start (nodeOf (a .settings)
-    (listsOf (now (a .source-pass)) (now (a .source-reject)) (now (a .destination-pass)) (now (a .destination-reject))))
-    (now (a .batch)) (now (a .text)) _ (a .place) refl
+    let node = nodeOf (a .settings)
+    (listsOf (now (a .source-pass)) (now (a .source-reject)) (now (a .destination-pass)) (now (a .destination-reject))) in
+    going-start node (now (a .batch)) (now (a .text)) _ (a .place) refl
 
 slice-aggregate-step : tie.Need-slice-aggregate-step Inv-loop μ-loop
 slice-aggregate-step c = search needs
@@ -44,34 +44,32 @@ add-lines c =
 
 array-share-prefix-repeated : tie.Need-array-share-prefix-repeated Inv-loop μ-loop
 array-share-prefix-repeated c =
-    let a = c .before .before .before .before .before .before .before .before .before .before .before .before .before .before .args in
+    let start = c .before .before .before .before .before .before .before .before .before .before .before .before .before .before in
+    let a = start .args in
+    let node = nodeOf (a .settings)
+    (listsOf (now (a .source-pass)) (now (a .source-reject)) (now (a .destination-pass)) (now (a .destination-reject))) in
     let l = c .before .before .before .before .before .before .before .loop in
     let s = c .before .before .before .before .before in
     let f = c .before .before .stepped in
-    let w = went-step (nodeOf (a .settings)
-    (listsOf (now (a .source-pass)) (now (a .source-reject)) (now (a .destination-pass)) (now (a .destination-reject)))) (now (a .batch))
-    (c .before .before .before .before .before .before .before .before .before .before .before .before .before .before .pre) (l .repeated)
-    (l .offset) (l .ended) _ (f .given .0 .0) (f .given .0 .1 .0) (l .inv .room) (s .step .ensures .0) (f .given .1) in
-    let p = printed-step (nodeOf (a .settings)
-    (listsOf (now (a .source-pass)) (now (a .source-reject)) (now (a .destination-pass)) (now (a .destination-reject)))) (now (a .batch))
-    (c .before .before .before .before .before .before .before .before .before .before .before .before .before .before .pre) (l .repeated) _
-    (l .offset) (l .ended) (f .given .0 .0) (f .given .0 .1 .0) (l .inv .room) w (s .step .ensures .1) in
+    let w = went-step node (now (a .batch)) (start .pre) (l .repeated) (l .offset) (l .ended) _ (f .given .0 .0) (f .given .0 .1 .0) (l .inv .room)
+    (s .step .ensures .0) (f .given .1) in
+    let p = printed-step node (now (a .batch)) (start .pre) (l .repeated) _ (l .offset) (l .ended) (f .given .0 .0) (f .given .0 .1 .0) (l .inv .room) w
+    (s .step .ensures .1) in
     omega (arith, p .fits, s .step .kept .1 .1 .1 .1 .1 .1 .1 .1 .0, l .inv .room)
 
 slice-aggregate-put-pdu-line : tie.Need-slice-aggregate-put-pdu-line Inv-loop μ-loop
 slice-aggregate-put-pdu-line c =
-    let a = c .before .before .before .before .before .before .before .before .before .before .before .before .before .before .before .args in
+    let start = c .before .before .before .before .before .before .before .before .before .before .before .before .before .before .before in
+    let a = start .args in
+    let node = nodeOf (a .settings)
+    (listsOf (now (a .source-pass)) (now (a .source-reject)) (now (a .destination-pass)) (now (a .destination-reject))) in
     let l = c .before .before .before .before .before .before .before .before .loop in
     let s = c .before .before .before .before .before .before in
     let f = c .before .before .before .stepped in
-    let w = went-step (nodeOf (a .settings)
-    (listsOf (now (a .source-pass)) (now (a .source-reject)) (now (a .destination-pass)) (now (a .destination-reject)))) (now (a .batch))
-    (c .before .before .before .before .before .before .before .before .before .before .before .before .before .before .before .pre) (l .repeated)
-    (l .offset) (l .ended) _ (f .given .0 .0) (f .given .0 .1 .0) (l .inv .room) (s .step .ensures .0) (f .given .1) in
-    let p = printed-step (nodeOf (a .settings)
-    (listsOf (now (a .source-pass)) (now (a .source-reject)) (now (a .destination-pass)) (now (a .destination-reject)))) (now (a .batch))
-    (c .before .before .before .before .before .before .before .before .before .before .before .before .before .before .before .pre) (l .repeated)
-    _ (l .offset) (l .ended) (f .given .0 .0) (f .given .0 .1 .0) (l .inv .room) w (s .step .ensures .1) in
+    let w = went-step node (now (a .batch)) (start .pre) (l .repeated) (l .offset) (l .ended) _ (f .given .0 .0) (f .given .0 .1 .0) (l .inv .room)
+    (s .step .ensures .0) (f .given .1) in
+    let p = printed-step node (now (a .batch)) (start .pre) (l .repeated) _ (l .offset) (l .ended) (f .given .0 .0) (f .given .0 .1 .0) (l .inv .room) w
+    (s .step .ensures .1) in
     sym (length-take-le _ _ (omega (arith, p .fits, s .step .kept .1 .1 .1 .1 .1 .1 .1 .1 .0, l .inv .room)))
 
 put-pdu-line-requires : tie.Need-put-pdu-line-requires Inv-loop μ-loop
@@ -79,45 +77,33 @@ put-pdu-line-requires c κs = search needs
 
 loop-less : tie.Need-loop-less Inv-loop μ-loop
 loop-less c =
-    let a = c .before .before .before .before .before .before .before .before .before .before .before .before .before .before .before .before .before
-    .before .args in
+    let start = c .before .before .before .before .before .before .before .before .before .before .before .before .before .before .before .before .before
+    .before in
+    let a = start .args in
+    let node = nodeOf (a .settings)
+    (listsOf (now (a .source-pass)) (now (a .source-reject)) (now (a .destination-pass)) (now (a .destination-reject))) in
     let l = c .before .before .before .before .before .before .before .before .before .before .before .loop in
     let s = c .before .before .before .before .before .before .before .before .before in
     let f = c .before .before .before .before .before .before .stepped in
-    let w = went-step (nodeOf (a .settings)
-    (listsOf (now (a .source-pass)) (now (a .source-reject)) (now (a .destination-pass)) (now (a .destination-reject)))) (now (a .batch))
-    (c .before .before .before .before .before .before .before .before .before .before .before .before .before .before .before .before .before
-    .before .pre) (l .repeated) (l .offset) (l .ended) _ (f .given .0 .0) (f .given .0 .1 .0) (l .inv .room) (s .step .ensures .0) (f .given .1)
-    in
-    let p = printed-step (nodeOf (a .settings)
-    (listsOf (now (a .source-pass)) (now (a .source-reject)) (now (a .destination-pass)) (now (a .destination-reject)))) (now (a .batch))
-    (c .before .before .before .before .before .before .before .before .before .before .before .before .before .before .before .before .before
-    .before .pre) (l .repeated) _ (l .offset) (l .ended) (f .given .0 .0) (f .given .0 .1 .0) (l .inv .room) w (s .step .ensures .1) in
-    less-to-do (nodeOf (a .settings)
-    (listsOf (now (a .source-pass)) (now (a .source-reject)) (now (a .destination-pass)) (now (a .destination-reject))))
-    (now (a .batch)) (c .before .before .before .before .before .before .before .before .before .before .before .before .before .before .before
-    .before .before .before .pre) (l .offset) (l .ended) (f .given .0 .0) (f .given .0 .1 .0) w
+    let w = went-step node (now (a .batch)) (start .pre) (l .repeated) (l .offset) (l .ended) _ (f .given .0 .0) (f .given .0 .1 .0) (l .inv .room)
+    (s .step .ensures .0) (f .given .1) in
+    less-to-do node (now (a .batch)) (l .offset) (l .ended) (f .given .0 .0) (f .given .0 .1 .0) w
 
 loop-again : tie.Need-loop-again Inv-loop μ-loop
 loop-again c =
-    let a = c .before .before .before .before .before .before .before .before .before .before .before .before .before .before .before .before .before
-    .before .args in
+    let start = c .before .before .before .before .before .before .before .before .before .before .before .before .before .before .before .before .before
+    .before in
+    let a = start .args in
+    let node = nodeOf (a .settings)
+    (listsOf (now (a .source-pass)) (now (a .source-reject)) (now (a .destination-pass)) (now (a .destination-reject))) in
     let l = c .before .before .before .before .before .before .before .before .before .before .before .loop in
     let s = c .before .before .before .before .before .before .before .before .before in
     let f = c .before .before .before .before .before .before .stepped in
-    let w = went-step (nodeOf (a .settings)
-    (listsOf (now (a .source-pass)) (now (a .source-reject)) (now (a .destination-pass)) (now (a .destination-reject)))) (now (a .batch))
-    (c .before .before .before .before .before .before .before .before .before .before .before .before .before .before .before .before .before
-    .before .pre) (l .repeated) (l .offset) (l .ended) _ (f .given .0 .0) (f .given .0 .1 .0) (l .inv .room) (s .step .ensures .0) (f .given .1)
-    in
-    let p = printed-step (nodeOf (a .settings)
-    (listsOf (now (a .source-pass)) (now (a .source-reject)) (now (a .destination-pass)) (now (a .destination-reject)))) (now (a .batch))
-    (c .before .before .before .before .before .before .before .before .before .before .before .before .before .before .before .before .before
-    .before .pre) (l .repeated) _ (l .offset) (l .ended) (f .given .0 .0) (f .given .0 .1 .0) (l .inv .room) w (s .step .ensures .1) in
-    going-next (nodeOf (a .settings)
-    (listsOf (now (a .source-pass)) (now (a .source-reject)) (now (a .destination-pass)) (now (a .destination-reject))))
-    (now (a .batch)) (c .before .before .before .before .before .before .before .before .before .before .before .before .before .before .before
-    .before .before .before .pre) (l .offset) (l .ended) (f .given .0 .0) (f .given .0 .1 .0) w _ _ _ _ _ _ _ _ _ _ (l .inv) p
+    let w = went-step node (now (a .batch)) (start .pre) (l .repeated) (l .offset) (l .ended) _ (f .given .0 .0) (f .given .0 .1 .0) (l .inv .room)
+    (s .step .ensures .0) (f .given .1) in
+    let p = printed-step node (now (a .batch)) (start .pre) (l .repeated) _ (l .offset) (l .ended) (f .given .0 .0) (f .given .0 .1 .0) (l .inv .room) w
+    (s .step .ensures .1) in
+    going-next node (now (a .batch)) (l .offset) (l .ended) (f .given .0 .0) (f .given .0 .1 .0) w _ _ _ _ _ _ _ _ _ _ (l .inv) p
     (s .step .kept .1 .1 .1 .1 .1 .1 .1 .1 .0 ∙ l .inv .room) refl (c .before .before .put-pdu-line .ensures)
 
 put-last-line-requires : tie.Need-put-last-line-requires Inv-loop μ-loop
@@ -128,16 +114,15 @@ same-length c = c .before .before .put-last-line .kept .0 ∙ c .before .before 
 
 returns : tie.Need-returns Inv-loop μ-loop
 returns c =
-    let a = c .before .before .before .before .before .before .before .before .before .before .before .before .before .before .before .args in
+    let start = c .before .before .before .before .before .before .before .before .before .before .before .before .before .before .before in
+    let a = start .args in
+    let node = nodeOf (a .settings)
+    (listsOf (now (a .source-pass)) (now (a .source-reject)) (now (a .destination-pass)) (now (a .destination-reject))) in
     let l = c .before .before .before .before .before .before .before .before .loop in
-    finished (nodeOf (a .settings)
-    (listsOf (now (a .source-pass)) (now (a .source-reject)) (now (a .destination-pass)) (now (a .destination-reject))))
-    (now (a .batch)) (c .before .before .before .before .before .before .before .before .before .before .before .before .before .before .before
-    .pre) (now (a .text)) (l .text) (l .repeated) _ (a .place) (l .next-place) _ (l .lines) (l .offset) (l .ended) _ (l .inv)
-    (with-room (nodeOf (a .settings)
-    (listsOf (now (a .source-pass)) (now (a .source-reject)) (now (a .destination-pass)) (now (a .destination-reject))))
-    (now (a .batch)) (c .before .before .before .before .before .before .before .before .before .before .before .before .before .before .before
-    .pre) (l .repeated) (l .offset) (l .ended) _ (l .inv .room) (c .before .before .before .before .before .before .step .ensures .0))
+    finished node (now (a .batch)) (start .pre) (now (a .text)) (l .text) (l .repeated) _ (a .place) (l .next-place) _ (l .lines) (l .offset) (l .ended) _
+    (l .inv)
+    (with-room node (now (a .batch)) (start .pre) (l .repeated) (l .offset) (l .ended) _ (l .inv .room)
+    (c .before .before .before .before .before .before .step .ensures .0))
     (c .before .before .before .before .match .keys2) (c .before .before .put-last-line .ensures)
 
 pub put-walk-spec : {M : Type 1} → statement M
