@@ -22,7 +22,8 @@ use Rattle.writing.proofs.Back.{length-encode}
 use Rattle.pdu.proofs.Inversion.{shown}
 use Rattle.node.specs.Repeat.{lowered, repeated, repeatedLength, repeatedHeader}
 use Rattle.node.specs.Answers.{repeatNumber, answerOf, outputAfter}
-use Rattle.node.proofs.Encoded.{changed-hop, same-path-bit, same-source, same-destination, same-bytes, repeat-well-formed, alone-reads, alone-path, repeat-long, repeat-bytes}
+use Rattle.node.proofs.ChangedHeader.{changed-hop, same-path-bit, same-source, same-destination}
+use Rattle.node.proofs.Encoded.{same-bytes, repeat-well-formed, alone-reads, alone-path, repeat-long, repeat-bytes}
 use Rattle.node.proofs.Heard.{repeats, not-in-path}
 use Rattle.node.proofs.Repeating.{Ready, length-repeated}
 use Rattle.flood.specs.Air.{Repeater, address, sends, sourceOf, pathOf, hopOf}

@@ -1,141 +1,42 @@
 -- The repeat is also the encoding of the changed header, of the path with the own address behind it and of the same payload, so it reads back to
 -- these.
-use Prim.Native.Nat.{ℕ, _+_, _-_, _*_, _/_, _≤_, _<_}
+use Prim.Native.Nat.{ℕ, _+_, _/_, _≤_, _<_}
 use native.Mathlib.Omega.{arith}
 use mathlib.Core.Bool.{Bool, true, false, cond}
-use mathlib.Core.List.{List, [], _∷_, _++_, append-assoc, append-nil}
+use mathlib.Core.List.{List, [], _∷_, _++_, append-nil}
 use mathlib.Core.Path.{_≡_, refl, ap, sym, _∙_}
-use lib.Dec.{eqb}
-use lib.ListN.{length, take, set, length-append, length-set}
-use lib.Seq.{take-at, take-take, getD-take, set-at, set-append-left}
-use borrow.Author.Tests.{eqb-true}
+use lib.ListN.{length, take, set, length-append}
+use lib.Seq.{take-at, take-take, getD-take}
 use Rattle.octets.specs.Numbers.{flag}
 use Rattle.octets.specs.Octets.{at, AllBytes, wordBytes}
 use Rattle.octets.proofs.Words.{bytes-joined, bytes-set, bytes-take, bytes-drop, bytes-word}
 use Rattle.pdu.specs.declared.Header.{Header}
 use Rattle.pdu.specs.declared.Reading.the-variants.{Pdu}
-use Rattle.pdu.specs.Header.{hopLimit, pathCountPlace, pathCountIn, headerOf}
+use Rattle.pdu.specs.Header.{pathCountPlace, pathCountIn, headerOf}
 use Rattle.pdu.specs.Sizes.{pathLimit, pduLimit, pathStart, headerLength, pduLength}
 use Rattle.pdu.specs.Reading.{readOf}
 use Rattle.pdu.specs.Parts.{pathIn, payloadIn}
-use Rattle.writing.specs.Writing.{fixedPart, destinationBytes, onlyIf, headerBytes, pathBytes, encode, WellFormed}
+use Rattle.writing.specs.Writing.{onlyIf, headerBytes, pathBytes, encode, WellFormed}
 use Rattle.pdu.proofs.Inversion.{Shown, shown}
-use Rattle.writing.proofs.Encoding.{length-onlyIf, length-header, length-pathIn}
+use Rattle.writing.proofs.Encoding.{length-header, length-pathIn}
 use Rattle.writing.proofs.Back.{read-encode, path-encode, payload-encode}
 use Rattle.writing.proofs.Same.{written-same, shown-well-formed}
-use Rattle.node.specs.Repeat.{lowered, loweredByte, loweredHeader, repeated, repeatedLength, repeatedHeader}
+use Rattle.node.specs.Repeat.{loweredByte, loweredHeader, repeated, repeatedLength, repeatedHeader}
 use Rattle.node.proofs.Repeating.{Ready, count-byte, count-place, length-repeated, ready-count, ready-small}
+use Rattle.node.proofs.ChangedHeader.{lowered-small, byte-lowered, beforeCount, byteTwo, header-parts, length-before, third-byte, changed-parts, grown}
+use Rattle.node.proofs.ChangedHeader.{not-grown}
 
 -- what the repeat's path has more than the received one
 abbrev pub ownEntry : Header → ℕ → List ℕ
 ownEntry header own = cond (header .«path_bit») (own ∷ []) []
 
--- what the changed header says
-module _ (header : Header) where
-  pub changed-hop : repeatedHeader header .«hop_limit» ≡ lowered (header .«hop_limit»)
-  unfolding repeatedHeader
-  changed-hop = refl
-
-  pub changed-count : repeatedHeader header .«path_count» ≡ header .«path_count» + flag (header .«path_bit»)
-  unfolding repeatedHeader
-  changed-count = refl
-
-  pub same-path-bit : repeatedHeader header .«path_bit» ≡ header .«path_bit»
-  unfolding repeatedHeader
-  same-path-bit = refl
-
-  pub same-source : repeatedHeader header .source ≡ header .source
-  unfolding repeatedHeader
-  same-source = refl
-
-  pub same-destination : repeatedHeader header .destination ≡ header .destination
-  unfolding repeatedHeader
-  same-destination = refl
+byte-small : (byte : ℕ) → byte < 256 → loweredByte byte < 256
+byte-small byte h = omega arith
 
 path-joined : (path later : List ℕ) → pathBytes (path ++ later) ≡ pathBytes path ++ pathBytes later
 unfolding pathBytes
 path-joined [] later = refl
 path-joined (address ∷ path) later = ap (λ (bytes : List ℕ). wordBytes address ++ bytes) (path-joined path later)
-
-lowered-small : (hop : ℕ) → hop < 8 → lowered hop < 8
-lowered-small hop h = go (eqb hop 7)
-  where
-    go : (t : Bool) → cond t 7 (hop - 1) < 8
-    go true = omega arith
-    go false = omega arith
-
-lowered-at-most : (hop : ℕ) → lowered hop ≤ hop
-lowered-at-most hop = go (eqb hop 7) refl
-  where
-    go : (t : Bool) → eqb hop 7 ≡ t → cond t 7 (hop - 1) ≤ hop
-    go true e = omega (arith, eqb-true hop 7 e)
-    go false e = omega arith
-
--- a byte whose hop limit is lowered in its place, and the byte put together with the lowered hop limit
-byte-lowered : (top hop low : ℕ) → hop < 8 → low < 16 → top * 128 + lowered hop * 16 + low ≡ loweredByte (top * 128 + hop * 16 + low)
-byte-lowered top hop low small short =
-    let is : hopLimit (top * 128 + hop * 16 + low) ≡ hop = omega arith in
-    rw is (difference (lowered hop) (lowered-at-most hop))
-  where
-    difference : (l : ℕ) → l ≤ hop → top * 128 + l * 16 + low ≡ top * 128 + hop * 16 + low - 16 * (hop - l)
-    difference l h = omega arith
-
--- the header's bytes before its path count, and byte 2 among them
-abbrev beforeCount : Header → List ℕ
-beforeCount header = fixedPart header ++ destinationBytes (header .destination) ++ onlyIf (eqb (header .protocol) 1) (header .«pdu_id» ∷ [])
-
-abbrev byteTwo : Header → ℕ
-byteTwo header = flag (header .«added_header») * 128 + header .«hop_limit» * 16 + header .«payload_length» / 256
-
-header-parts : (header : Header) → headerBytes header ≡ beforeCount header ++ onlyIf (header .«path_bit») (header .«path_count» ∷ [])
-unfolding headerBytes
-header-parts header = refl
-
-length-before : (header : Header) → length (beforeCount header) + flag (header .«path_bit») ≡ pathStart header
-length-before header =
-    omega (
-      arith,
-      ap length (header-parts header),
-      length-header header,
-      length-append (beforeCount header) (onlyIf (header .«path_bit») (header .«path_count» ∷ [])),
-      length-onlyIf (header .«path_bit») (header .«path_count»),
-    )
-
-third-byte : (header : Header) → 2 < length (beforeCount header)
-third-byte header = omega arith
-
-changed-parts : (header : Header) (byte : ℕ)
-    → flag (header .«added_header») * 128 + lowered (header .«hop_limit») * 16 + header .«payload_length» / 256 ≡ byte
-    → headerBytes (repeatedHeader header)
-    ≡ set (beforeCount header) 2 byte ++ onlyIf (header .«path_bit») ((header .«path_count» + flag (header .«path_bit»)) ∷ [])
-unfolding headerBytes repeatedHeader
-changed-parts header byte e =
-    ap (λ (b : ℕ). set (beforeCount header) 2 b ++ onlyIf (header .«path_bit») ((header .«path_count» + flag (header .«path_bit»)) ∷ [])) e
-
--- byte 2 changed and the count raised in their places, the own address behind the path
-grown : (front path own payload : List ℕ) (count byte : ℕ) {head changed : List ℕ} {place : ℕ} → 2 < length front → length front ≡ place
-    → head ≡ front ++ (count ∷ []) ++ path → changed ≡ set front 2 byte ++ ((count + 1) ∷ [])
-    → set (set head 2 byte) place (count + 1) ++ own ++ payload ≡ changed ++ (path ++ own) ++ payload
-grown front path own payload count byte {head} {changed} {place} h e is-head is-changed =
-    let inner : 2 < length (front ++ (count ∷ [])) = omega (arith, length-append front (count ∷ [])) in
-    rw (
-      is-head,
-      is-changed,
-      set-append-left (front ++ (count ∷ [])) path 2 byte inner,
-      set-append-left front (count ∷ []) 2 byte h,
-      append-assoc (set front 2 byte) (count ∷ []) path,
-      set-at (set front 2 byte) count path (count + 1) place (length-set front 2 byte ∙ e),
-    )
-    (simp append-assoc)
-
-not-grown : (front path payload : List ℕ) (byte : ℕ) {head changed : List ℕ} → 2 < length front → head ≡ front ++ [] ++ path
-    → changed ≡ set front 2 byte ++ []
-    → set head 2 byte ++ payload ≡ changed ++ path ++ payload
-not-grown front path payload byte {head} {changed} h is-head is-changed =
-    rw (is-head, is-changed, append-nil front, append-nil (set front 2 byte), set-append-left front path 2 byte h)
-
-byte-small : (byte : ℕ) → byte < 256 → loweredByte byte < 256
-byte-small byte h = omega arith
 
 -- a PDU that was read
 module _ (received : List ℕ) (header : Header) (small : AllBytes received) (read : readOf received ≡ Pdu header) where

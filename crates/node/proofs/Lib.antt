@@ -1,6 +1,7 @@
 pub mod Repeating
 pub mod Answering
 pub mod Chain
+pub mod ChangedHeader
 pub mod Encoded
 pub mod Given
 pub mod Heard

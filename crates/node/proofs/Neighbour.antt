@@ -24,7 +24,8 @@ use Rattle.node.specs.Answers.{listOrReadingFault, stopFault, deliveryNu
 use Rattle.node.proofs.Repeating.{Ready}
 use Rattle.node.proofs.Answering.{is-readable, read-sender, unread-sender}
 use Rattle.node.proofs.Chain.{unread-small}
-use Rattle.node.proofs.Encoded.{same-path-bit, repeat-reads, repeat-path}
+use Rattle.node.proofs.ChangedHeader.{same-path-bit}
+use Rattle.node.proofs.Encoded.{repeat-reads, repeat-path}
 use Rattle.node.proofs.Heard.{repeats}
 
 module _ (received : List ℕ) (header : Header) (small : AllBytes received) (read : readOf received ≡ Pdu header) (ready : Ready received header)
