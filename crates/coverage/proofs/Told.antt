@@ -1,10 +1,10 @@
 -- The lengths that `find_lengths` leaves say exactly who is delivered a message, and with which path count. Assumes nothing.
-use mathlib.Core.Path.{_≡_, refl, sym, ap, subst, _∙_}
-use mathlib.Core.Logic.{_≢_, _⊎_, ⊎-elim, by-cases}
+use mathlib.Core.Path.{_≡_, refl, sym, subst, _∙_}
+use mathlib.Core.Logic.{_≢_, ⊎-elim, by-cases}
 use mathlib.Core.Bool.{Bool, true, false, _&&_, false≢true}
-use mathlib.Core.Option.{some, Option·none-ne-some, Option·some-injective}
-use mathlib.Core.List.{List, [], _∷_, map, Memᴰ·cast}
-use Prim.Native.Nat.{ℕ, zero, suc, _+_, _-_, _≤_, _<_}
+use mathlib.Core.Option.{some, Option·some-injective}
+use mathlib.Core.List.{List, map, Memᴰ·cast}
+use Prim.Native.Nat.{ℕ, _+_, _-_, _≤_, _<_}
 use native.Mathlib.Omega.{arith}
 use native.Mathlib.Decide.{decLt}
 use borrow.Author.Tests.{lt-ltb, le-leb, ltb-true, leb-true}
@@ -20,7 +20,7 @@ use Rattle.origin.specs.declared.Settings.{Settings}
 use Rattle.origin.specs.Origination.{fresh}
 use Rattle.flood.specs.Air.{Repeater, address}
 use Rattle.flood.specs.Flood.{Reception}
-use Rattle.flood.proofs.Lists.{at-mem}
+use Rattle.flood.proofs.Lists.{at-mem, at-map}
 use Rattle.coverage.specs.Hearing.{Taken, ByNoOther}
 use Rattle.coverage.specs.Delivery.{Planned, Delivered}
 use Rattle.coverage.specs.Reach.{Reach}
@@ -28,11 +28,6 @@ use Rattle.coverage.specs.Told.{Says, Told}
 use Rattle.coverage.proofs.Covered.{reach}
 use Rattle.coverage.proofs.Places.{at-place, shortest-at, unreached-at}
 use Rattle.coverage.proofs.Schedule.{at-within}
-
-at-map : (nodes : List Repeater) (i : ℕ) (n : Repeater) → getElem? nodes i ≡ some n → getElem? (map address nodes) i ≡ some (address n)
-at-map [] i n e = absurd (Option·none-ne-some n e)
-at-map (x ∷ nodes) zero n e = ap (λ (y : Repeater). some (address y)) (Option·some-injective _ _ e)
-at-map (x ∷ nodes) (suc i) n e = at-map nodes i n e
 
 -- the test, both ways
 delivered-when : (h value : ℕ) → isDelivered h value ≡ true → (0 < value) × (value ≤ h + 1) × (value < noChain)
@@ -70,10 +65,10 @@ module _ (hears : ℕ → ℕ → Bool) (nodes : List Repeater) (settings : Sett
   -- one node
   module _ (place : ℕ) (n : Repeater) (n-at : getElem? nodes place ≡ some n) (value : ℕ) where
     inside : place < length addresses
-    inside = at-within addresses place (at-map nodes place n n-at)
+    inside = at-within addresses place (at-map address nodes place n-at)
 
     address-at : at addresses place ≡ address n
-    address-at = Option·some-injective _ _ (sym (at-place addresses place inside) ∙ at-map nodes place n n-at)
+    address-at = Option·some-injective _ _ (sym (at-place addresses place inside) ∙ at-map address nodes place n-at)
 
     shortest : Shortest (heard pairs) (places (length addresses)) from place value
         → Shortest hears addresses (settings .source) (address n) value

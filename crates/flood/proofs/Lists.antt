@@ -120,6 +120,11 @@ module _ {A B : Type 0} (f : A → B) where
   nodup-map one (x ∷ l) d =
       nodup-more (λ m. let (a, a-in, e) = Memᴰ·of-map f l m in apart d a-in (one a x e)) (nodup-map one l ((nodup-cons .0 d) .1))
 
+  pub at-map : (l : List A) (i : ℕ) {a : A} → getElem? l i ≡ some a → getElem? (map f l) i ≡ some (f a)
+  at-map [] i e = absurd (Option·none-ne-some _ e)
+  at-map (x ∷ l) zero e = ap some (ap f (Option·some-injective _ _ e))
+  at-map (x ∷ l) (suc i) e = at-map l i e
+
   -- in a list whose values under f all differ, a value is at one place only
   pub same-place : (l : List A) (i j : ℕ) {a b : A} → List·Nodup (map f l) → getElem? l i ≡ some a → getElem? l j ≡ some b → f a ≡ f b
       → i ≡ j

@@ -1,10 +1,10 @@
 -- W-208 over nodes with two lists of each kind: what is delivered to a node with the lists chosen is delivered to the node, by its own answer, and the
 -- other way round.
-use Prim.Native.Nat.{ℕ, zero, suc, _+_, _-_, _≤_}
+use Prim.Native.Nat.{ℕ, _+_, _-_, _≤_}
 use mathlib.Core.Bool.{Bool, true}
 use mathlib.Core.List.{List, [], _∷_, map, List·Memᴰ, Memᴰ·map}
 use mathlib.Core.Logic.{_≢_}
-use mathlib.Core.Option.{some, Option·none-ne-some, Option·some-injective}
+use mathlib.Core.Option.{some}
 use mathlib.Core.Path.{_≡_, refl, ap, sym, subst, _∙_}
 use lib.ListN.{take, drop, getElem?}
 use Rattle.editions.specs.Editions.{known}
@@ -18,18 +18,13 @@ use Rattle.seasons.specs.Under.{seasonAnswerUnder}
 use Rattle.seasons.proofs.Carried.{chosen-answer}
 use Rattle.flood.specs.Flood.{Reception}
 use Rattle.flood.specs.Air.{Nodes, address}
-use Rattle.flood.proofs.Lists.{at-mem, mem-at, same-place}
+use Rattle.flood.proofs.Lists.{at-mem, mem-at, at-map, same-place}
 use Rattle.chains.specs.Chains.{Chain, Shortest}
 use Rattle.coverage.specs.Hearing.{Taken}
 use Rattle.coverage.specs.Delivery.{Planned, Delivered}
 use Rattle.coverage.proofs.Covered as covered
 use Rattle.two_lists.specs.SeasonNetwork.{SeasonRepeater, own, asChosen, SeasonDelivered}
 use Rattle.two_lists.proofs.SeasonAir.{same-air, heard-as, heard-so}
-
-at-map : {A B : Type 0} (f : A → B) (l : List A) (i : ℕ) {a : A} → getElem? l i ≡ some a → getElem? (map f l) i ≡ some (f a)
-at-map f [] i e = absurd (Option·none-ne-some _ e)
-at-map f (x ∷ l) zero e = ap some (ap f (Option·some-injective _ _ e))
-at-map f (x ∷ l) (suc i) e = at-map f l i e
 
 chosen-addresses : (nodes : List SeasonRepeater) → map address (map asChosen nodes) ≡ map own nodes
 chosen-addresses [] = refl
