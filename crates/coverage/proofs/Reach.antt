@@ -6,7 +6,7 @@ use mathlib.Core.Bool.{Bool, true, false}
 use mathlib.Core.Option.{some, Option·some-injective}
 use mathlib.Core.List.{List, [], _∷_, _++_, map, List·Memᴰ, List·Memᴰ·head, List·Memᴰ·not-nil, List·Memᴰ·append-cases, List·Memᴰ·eq-of-singleton}
 use mathlib.Core.List.{Memᴰ·cast, Memᴰ·map, Memᴰ·of-map, Memᴰ·append-right}
-use Prim.Native.Nat.{ℕ, zero, suc, _+_, _*_, _-_, _≤_, _<_}
+use Prim.Native.Nat.{ℕ, zero, suc, _+_, _*_, _≤_, _<_}
 use native.Mathlib.Omega.{arith}
 use borrow.Author.Tests.{eqb-false}
 use lib.ListN.{length, getElem?, length-append}
@@ -23,7 +23,7 @@ use Rattle.node.specs.Repeat.{repeated}
 use Rattle.node.specs.Answers.{stopFault, deliveryNumber, answerOf}
 use Rattle.flood.specs.Air.{Repeater, address, sends, sourceOf, pathOf, hopOf, onTheAir, Nodes, Open, Begins}
 use Rattle.flood.specs.Complete.{Heard}
-use Rattle.flood.specs.Flood.{Reception, flood, others}
+use Rattle.flood.specs.Flood.{Reception, others}
 use Rattle.flood.proofs.Demand.{network}
 use Rattle.flood.proofs.Exact.{willing, counted, for-everyone}
 use Rattle.flood.proofs.Invariant.{Fact, Invariant, flooded}

@@ -7,7 +7,7 @@ use mathlib.Core.Path.{_≡_, refl, ap, sym, _∙_}
 use lib.Dec.{eqb, ltb}
 use lib.ListN.{length}
 use borrow.Author.Tests.{ne-eqb, lt-ltb, le-ltb, ltb-true, ltb-false}
-use Rattle.octets.specs.Numbers.{_gives_, _orElse_}
+use Rattle.octets.specs.Numbers.{_orElse_}
 use Rattle.octets.specs.Octets.{over}
 use Rattle.octets.proofs.Numbering.{orElse-first, orElse-later, gives-last, gives-none}
 use Rattle.pdu.specs.declared.Header.{Header}

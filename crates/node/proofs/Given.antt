@@ -1,6 +1,5 @@
 -- A node whose lists are looked at apart: what it answers, from the numbers that its parts gave, and that it is the node with those lists.
 use Prim.Native.Nat.{ℕ}
-use native.Mathlib.Omega.{arith}
 use mathlib.Core.Bool.{Bool, true, false, cond}
 use mathlib.Core.List.{List}
 use mathlib.Core.Path.{_≡_, refl, ap, sym, subst, _∙_}

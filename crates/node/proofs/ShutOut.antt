@@ -19,8 +19,7 @@ use Rattle.lists.specs.Lists.{listsOf, lowAboveHigh, faultOf, firstFault}
 use Rattle.node.specs.declared.Answer.{Answer}
 use Rattle.decision.specs.Decision.{Node, echoFault, passFault, dropFault, deliveryFault, repeatFault}
 use Rattle.node.specs.Repeat.{repeated}
-use Rattle.node.specs.Answers.{listOrReadingFault, stopFault, deliveryNumber, repeatNumber, taken, heardFrom, answerOf, twice, outputAfter}
-use Rattle.node.specs.Answers.{Hears}
+use Rattle.node.specs.Answers.{listOrReadingFault, stopFault, deliveryNumber, repeatNumber, taken, heardFrom, answerOf, twice, outputAfter, Hears}
 
 -- a node of an address, repeating, echo on or off, its source pass list on or off, no other list on, and all of them empty
 abbrev nodeWith : ℕ → Bool → Bool → Node
