@@ -107,3 +107,7 @@ table-kept stations memory s h p =
     length-over all memory (omega (arith, length-words stations)) in
     let held : min (length stations) (capacity (memoryOf stations memory)) ≡ length stations = omega (arith, long) in
     rw held (stations-back stations rest s)
+
+pub first-word : (stations : List Station) (memory : List ℕ) → at (memoryOf stations memory) 0 ≡ length stations
+unfolding memoryOf over
+first-word stations memory = refl

@@ -4,5 +4,6 @@ pub mod Inserting
 pub mod Kept
 pub mod Without
 pub mod Shown
+pub mod Counted
 pub mod Told
 pub mod Judging

@@ -1,19 +1,20 @@
--- What the PDUs heard from a station show of it: none, the first, and one more.
+-- What the PDUs heard from a station show of it, none, the first and one more; and what a table tells of each address.
 use Prim.Native.Nat.{ℕ, suc, _+_, min}
 use native.Mathlib.Omega.{arith}
-use mathlib.Core.Bool.{Bool, true, false, not, cond, _||_}
+use mathlib.Core.Bool.{Bool, true, false, cond, not, _||_}
 use mathlib.Core.List.{List, [], _∷_}
 use mathlib.Core.Path.{_≡_, refl, ap, sym, _∙_}
 use lib.Dec.{eqb}
 use lib.ListN.{length}
 use borrow.Author.Tests.{ne-eqb}
+use Rattle.octets.specs.Octets.{at}
 use Rattle.stations.specs.declared.Station.{Station}
-use Rattle.stations.specs.declared.Found.{Found}
-use Rattle.stations.specs.Table.{addresses, newStation, isHeld}
+use Rattle.stations.specs.Table.{tableIn, addresses, newStation, isHeld}
 use Rattle.stations.specs.Asking.{foundIf, stationOf}
 use Rattle.counting.specs.declared.Heard.{Heard}
-use Rattle.counting.specs.Counting.{oneMore, counted}
-use Rattle.listening.specs.History.{echoesOf, pathCounts, least, shownBy}
+use Rattle.counting.specs.Counting.{counted, oneMore}
+use Rattle.listening.specs.History.{shownBy, Rises, echoesOf, pathCounts, least}
+use Rattle.stations.specs.declared.Found.{Found}
 
 abbrev pub found : Station → Found
 found station = record { number = 0; station = station }
@@ -105,3 +106,9 @@ shown-none address (heard ∷ others) e = let n : _≡_ {A = ℕ} 56 0 = ap (λ 
 pub not-shown : (address : ℕ) (table : List Station) → isHeld address (addresses table) ≡ false → stationOf address table ≡ foundIf false [] 0
 unfolding stationOf
 not-shown address table e = rw e
+
+-- what a table shows, by a list of PDUs for each address
+pub record Told (memory : List ℕ) (heards : ℕ → List Heard) : Type 0 where
+  pub says : at memory 0 ≡ length (tableIn memory)
+  pub rises : Rises (addresses (tableIn memory))
+  pub told : (address : ℕ) → stationOf address (tableIn memory) ≡ shownBy address (heards address)
