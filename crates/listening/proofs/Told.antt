@@ -1,4 +1,4 @@
--- After any hearings and removals a table shows of each station what was heard from it.
+-- After any countings, hearings and removals a table shows of each station what was heard from it.
 use Prim.Native.Nat.{ℕ, _+_, _≤_, _<_, min}
 use native.Mathlib.Omega.{arith}
 use mathlib.Core.Bool.{Bool, true, false, cond, _&&_}
@@ -13,13 +13,11 @@ use Rattle.stations.specs.Table.{capacity, stationsFrom, tableIn, memoryOf, add
 use Rattle.stations.specs.Asking.{foundIf, stationOf}
 use Rattle.stations.proofs.Memory.{length-table, table-fits, length-addresses}
 use Rattle.node.specs.declared.Answer.{Answer}
-use Rattle.decision.specs.Decision.{Node}
-use Rattle.node.specs.Answers.{answerOf}
 use Rattle.counting.specs.declared.Heard.{Heard}
 use Rattle.counting.specs.Counting.{countNumber, memoryAfterCount}
 use Rattle.counting.specs.Removing.{without, memoryAfterRemoval}
 use Rattle.listening.specs.Listening.{wasRead, heardOf, answerNumber, memoryAfterAnswer}
-use Rattle.listening.specs.History.{Deed, Hearing, Removal, memoryAfter, isCounted, since, shownBy, Rises}
+use Rattle.listening.specs.History.{Deed, Counting, Hearing, Removal, memoryAfter, isCounted, withOne, since, shownBy, Rises}
 use Rattle.listening.proofs.Rising.{held-at}
 use Rattle.listening.proofs.Inserting.{inserted, address-at, none-before, shows-others, rises-before}
 use Rattle.listening.proofs.Kept.{AllSound, table-sound, sound-append, sound-take, sound-drop, table-kept, first-word}
@@ -109,39 +107,43 @@ empty-told memory e =
       told = λ address. ap (stationOf address) none ∙ not-shown address [] (empty-held address);
     }
 
--- a hearing
+-- a PDU that was read is counted
 not-counted : (heard : Heard) (memory : List ℕ) → eqb (countNumber heard memory) 0 ≡ false → memoryAfterCount heard memory ≡ memory
 unfolding memoryAfterCount
 not-counted heard memory e = rw e
 
-hearing-told : (memory : List ℕ) (heards : ℕ → List Heard) → Told memory heards → (node : Node) (room : ℕ) (received : List ℕ)
-    → Told (memoryAfterAnswer (answerOf node room received) received memory)
-    (λ (address : ℕ).
-    cond (isCounted node room received memory && eqb (heardOf (answerOf node room received) received .source) address)
-    (heardOf (answerOf node room received) received ∷ heards address)
-    (heards address))
-unfolding memoryAfterAnswer answerNumber
-hearing-told memory heards before node room received = go (wasRead answer) (eqb (countNumber heard memory) 0) refl
+counting-told : (memory : List ℕ) (heards : ℕ → List Heard) → Told memory heards → (heard : Heard)
+    → Told (memoryAfterCount heard memory) (λ (address : ℕ). withOne (eqb (countNumber heard memory) 0) heard address (heards address))
+counting-told memory heards before heard = go (eqb (countNumber heard memory) 0) refl
   where
-    answer : Answer
-    answer = answerOf node room received
+    go : (counted : Bool) → eqb (countNumber heard memory) 0 ≡ counted
+        → Told (memoryAfterCount heard memory) (λ (address : ℕ). withOne counted heard address (heards address))
+    go true e = count-told memory heard heards before (eqb-true (countNumber heard memory) 0 e)
+    go false e = subst (λ (m : List ℕ). Told m heards) (sym (not-counted heard memory e)) before
 
+-- bytes are heard, and a node's answer for them is given
+hearing-told : (memory : List ℕ) (heards : ℕ → List Heard) → Told memory heards → (answer : Answer) (received : List ℕ)
+    → Told (memoryAfterAnswer answer received memory)
+    (λ (address : ℕ). withOne (isCounted answer received memory) (heardOf answer received) address (heards address))
+unfolding memoryAfterAnswer answerNumber
+hearing-told memory heards before answer received = go (wasRead answer)
+  where
     heard : Heard
     heard = heardOf answer received
 
-    go : (read none : Bool) → eqb (countNumber heard memory) 0 ≡ none
+    go : (read : Bool)
         → Told (cond read (memoryAfterCount heard memory) memory)
-        (λ (address : ℕ).
-        cond ((read && eqb (cond read (countNumber heard memory) 0) 0) && eqb (heard .source) address) (heard ∷ heards address) (heards address))
-    go false none e = before
-    go true true e = rw e (count-told memory heard heards before (eqb-true (countNumber heard memory) 0 e))
-    go true false e = rw e (subst (λ (m : List ℕ). Told m heards) (sym (not-counted heard memory e)) before)
+        (λ (address : ℕ). withOne (read && eqb (cond read (countNumber heard memory) 0) 0) heard address (heards address))
+    go true = counting-told memory heards before heard
+    go false = before
 
 pub history-told : (memory : List ℕ) → at memory 0 ≡ 0 → (deeds : List Deed)
     → Told (memoryAfter memory deeds) (λ (address : ℕ). since memory address deeds)
 unfolding memoryAfter since
 history-told memory e [] = empty-told memory e
-history-told memory e (Hearing node room received ∷ earlier) =
-    hearing-told (memoryAfter memory earlier) (λ (address : ℕ). since memory address earlier) (history-told memory e earlier) node room received
+history-told memory e (Counting heard ∷ earlier) =
+    counting-told (memoryAfter memory earlier) (λ (a : ℕ). since memory a earlier) (history-told memory e earlier) heard
+history-told memory e (Hearing answer received ∷ earlier) =
+    hearing-told (memoryAfter memory earlier) (λ (a : ℕ). since memory a earlier) (history-told memory e earlier) answer received
 history-told memory e (Removal address ∷ earlier) =
     removal-told (memoryAfter memory earlier) (λ (a : ℕ). since memory a earlier) (history-told memory e earlier) address

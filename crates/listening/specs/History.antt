@@ -1,4 +1,4 @@
--- Document 02, W-201: what a table shows after any hearings and removals.
+-- Document 02, W-201: what a table shows after any countings, hearings and removals.
 use Prim.Native.Nat.{ℕ, _+_, _<_, min}
 use mathlib.Core.Bool.{Bool, not, cond, _&&_}
 use mathlib.Core.List.{List, [], _∷_}
@@ -7,36 +7,41 @@ use lib.ListN.{length}
 use Rattle.octets.specs.Octets.{at}
 use Rattle.stations.specs.declared.Found.{Found}
 use Rattle.stations.specs.Table.{newStation}
-use Rattle.decision.specs.Decision.{Node}
-use Rattle.node.specs.Answers.{answerOf}
+use Rattle.node.specs.declared.Answer.{Answer}
 use Rattle.counting.specs.declared.Heard.{Heard}
+use Rattle.counting.specs.Counting.{countNumber, memoryAfterCount}
 use Rattle.counting.specs.Removing.{memoryAfterRemoval}
 use Rattle.listening.specs.Listening.{wasRead, heardOf, answerNumber, memoryAfterAnswer}
 
--- what is done with a table: a node hears bytes, with so much room in its output; a station is removed
+-- what is done with a table: a PDU that was read is counted; bytes are heard, by any node, of any edition and with any lists, whose answer for them is
+-- given; a station is removed
 pub data Deed : Type 0 where
-  Hearing : Node → ℕ → List ℕ → Deed
+  Counting : Heard → Deed
+  Hearing : Answer → List ℕ → Deed
   Removal : ℕ → Deed
 
 -- the memory after some deeds, the latest of them first
 unfoldable pub memoryAfter : List ℕ → List Deed → List ℕ
 memoryAfter memory [] = memory
-memoryAfter memory (Hearing node room received ∷ earlier) = memoryAfterAnswer (answerOf node room received) received (memoryAfter memory earlier)
+memoryAfter memory (Counting heard ∷ earlier) = memoryAfterCount heard (memoryAfter memory earlier)
+memoryAfter memory (Hearing answer received ∷ earlier) = memoryAfterAnswer answer received (memoryAfter memory earlier)
 memoryAfter memory (Removal address ∷ earlier) = memoryAfterRemoval address (memoryAfter memory earlier)
 
 -- whether a hearing was counted: the PDU was read, and the table did not answer 55
-abbrev pub isCounted : Node → ℕ → List ℕ → List ℕ → Bool
-isCounted node room received memory =
-    wasRead (answerOf node room received) && eqb (answerNumber (answerOf node room received) received memory) 0
+abbrev pub isCounted : Answer → List ℕ → List ℕ → Bool
+isCounted answer received memory = wasRead answer && eqb (answerNumber answer received memory) 0
+
+-- those from an address, and one PDU more if it was counted and is from there
+abbrev pub withOne : Bool → Heard → ℕ → List Heard → List Heard
+withOne counted heard address others = cond (counted && eqb (heard .source) address) (heard ∷ others) others
 
 -- the PDUs counted from an address since it was last taken in, the latest first
 unfoldable pub since : List ℕ → ℕ → List Deed → List Heard
 since memory address [] = []
-since memory address (Hearing node room received ∷ earlier) =
-    let heard = heardOf (answerOf node room received) received in
-    cond (isCounted node room received (memoryAfter memory earlier) && eqb (heard .source) address)
-    (heard ∷ since memory address earlier)
-    (since memory address earlier)
+since memory address (Counting heard ∷ earlier) =
+    withOne (eqb (countNumber heard (memoryAfter memory earlier)) 0) heard address (since memory address earlier)
+since memory address (Hearing answer received ∷ earlier) =
+    withOne (isCounted answer received (memoryAfter memory earlier)) (heardOf answer received) address (since memory address earlier)
 since memory address (Removal removed ∷ earlier) = cond (eqb removed address) [] (since memory address earlier)
 
 -- how many of them were echoes, and the path counts of those with the path bit

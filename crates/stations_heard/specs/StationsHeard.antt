@@ -37,7 +37,7 @@ pub record StationsHeard : Type 0 where
   pub removed : (address : ℕ) (memory : List ℕ) → isHeld address (addresses (tableIn memory)) ≡ true → removalNumber address (tableIn memory) ≡ 0
   pub not-removed : (address : ℕ) (memory : List ℕ) → isHeld address (addresses (tableIn memory)) ≡ false
       → (removalNumber address (tableIn memory) ≡ 56) × (memoryAfterRemoval address memory ≡ memory)
-  -- after any hearings and removals from an empty table: its first word says how many are held, at most 128
+  -- after any countings, hearings and removals from an empty table, whatever node heard: its first word says how many are held, at most 128
   pub limit : (memory : List ℕ) → at memory 0 ≡ 0 → (deeds : List Deed)
       → (at (memoryAfter memory deeds) 0 ≡ length (tableIn (memoryAfter memory deeds))) × (at (memoryAfter memory deeds) 0 ≤ 128)
   -- the addresses rise strictly
