@@ -22,7 +22,7 @@ since `from mant import *` leaves Python's own `open` in its place; see `help(ma
 b'open gate 3'
 
 What is refused raises Refused, with its `number` and its `meaning`. A setting reaches the library as it is, or is no number that C can hold, and then raises
-ValueError; none is trimmed. So does a network that `reach` refuses, and a choice of list that is not 0, 1 or 2. A bound that 64 bits do not hold raises
+ValueError; none is trimmed. So does a network that `reach` refuses, and a choice of list that is not 0, 1 or 2. A bound above 18,446,744,073,709,551,615 raises
 OverflowError, and what is no number, no bytes or no Node where one is asked for TypeError. There is always room for what is written, so that the numbers for
 want of room are never answered.
 
@@ -191,13 +191,13 @@ def _steps(batch, settings):
 def _bound(found):
     given.checked(found.number)
     if found.too_large:
-        raise OverflowError('the bound is more than 64 bits hold')
+        raise OverflowError('the bound is above 18,446,744,073,709,551,615, and the library counts no further')
     return found.value
 
 
 def most_transmissions(nodes, hop_limit):
     """The most times that one report goes out on the air, its first sending counted, for so many repeating nodes besides the originator. It holds if the
-    report has a path, every node has echo suppression on and an address of its own. Raises OverflowError where 64 bits do not hold it. It takes
+    report has a path, every node has echo suppression on and an address of its own. Raises OverflowError where it is above 18,446,744,073,709,551,615. It takes
     any number of nodes; `./plan` refuses more than 65,536, since there are no more addresses.
 
     >>> most_transmissions(8, 3)

@@ -114,7 +114,8 @@ def planning():
     same('bounds', [mant.most_transmissions(*pair) for pair in ((3, 2), (3, 6), (3, 7), (3, 0), (0, 7))], [10, 16, 16, 1, 1])
     same('bytes', mant.most_bytes(2, 1, 20), 20 + 2 * 22)
     same('hop limit 8', (number_of(mant.most_transmissions, 3, 8), number_of(mant.most_bytes, 3, 263, 20)), (10, 10))
-    same('too large', raised(mant.most_transmissions, 1000, 7)[0], 'OverflowError')
+    same('too large', raised(mant.most_transmissions, 1000, 7), (
+        'OverflowError', 'the bound is above 18,446,744,073,709,551,615, and the library counts no further'))
     same('bounds and numbers that plan refuses', (mant.most_transmissions(70000, 1), mant.most_bytes(1, 1, 0)), (70001, 2))
     found = mant.reach(1, {7: [8], 8: [9], 9: [10], 11: [7]})
     same('reach', found, mant.Reach((mant.Reached(7, 0, None), mant.Reached(8, 1, 0), mant.Reached(9, 2, 1), mant.Reached(10, 3, None),

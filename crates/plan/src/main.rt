@@ -38,21 +38,22 @@ fn main() {
 fn answer(with_bytes: bool) {
     let first = argument_at(1);
     let Argument::Number(nodes) = first else {
-        return complain_of(b"N, the number of repeating nodes, ", first);
+        return complain_of(b"N, the number of repeating nodes, 0 to 65536, ", first);
     };
     if ADDRESSES < nodes {
         return complain(b"N: there are only 65536 addresses, so no more nodes of different ones");
     }
     let second = argument_at(2);
     let Argument::Number(hop_limit) = second else {
-        return complain_of(b"H, the hop limit, ", second);
+        return complain_of(b"H, the hop limit, 0 to 7, ", second);
     };
     if !with_bytes {
-        return print_transmissions(nodes, hop_limit);
+        print_transmissions(nodes, hop_limit);
+        return advise(bound::most_transmissions(nodes, hop_limit));
     }
     let third = argument_at(3);
     let Argument::Number(length) = third else {
-        return complain_of(b"BYTES, the fresh PDU's length, ", third);
+        return complain_of(b"BYTES, the fresh PDU's length, 7 to 4105, ", third);
     };
     if length < SHORTEST {
         return complain(b"BYTES: a fresh PDU with a path has at least 7 bytes");
@@ -62,6 +63,7 @@ fn answer(with_bytes: bool) {
     }
     print_transmissions(nodes, hop_limit);
     print_bytes(nodes, hop_limit, length);
+    advise(bound::most_bytes(nodes, hop_limit, length));
 }
 
 // An argument of more than 64 bytes is too long, whatever it says.
@@ -84,7 +86,7 @@ fn print_transmissions(nodes: u64, hop_limit: u64) {
         }
         Bound::TooLarge => {
             say_network(nodes, hop_limit);
-            say(b"one report can go out more times than 64 bits hold");
+            say(b"one report can go out more than 18,446,744,073,709,551,615 times");
             say_conditions(b",\neven if ");
         }
         Bound::HopRefused => complain_hop_limit(),
@@ -95,14 +97,26 @@ fn print_transmissions(nodes: u64, hop_limit: u64) {
 fn print_bytes(nodes: u64, hop_limit: u64, length: u64) {
     match bound::most_bytes(nodes, hop_limit, length) {
         Bound::Exactly(number) => {
-            say(b"If it has ");
-            say_count(length, b" byte");
-            say(b" when fresh, that is at most ");
+            say_length(length);
+            say(b"that is at most ");
             say_count(number, b" byte");
             say(b" on the air.\n");
         }
-        Bound::TooLarge => say(b"That can be more bytes on the air than 64 bits hold.\n"),
+        Bound::TooLarge => {
+            say_length(length);
+            say(b"that can be more than 18,446,744,073,709,551,615 bytes on the air.\n");
+        }
         Bound::HopRefused => {}
+    }
+}
+
+// What a bound that 64 bits do not hold means for a network.
+fn advise(most: Bound) {
+    match most {
+        Bound::TooLarge => say(
+            b"This program counts no further; at a thousand a second so many take over 500 million years.\nSet a lower hop limit, or let fewer nodes repeat.\n",
+        ),
+        _ => {}
     }
 }
 
@@ -112,6 +126,12 @@ fn say_network(nodes: u64, hop_limit: u64) {
     say(b" besides the originator, with hop limit ");
     io::print_decimal(STDOUT_FILENO, hop_limit);
     say(b", ");
+}
+
+fn say_length(length: u64) {
+    say(b"If it has ");
+    say_count(length, b" byte");
+    say(b" when fresh, ");
 }
 
 fn say_conditions(before: &[u8]) {
@@ -139,7 +159,10 @@ fn complain_of(what: &[u8], read: Argument) {
     io::write_all(STDERR_FILENO, b"plan: ");
     io::write_all(STDERR_FILENO, what);
     match read {
-        Argument::TooLong => io::write_all(STDERR_FILENO, b"is more than 64 bits hold\n"),
+        Argument::TooLong => io::write_all(
+            STDERR_FILENO,
+            b"is above 18,446,744,073,709,551,615 or has more than 64 characters\n",
+        ),
         _ => io::write_all(STDERR_FILENO, b"is not a decimal number\n"),
     }
     ;
