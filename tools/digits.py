@@ -1,7 +1,9 @@
 """Hex digits in a text, for ./relay and ./show: white space, `:`, `,`, `-` and `0x` between bytes and comments from `#` to the line's end are passed over.
-A date, a time or an offset at a line's start, as in a console's log, is refused, since it has the look of bytes. ./reach reads its texts by `text_of` too."""
+A date, a time or an offset at a line's start, as in a console's log, is refused, since it has the look of bytes. ./reach reads its texts by `text_of` and
+`LINE_END` too."""
 import re
 
+LINE_END = re.compile('\r\n|\r|\n')
 BETWEEN = re.compile(r'[:,-]|(?<![0-9A-Za-z])0[xX](?=[0-9A-Fa-f])')
 MARK = re.compile(r'\s*(?:(?P<date>[0-9]{4}-[0-9]{2}-[0-9]{2})|(?P<time>[0-9]{2}:[0-9]{2}:[0-9]{2})|(?P<offset>[0-9A-Fa-f]{4,}:))\s+[0-9A-Fa-f]')
 UTF_16 = {b'\xff\xfe': 'utf-16-le', b'\xfe\xff': 'utf-16-be'}
@@ -21,7 +23,7 @@ def text_of(content):
 
 def words_of(text):
     """Each word of digits, with its line."""
-    for number, line in enumerate(re.split('\r\n|\r|\n', text), 1):
+    for number, line in enumerate(LINE_END.split(text), 1):
         line = line.split('#')[0]
         mark = MARK.match(line)
         if mark:
