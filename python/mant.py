@@ -24,7 +24,7 @@ b'open gate 3'
 What is refused raises Refused, with its `number` and its `meaning`. A setting reaches the library as it is, or is no number that C can hold, and then raises
 ValueError; none is trimmed. So does a network that `reach` refuses, and a choice of list that is not 0, 1 or 2. A bound above 18,446,744,073,709,551,615 raises
 OverflowError, and what is no number, no bytes or no Node where one is asked for TypeError. There is always room for what is written, so that the numbers for
-want of room are never answered.
+want of room are never answered. LibraryMissing and ProgramMissing say what is not there and how to make it: the library, and the program that `reach` runs.
 
 >>> originate(b'rain', source=1000, hop_limit=263)
 Traceback (most recent call last):
@@ -44,17 +44,17 @@ import mant_c
 import mant_given as given
 from mant_c import LibraryMissing, library
 from mant_numbers import Number, Refused
-from mant_reach import Reach, Reached, reach
+from mant_reach import ProgramMissing, Reach, Reached, reach
 from mant_types import (ADDRESS, BYTE, EDITION_1_1, EDITION_1_2, EXCHANGE_LIMIT, FIRST_LIST, NO_LIST, SECOND_LIST, SOURCE_WORDS, WORD_64, Answer, Exchange,
                         Header, Limits, Lists, Node, Record, Step, flag, whole)
 
 # `open` is left out, so that `from mant import *` does not take the place of Python's own
 __all__ = ['Answer', 'EDITION_1_1', 'EDITION_1_2', 'Exchange', 'FIRST_LIST', 'Header', 'LibraryMissing', 'Limits', 'Lists', 'NO_LIST', 'Node',
-           'Number', 'Reach', 'Reached', 'Record', 'Refused', 'SECOND_LIST', 'Step', 'hear', 'limits', 'list_fault', 'list_holds', 'most_bytes',
-           'most_transmissions', 'originate', 'path', 'reach', 'read', 'read_exchange', 'seal', 'walk', 'write_exchange']
+           'Number', 'ProgramMissing', 'Reach', 'Reached', 'Record', 'Refused', 'SECOND_LIST', 'Step', 'hear', 'limits', 'list_fault', 'list_holds',
+           'most_bytes', 'most_transmissions', 'originate', 'path', 'reach', 'read', 'read_exchange', 'seal', 'walk', 'write_exchange']
 
 # known by this module's name, whichever file they stand in
-for _known in (Answer, Exchange, Header, LibraryMissing, Limits, Lists, Node, Number, Reach, Reached, Record, Refused, Step, reach):
+for _known in (Answer, Exchange, Header, LibraryMissing, Limits, Lists, Node, Number, ProgramMissing, Reach, Reached, Record, Refused, Step, reach):
     _known.__module__ = 'mant'
 
 

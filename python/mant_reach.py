@@ -3,6 +3,7 @@ program is run, in the clone where this file lies."""
 import functools
 import pathlib
 import re
+import shutil
 import subprocess
 import sys
 from dataclasses import dataclass
@@ -13,8 +14,13 @@ from mant_types import ADDRESS, whole
 TOP = pathlib.Path(__file__).resolve().parent.parent
 NODE = re.compile(r'^node (\d+): (?:(the originator)|chain of (\d+) hearings?, (?:delivered with path count (\d+)|out of reach)|no chain, out of reach)$', re.M)
 REFUSAL = re.compile(r'^reach: (?:line \d+: )?')  # the lines are those of a text that the caller never saw
+BUILT = ('check', 'reach')
 MOST_HOPS = 6  # 7 is never lowered, and what reaches whom is proved of the others
 LEAST = re.compile(r'^the least hop limit that reaches all is (\d)$', re.M)
+
+
+class ProgramMissing(RuntimeError):
+    """There is no program `reach` to run; the words say what is missing and what to do."""
 
 
 @dataclass(frozen=True)
@@ -50,16 +56,24 @@ class Reach:
 def program():
     """The program, proved and built from the present sources at the first call."""
     if not (TOP / 'tools/build').is_file():
-        raise FileNotFoundError(f'reach runs the program of that name, in a clone of the repository; {TOP} is none')
-    subprocess.run([sys.executable, TOP / 'tools/build', 'mant.reach', 'check', 'reach'], check=True)
-    found = subprocess.run([sys.executable, TOP / 'tools/run', '--path', TOP / 'target/bin/reach'], check=True, stdout=subprocess.PIPE, text=True)
+        raise ProgramMissing(f'reach runs the program of that name, in a clone of the repository, and {TOP} is none; '
+                             'set PYTHONPATH to the folder python of one')
+    if not shutil.which('rt'):
+        raise ProgramMissing('reach proves and builds the program of that name with `rt`, of the Rattle kit, and there is no `rt` in PATH; '
+                             'install the kit, or add to PATH the folder where its `rt` lies')
+    try:
+        subprocess.run([sys.executable, TOP / 'tools/build', 'mant.reach', *BUILT], check=True)
+        found = subprocess.run([sys.executable, TOP / 'tools/run', '--path', TOP / 'target/bin/reach'], check=True, stdout=subprocess.PIPE, text=True)
+    except subprocess.CalledProcessError as error:
+        raise ProgramMissing(f'the program reach is not proved and built, for the reason on standard error; `tools/build python {" ".join(BUILT)}` in {TOP} '
+                             'shows it again') from error
     return found.stdout.strip()
 
 
 def reach(hop_limit, heard_by):
     """Who is delivered a report with this hop limit, 0 to 6, where `heard_by` has for each node the nodes that hear it, as a dict or as pairs; the first is
     the originator. A network that is refused raises ValueError. It holds on the conditions that `./reach` prints. The first call proves and builds the
-    program `reach`.
+    program `reach`, and raises ProgramMissing where it cannot, as without the Rattle kit.
 
     >>> found = reach(1, {1200: [2001, 2002], 2001: [2003], 2003: [2004]})
     >>> found.out_of_reach, found.least_hop_limit
