@@ -51,10 +51,10 @@
  *
  * Stack. Bytes below the caller's stack pointer, return address included: the most of the calls that tests/stack.c tries of each. tests/run_boundary measures
  * them, compiled by gcc -O2, and fails where one is above its limit (docs/PERFORMANCE.md) or more than 64 bytes from the figure here. No way through the
- * library's code takes more than that limit, counted in its disassembly, apart from what the C library's three functions take. Two things come on top. A
- * caller can put 16 bytes more there for arguments; compiled without -O it puts up to 192 more for the four calls that take a MantLists. And where the loader
- * binds memcpy and its like at their first call, as it does unless told otherwise, that call takes some 3,000 bytes: link with -Wl,-z,now or -static where
- * that is too much.
+ * library's code takes more than that limit, counted in its disassembly, apart from what the C library's three functions take. Two things come on top,
+ * measured there too. For its arguments a caller compiled by another -O takes up to 64 bytes more, and one without -O up to 256 bytes more. And where the
+ * loader binds memcpy and its like at their first call, as it does unless told otherwise, that call takes up to 4,096 bytes more: link with
+ * -Wl,-z,now or -static where that is too much.
  *
  * Numbers. Every refusal has one: enum MantNumber below; mant_meaning, at the end, gives its words to a program.
  */
