@@ -1,11 +1,14 @@
 //! The whole repeater of `examples/box.c` in Rust: what is heard is counted,
 //! delivered and repeated, a sealed command opened and acknowledged, what is to
 //! be sent waits for the slot, and an alarm is sent again until it is
-//! acknowledged. It prints `examples/box.expected`. In `rust/`:
+//! acknowledged. Stored frames stand for the modem, and it prints
+//! `examples/box.expected`. In `rust/`:
 //!
 //! ```sh
 //! cargo run --offline -p mant --example box
 //! ```
+
+mod modem;
 
 use mant::{
     list_fault, originate, read, Answer, Bits, Choice, Deed, Fresh, Header, Key, Lists, Names,
@@ -256,51 +259,13 @@ fn print_hex(name: &str, bytes: &[u8]) {
     println!("    {name}, {} bytes{colon}{digits}", bytes.len());
 }
 
-/// What the modem hears, and at which second.
-fn frames() -> [(u64, &'static str, Vec<u8>); 8] {
-    let command = |last| {
-        let mut command = vec![0x0B, 8, 0x30, 11, 0x06, 0x40, 0x07, 0xD0, 9, 0];
-        command.extend([
-            0, 0x03, 0x52, 0x5C, 0x1B, 0xA0, 0x3B, 0x2D, 0x59, 0x77, last,
-        ]);
-        command
-    };
-    let mut reports = vec![2, 0, 0x20, 2, 0x03, 0xE8, 0, 0x12, 0x34];
-    reports.extend([2, 0, 0x20, 1, 0x05, 0x14, 0, 0x55]);
-    let mut long = vec![2, 0, 0x20, 30, 0x03, 0xE9, 0, 0x56];
-    long.resize(37, 0);
-    let again = vec![
-        2, 0, 0, 2, 0x03, 0xE8, 2, 0x07, 0xD0, 0x07, 0xD1, 0x12, 0x34,
-    ];
-    let acknowledged = vec![0x0B, 1, 0x30, 0, 0x06, 0x40, 0x07, 0xD0, 1, 0];
-    let cut = vec![2, 0, 0x20, 5, 0x03, 0xE8, 0, 0x12];
-    [
-        (3, "reports of gauges 1000 and 1300", reports),
-        (6, "a long report of gauge 1001", long),
-        (12, "the first again, by way of this box and of 2001", again),
-        (
-            13,
-            "a sealed command of the base, changed on its way",
-            command(0xB4),
-        ),
-        (14, "the same as it was sent", command(0xB5)),
-        (
-            24,
-            "the same again, since its acknowledgement was lost",
-            command(0xB5),
-        ),
-        (33, "the base acknowledges the alarm", acknowledged),
-        (36, "a report cut on its way", cut),
-    ]
-}
-
 fn main() -> Result<(), Refusal> {
     list_fault(&LISTS)?;
-    let (mut repeater, frames) = (Repeater::new(), frames());
+    let mut repeater = Repeater::new();
     for now in 1..=40 {
-        for (_, what, bytes) in frames.iter().filter(|frame| frame.0 == now) {
+        for (what, frame) in modem::heard_at(now) {
             println!("{now} s: {what}");
-            repeater.hear_frame(bytes);
+            repeater.hear_frame(&frame);
         }
         if now % SLOT == 0 {
             repeater.send_slot(now);
