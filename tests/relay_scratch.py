@@ -8,8 +8,7 @@ import time
 
 from trying import TOP, copied, heeding, script
 
-sys.path.insert(0, str(TOP / 'tools'))
-import building  # noqa: E402
+import building
 
 PARTS = ('relay', 'tools/building.py', 'tools/command.py', 'tools/digits.py', 'tools/native.py', 'docs/NUMBERS.md', 'examples')
 # as the real one: what has a stamp is not built again

@@ -1,11 +1,13 @@
 """What the tests in Python share: a count of what they ask, small repositories and copies of this one in scratch folders, and the independent reading
-(rust/reference)."""
+(rust/reference). With it the modules in tools/ and python/ can be imported."""
 import pathlib
 import shutil
 import signal
 import subprocess
+import sys
 
 TOP = pathlib.Path(__file__).resolve().parent.parent
+sys.path[:0] = [str(TOP / 'tools'), str(TOP / 'python')]
 
 
 class Tally:
