@@ -59,8 +59,8 @@ def program():
         raise ProgramMissing(f'reach runs the program of that name, in a clone of the repository, and {TOP} is none; '
                              'set PYTHONPATH to the folder python of one')
     if not shutil.which('rt'):
-        raise ProgramMissing('reach proves and builds the program of that name with `rt`, of the Rattle kit, and there is no `rt` in PATH; '
-                             'install the kit, or add to PATH the folder where its `rt` lies')
+        raise ProgramMissing('reach proves and builds the program of that name with `rt`, of the Rattle kit, which is not in PATH: install the kit, or add to '
+                             'PATH the folder where its `rt` lies')
     try:
         subprocess.run([sys.executable, TOP / 'tools/build', 'mant.reach', *BUILT], check=True)
         found = subprocess.run([sys.executable, TOP / 'tools/run', '--path', TOP / 'target/bin/reach'], check=True, stdout=subprocess.PIPE, text=True)

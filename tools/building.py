@@ -1,5 +1,6 @@
 """Builds from the present sources, for the commands at the top, tools/build and the tests: one build at a time in a clone, and none left running. What is
-built is for x86-64; on another processor it runs under the emulator of the Rattle kit, and a library is also made for that processor, to be tested and timed."""
+built is for x86-64; on another processor it runs under the emulator of the Rattle kit, and a library is also made for that processor, to be tested and
+timed."""
 import contextlib
 import fcntl
 import hashlib
@@ -19,6 +20,7 @@ TOP = pathlib.Path(__file__).resolve().parent.parent
 TARGET = TOP / 'target'
 QUIET = 1.5  # seconds before a build says that it goes on
 SIGNALS = (signal.SIGINT, signal.SIGTERM, signal.SIGHUP)
+NO_KIT = '`rt`, of the Rattle kit, is not in PATH: install the kit, or add to PATH the folder where its `rt` lies'
 X86_64 = b'\x3e\x00'  # the processor, in bytes 18 and 19 of a program's file
 
 
@@ -99,7 +101,7 @@ def rt(name, *words, **settings):
     try:
         status, said = run_rt(name, words, **settings)
     except OSError as error:
-        raise Failed(f'`rt`, of the Rattle kit, cannot be run: {error.strerror}') from error
+        raise Failed(f'`rt`, of the Rattle kit, cannot be run: {error.strerror}' if shutil.which('rt') else NO_KIT) from error
     if status != 0:
         fail_where_read_only()
         raise Failed(f'{said[-2000:]}`rt {" ".join(words)}` failed')
@@ -194,7 +196,7 @@ def library(name, crate):
     archive, own = TARGET / 'staticlib' / f'lib{crate}.a', TARGET / 'native' / f'lib{crate}.a'
     made_from = archive.with_suffix('.from')
     if not shutil.which('rt'):
-        raise Failed('`rt`, of the Rattle kit, cannot be run: No such file or directory')
+        raise Failed(NO_KIT)
     try:
         if archive.is_file() and own.is_file() and made_from.is_file() and made_from.read_text() == state_of(crate, archive):
             return

@@ -59,5 +59,5 @@ def bytes_of(text):
         raise NotHex(f'line {words[0][0]}: {words[0][1]} and the first word of each other line look like offsets, not like bytes; take them away')
     if len(digits) % 2:
         odd = next(number for number, _ in words if sum(len(word) for line, word in words if line == number) % 2)
-        raise NotHex(f'{len(digits)} hex digits; a byte has two, and line {odd} has an odd number')
+        raise NotHex(f'{len(digits)} hex digit{"" if len(digits) == 1 else "s"}; a byte has two, and line {odd} has an odd number')
     return bytes.fromhex(digits)
