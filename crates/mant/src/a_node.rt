@@ -9,7 +9,7 @@ ghost use mathlib.Core.Bool.{_&&_};
 ghost use Rattle.editions.specs.Editions.{known};
 ghost use Rattle.lists.specs.Lists.{holds};
 ghost use Rattle.batch.specs.Walk.{isTooLong};
-ghost use Rattle.seasons.specs.Choosing.{two, eightOf, eightFault, seasonNodeOf};
+ghost use Rattle.seasons.specs.Choosing.{eightLent, eightFault, seasonNodeOf};
 ghost use Rattle.boundary.specs.Boundary.{nodeFromC, HearsInC, StepsInC};
 
 // Whether an address is in some range of the list, both ends included. An empty list holds none; a last value without a partner is no range.
@@ -34,11 +34,9 @@ pub extern "C" fn mant_list_fault_eight<'a>(
     destination_reject_first: &'a [u16],
     destination_reject_second: &'a [u16],
 ) -> u8
-    ensures { λ r. ⌜ r ≡ eightFault (eightOf
-        (two (now («source_pass_first» .entry)) (now («source_pass_second» .entry)))
-        (two (now («source_reject_first» .entry)) (now («source_reject_second» .entry)))
-        (two (now («destination_pass_first» .entry)) (now («destination_pass_second» .entry)))
-        (two (now («destination_reject_first» .entry)) (now («destination_reject_second» .entry)))) ⌝ }
+    ensures { λ r. ⌜ r ≡ eightFault (eightLent
+        «source_pass_first» «source_pass_second» «source_reject_first» «source_reject_second»
+        «destination_pass_first» «destination_pass_second» «destination_reject_first» «destination_reject_second») ⌝ }
 {
     seasons::fault(
         source_pass_first,
@@ -72,11 +70,9 @@ pub extern "C" fn mant_hear_eight<'a>(
     received: &[u8],
     output: &mut [u8],
 ) -> MantAnswer
-    ensures { λ r. ⌜ HearsInC edition (seasonNodeOf (nodeFromC settings) (eightOf
-        (two (now («source_pass_first» .entry)) (now («source_pass_second» .entry)))
-        (two (now («source_reject_first» .entry)) (now («source_reject_second» .entry)))
-        (two (now («destination_pass_first» .entry)) (now («destination_pass_second» .entry)))
-        (two (now («destination_reject_first» .entry)) (now («destination_reject_second» .entry)))))
+    ensures { λ r. ⌜ HearsInC edition (seasonNodeOf (nodeFromC settings) (eightLent
+        «source_pass_first» «source_pass_second» «source_reject_first» «source_reject_second»
+        «destination_pass_first» «destination_pass_second» «destination_reject_first» «destination_reject_second»))
         (now (received .entry)) (now (output .entry)) r (now (output .exit)) ⌝ }
 {
     let answer = seasons::hear(
@@ -116,11 +112,9 @@ pub extern "C" fn mant_step_eight<'a>(
     cursor: Cursor,
     output: &mut [u8],
 ) -> MantStep
-    ensures { λ r. ⌜ StepsInC edition (seasonNodeOf (nodeFromC settings) (eightOf
-        (two (now («source_pass_first» .entry)) (now («source_pass_second» .entry)))
-        (two (now («source_reject_first» .entry)) (now («source_reject_second» .entry)))
-        (two (now («destination_pass_first» .entry)) (now («destination_pass_second» .entry)))
-        (two (now («destination_reject_first» .entry)) (now («destination_reject_second» .entry)))))
+    ensures { λ r. ⌜ StepsInC edition (seasonNodeOf (nodeFromC settings) (eightLent
+        «source_pass_first» «source_pass_second» «source_reject_first» «source_reject_second»
+        «destination_pass_first» «destination_pass_second» «destination_reject_first» «destination_reject_second»))
         (now (batch .entry)) cursor (now (output .entry)) r (now (output .exit)) ⌝ }
 {
     let place = cursor.place;

@@ -7,7 +7,7 @@ use counting::Heard;
 use stations::Found;
 ghost use mathlib.Core.Path.{_≡_};
 ghost use lib.ListN.{length};
-ghost use Rattle.seasons.specs.Choosing.{two, eightOf, seasonNodeOf};
+ghost use Rattle.seasons.specs.Choosing.{eightLent, seasonNodeOf};
 ghost use Rattle.stations.specs.Table.{capacity, tableIn};
 ghost use Rattle.stations.specs.Asking.{stationOf, foundAt};
 ghost use Rattle.counting.specs.Counting.{countNumber, memoryAfterCount};
@@ -92,11 +92,9 @@ pub extern "C" fn mant_hear_and_count_eight<'a>(
     output: &mut [u8],
     table: &mut [u16],
 ) -> MantListened
-    ensures { λ r. ⌜ ListensInC edition (seasonNodeOf (nodeFromC settings) (eightOf
-        (two (now («source_pass_first» .entry)) (now («source_pass_second» .entry)))
-        (two (now («source_reject_first» .entry)) (now («source_reject_second» .entry)))
-        (two (now («destination_pass_first» .entry)) (now («destination_pass_second» .entry)))
-        (two (now («destination_reject_first» .entry)) (now («destination_reject_second» .entry)))))
+    ensures { λ r. ⌜ ListensInC edition (seasonNodeOf (nodeFromC settings) (eightLent
+        «source_pass_first» «source_pass_second» «source_reject_first» «source_reject_second»
+        «destination_pass_first» «destination_pass_second» «destination_reject_first» «destination_reject_second»))
         (now (received .entry)) (now (output .entry)) (now (table .entry)) r (now (output .exit)) (now (table .exit)) ⌝ }
 {
     let told = mant_hear_eight(

@@ -7,7 +7,7 @@ use lib.ListN.{length, getD}
 use Rattle.octets.specs.Numbers.{_gives_, _orElse_}
 use Rattle.octets.proofs.Numbering.{orElse-zero, orElse-first, orElse-later, orElse-assoc}
 use Rattle.lists.specs.Lists.{lowAboveHigh, faultOf, firstFault, listsOf, listFault}
-use Rattle.seasons.specs.Choosing.{two, eightOf, eightFault}
+use Rattle.seasons.specs.Choosing.{eightInOrder, eightFault}
 
 pub first-of-joined : (before after : List (List ℕ)) → firstFault (before ++ after) ≡ (firstFault before orElse firstFault after)
 unfolding firstFault _orElse_
@@ -24,23 +24,23 @@ four-empty [] [] (x ∷ c) d e = absurd (omega (arith, e .2))
 four-empty [] [] [] (x ∷ d) e = absurd (omega (arith, e .3))
 
 module _ (a b c d e f g h : List ℕ) where
-  eight-of-four : eightFault (eightOf (two a b) (two c d) (two e f) (two g h)) ≡ (listFault (listsOf a b c d) orElse listFault (listsOf e f g h))
+  eight-of-four : eightFault (eightInOrder a b c d e f g h) ≡ (listFault (listsOf a b c d) orElse listFault (listsOf e f g h))
   eight-of-four = first-of-joined (a ∷ b ∷ c ∷ d ∷ []) (e ∷ f ∷ g ∷ h ∷ [])
 
   pub in-the-first : (number : ℕ) → (number ≡ 0 → ⊥) → number ≡ listFault (listsOf a b c d)
-      → number ≡ eightFault (eightOf (two a b) (two c d) (two e f) (two g h))
+      → number ≡ eightFault (eightInOrder a b c d e f g h)
   in-the-first number some is =
       is ∙ sym (eight-of-four ∙ orElse-first (listFault (listsOf a b c d)) (listFault (listsOf e f g h)) (λ z. some (is ∙ z)))
 
   pub in-the-last : (first number : ℕ) → first ≡ 0 → first ≡ listFault (listsOf a b c d) → number ≡ listFault (listsOf e f g h)
-      → number ≡ eightFault (eightOf (two a b) (two c d) (two e f) (two g h))
+      → number ≡ eightFault (eightInOrder a b c d e f g h)
   in-the-last first number none is last =
       last ∙ sym (eight-of-four ∙ orElse-later (listFault (listsOf a b c d)) (listFault (listsOf e f g h)) (sym is ∙ none))
 
   -- eight lists without values have none
   pub eight-empty : (length a ≡ 0) × (length b ≡ 0) × (length c ≡ 0) × (length d ≡ 0)
       → (length e ≡ 0) × (length f ≡ 0) × (length g ≡ 0) × (length h ≡ 0)
-      → 0 ≡ eightFault (eightOf (two a b) (two c d) (two e f) (two g h))
+      → 0 ≡ eightFault (eightInOrder a b c d e f g h)
   eight-empty first last = in-the-last 0 0 refl (four-empty a b c d first) (four-empty e f g h last)
 
 -- the first fault of several lists, by their places

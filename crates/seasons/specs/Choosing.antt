@@ -2,6 +2,8 @@
 use Prim.Native.Nat.{ℕ}
 use mathlib.Core.Bool.{Bool, true, false, cond}
 use mathlib.Core.List.{List, [], _∷_}
+use denote.Ref.{RefT, now}
+use denote.Triple.Both.{Both}
 use Rattle.lists.specs.Lists.{Lists, firstFault}
 use Rattle.decision.specs.declared.Settings.{Settings}
 use Rattle.decision.specs.Decision.{Node}
@@ -26,6 +28,18 @@ pub record EightLists : Type 0 where
 
 abbrev pub eightOf : ListPair → ListPair → ListPair → ListPair → EightLists
 eightOf a b c d = record { sourcePass = a; sourceReject = b; destinationPass = c; destinationReject = d }
+
+-- the eight from one list after the other, in the order in which they are checked
+abbrev pub eightInOrder : List ℕ → List ℕ → List ℕ → List ℕ → List ℕ → List ℕ → List ℕ → List ℕ → EightLists
+eightInOrder a b c d e f g h = eightOf (two a b) (two c d) (two e f) (two g h)
+
+-- a list that a caller lends, as a contract names it: on entry and at exit; and the eight that a node is lent, in the same order
+abbrev pub Lent : Type 0
+Lent = Both (RefT (List ℕ)) (RefT (List ℕ))
+
+abbrev pub eightLent : Lent → Lent → Lent → Lent → Lent → Lent → Lent → Lent → EightLists
+eightLent a b c d e f g h =
+    eightInOrder (now (a .entry)) (now (b .entry)) (now (c .entry)) (now (d .entry)) (now (e .entry)) (now (f .entry)) (now (g .entry)) (now (h .entry))
 
 -- all eight, in the order in which they are checked: kind by kind, first before second
 abbrev pub inOrderOfKinds : EightLists → List (List ℕ)

@@ -7,7 +7,7 @@ ghost use Rattle.pdu.specs.Header.{headerOf};
 ghost use Rattle.pdu.specs.declared.Sender.the-variants.{Unknown};
 ghost use Rattle.decision.specs.Decision.{passFault};
 ghost use Rattle.node.specs.Answers.{twice};
-ghost use Rattle.seasons.specs.Choosing.{two, eightOf, eightFault, isChosen, chosenOf, chosenSettings, chosenNode, seasonNodeOf};
+ghost use Rattle.seasons.specs.Choosing.{two, eightLent, eightFault, isChosen, chosenOf, chosenSettings, chosenNode, seasonNodeOf};
 ghost use Rattle.seasons.specs.Under.{SeasonHears};
 use decision::Settings;
 use node::Answer;
@@ -83,11 +83,9 @@ pub fn fault<'a>(
     destination_reject_first: &'a [u16],
     destination_reject_second: &'a [u16],
 ) -> u8
-    ensures { λ r. ⌜ r ≡ eightFault (eightOf
-        (two (now («source_pass_first» .entry)) (now («source_pass_second» .entry)))
-        (two (now («source_reject_first» .entry)) (now («source_reject_second» .entry)))
-        (two (now («destination_pass_first» .entry)) (now («destination_pass_second» .entry)))
-        (two (now («destination_reject_first» .entry)) (now («destination_reject_second» .entry)))) ⌝ }
+    ensures { λ r. ⌜ r ≡ eightFault (eightLent
+        «source_pass_first» «source_pass_second» «source_reject_first» «source_reject_second»
+        «destination_pass_first» «destination_pass_second» «destination_reject_first» «destination_reject_second») ⌝ }
 {
     let of_source = lists::fault(
         source_pass_first,
@@ -119,11 +117,9 @@ fn stop_number<'a>(
     destination_reject_first: &'a [u16],
     destination_reject_second: &'a [u16],
 ) -> u8
-    ensures { λ r. ⌜ r ≡ cond (known edition) (eightFault (eightOf
-        (two (now («source_pass_first» .entry)) (now («source_pass_second» .entry)))
-        (two (now («source_reject_first» .entry)) (now («source_reject_second» .entry)))
-        (two (now («destination_pass_first» .entry)) (now («destination_pass_second» .entry)))
-        (two (now («destination_reject_first» .entry)) (now («destination_reject_second» .entry))))) 17 ⌝ }
+    ensures { λ r. ⌜ r ≡ cond (known edition) (eightFault (eightLent
+        «source_pass_first» «source_pass_second» «source_reject_first» «source_reject_second»
+        «destination_pass_first» «destination_pass_second» «destination_reject_first» «destination_reject_second»)) 17 ⌝ }
 {
     if !editions::is_known(edition) {
         return 17;
@@ -206,11 +202,9 @@ fn listed_number<'a>(
     destination_reject_second: &'a [u16],
     received: &[u8],
 ) -> u8
-    ensures { λ r. ⌜ r ≡ passFault (chosenNode (seasonNodeOf settings (eightOf
-        (two (now («source_pass_first» .entry)) (now («source_pass_second» .entry)))
-        (two (now («source_reject_first» .entry)) (now («source_reject_second» .entry)))
-        (two (now («destination_pass_first» .entry)) (now («destination_pass_second» .entry)))
-        (two (now («destination_reject_first» .entry)) (now («destination_reject_second» .entry)))))) (headerOf (now (received .entry))) ⌝ }
+    ensures { λ r. ⌜ r ≡ passFault (chosenNode (seasonNodeOf settings (eightLent
+        «source_pass_first» «source_pass_second» «source_reject_first» «source_reject_second»
+        «destination_pass_first» «destination_pass_second» «destination_reject_first» «destination_reject_second»))) (headerOf (now (received .entry))) ⌝ }
 {
     if !any_is_chosen(settings) {
         return 0;
@@ -268,11 +262,9 @@ pub fn hear<'a>(
     received: &[u8],
     output: &mut [u8],
 ) -> Answer
-    ensures { λ r. ⌜ SeasonHears edition (seasonNodeOf settings (eightOf
-        (two (now («source_pass_first» .entry)) (now («source_pass_second» .entry)))
-        (two (now («source_reject_first» .entry)) (now («source_reject_second» .entry)))
-        (two (now («destination_pass_first» .entry)) (now («destination_pass_second» .entry)))
-        (two (now («destination_reject_first» .entry)) (now («destination_reject_second» .entry)))))
+    ensures { λ r. ⌜ SeasonHears edition (seasonNodeOf settings (eightLent
+        «source_pass_first» «source_pass_second» «source_reject_first» «source_reject_second»
+        «destination_pass_first» «destination_pass_second» «destination_reject_first» «destination_reject_second»))
         (now (received .entry)) (now (output .entry)) r (now (output .exit)) ⌝ }
 {
     let stop = stop_number(

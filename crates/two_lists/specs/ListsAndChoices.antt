@@ -7,17 +7,13 @@ use Rattle.node.specs.declared.Answer.{Answer}
 use Rattle.seasons.specs.declared.Choice.{Choice}
 use Rattle.seasons.specs.declared.Choice.the-variants.{Neither}
 use Rattle.seasons.specs.declared.SeasonSettings.{SeasonSettings}
-use Rattle.seasons.specs.Choosing.{two, EightLists, eightOf, inOrderOfKinds, seasonNodeOf}
+use Rattle.seasons.specs.Choosing.{two, EightLists, eightOf, eightInOrder, inOrderOfKinds, seasonNodeOf}
 use Rattle.seasons.specs.Under.{seasonAnswerUnder}
 use Rattle.checked_by_hand.specs.Examples.{example}
 
 -- the list at a place of the order in which the eight are checked, the first at 0
 abbrev pub listInOrder : EightLists → ℕ → List ℕ
 listInOrder lists k = getD (inOrderOfKinds lists) k []
-
--- lists for all kinds, the first and the second of each, in the order in which they are checked
-abbrev pub eightInOrder : List ℕ → List ℕ → List ℕ → List ℕ → List ℕ → List ℕ → List ℕ → List ℕ → EightLists
-eightInOrder a b c d e f g h = eightOf (two a b) (two c d) (two e f) (two g h)
 
 -- settings with other choices; all else in them is as it was
 abbrev pub changedTo : Choice → Choice → Choice → Choice → SeasonSettings → SeasonSettings

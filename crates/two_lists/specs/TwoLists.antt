@@ -22,7 +22,8 @@ use Rattle.hearing.specs.Hearing.{answerUnder, outputUnder, stepUnder, stepOutp
 use Rattle.seasons.specs.declared.Choice.{Choice}
 use Rattle.seasons.specs.declared.Choice.the-variants.{First, Second, Neither}
 use Rattle.seasons.specs.declared.SeasonSettings.{SeasonSettings}
-use Rattle.seasons.specs.Choosing.{two, EightLists, inOrderOfKinds, eightFault, isChosen, chosenOf, SeasonNode, seasonNodeOf, chosenNode, withFirsts}
+use Rattle.seasons.specs.Choosing.{two, EightLists, eightInOrder, inOrderOfKinds, eightFault, isChosen, chosenOf}
+use Rattle.seasons.specs.Choosing.{SeasonNode, seasonNodeOf, chosenNode, withFirsts}
 use Rattle.seasons.specs.Under.{seasonAnswerUnder, seasonOutputUnder, SeasonHears, seasonStepUnder, seasonStepOutputUnder, seasonWalkUnder, seasonStepsUnder}
 use Rattle.job.specs.declared.Job.{Job}
 use Rattle.job.specs.Jobs.{nodeIn}
@@ -38,7 +39,7 @@ use Rattle.coverage.specs.Hearing.{Taken}
 use Rattle.coverage.specs.Delivery.{Planned, Delivers, Delivered}
 use Rattle.boundary.specs.declared.MantNode.{MantNode}
 use Rattle.boundary.specs.Boundary.{choiceFromC, nodeFromC}
-use Rattle.two_lists.specs.ListsAndChoices.{listInOrder, eightInOrder, changedTo, firstsPass, secondsPass, numberBy, byEmpty, besideOdd}
+use Rattle.two_lists.specs.ListsAndChoices.{listInOrder, changedTo, firstsPass, secondsPass, numberBy, byEmpty, besideOdd}
 use Rattle.two_lists.specs.SeasonNetwork.{SeasonRepeater, own, asChosen, seasonSends, seasonAir, SeasonDelivered}
 
 pub record TwoLists : Type 0 where

@@ -1,4 +1,3 @@
-use denote.Ref.{now}
 use Rattle.seasons.proofs.Faults.{in-the-first, in-the-last}
 use borrow.Author.Needs.{needs}
 use Rattle.seasons.proofs.fault.Statement.{statement}
@@ -10,10 +9,7 @@ fault-requires c κs = search needs
 returns : tie.Need-returns
 returns c =
     let first = c .before in
-    let a = first .before .before .before .before .before .before .before .before .before .args in
-    in-the-first (now (a .source-pass-first)) (now (a .source-pass-second)) (now (a .source-reject-first)) (now (a .source-reject-second))
-    (now (a .destination-pass-first)) (now (a .destination-pass-second)) (now (a .destination-reject-first)) (now (a .destination-reject-second))
-    (first .fault .result) (c .if1 .taken) (first .fault .ensures)
+    in-the-first _ _ _ _ _ _ _ _ (first .fault .result) (c .if1 .taken) (first .fault .ensures)
 
 fault-requires-2 : tie.Need-fault-requires-2
 fault-requires-2 c κs = search needs
@@ -21,10 +17,7 @@ fault-requires-2 c κs = search needs
 returns-2 : tie.Need-returns-2
 returns-2 c =
     let first = c .before .before in
-    let a = first .before .before .before .before .before .before .before .before .before .args in
-    in-the-last (now (a .source-pass-first)) (now (a .source-pass-second)) (now (a .source-reject-first)) (now (a .source-reject-second))
-    (now (a .destination-pass-first)) (now (a .destination-pass-second)) (now (a .destination-reject-first)) (now (a .destination-reject-second))
-    (first .fault .result) (c .fault2 .result) (c .before .if1 .left) (first .fault .ensures) (c .fault2 .ensures)
+    in-the-last _ _ _ _ _ _ _ _ (first .fault .result) (c .fault2 .result) (c .before .if1 .left) (first .fault .ensures) (c .fault2 .ensures)
 
 pub fault-spec : {M : Type 1} → statement M
 fault-spec = tie.close (tie.spec fault-requires returns fault-requires-2 returns-2)

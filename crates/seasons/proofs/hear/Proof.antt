@@ -1,6 +1,4 @@
-use mathlib.Core.Path.{sym, _∙_}
 use denote.Ref.{now}
-use Rattle.seasons.specs.Choosing.{two, eightOf, seasonNodeOf}
 use Rattle.seasons.proofs.Answering.{stop-heard, chosen-heard}
 use borrow.Author.Needs.{needs}
 use Rattle.seasons.proofs.hear.Statement.{statement}
@@ -16,11 +14,7 @@ returns : tie.Need-returns
 returns c =
     let stops = c .before .before in
     let a = stops .before .before .before .before .before .before .before .before .before .before .before .args in
-    let node = seasonNodeOf (a .settings) (eightOf (two (now (a .source-pass-first)) (now (a .source-pass-second)))
-    (two (now (a .source-reject-first)) (now (a .source-reject-second)))
-    (two (now (a .destination-pass-first)) (now (a .destination-pass-second)))
-    (two (now (a .destination-reject-first)) (now (a .destination-reject-second)))) in
-    stop-heard (a .edition) node (stops .stop-number .result) (stops .stop-number .ensures) (now (a .received)) (now (a .output)) _
+    stop-heard (a .edition) _ (stops .stop-number .result) (stops .stop-number .ensures) (now (a .received)) (now (a .output)) _
     (c .before .if1 .taken) (c .twice .ensures)
 
 listed-number-requires : tie.Need-listed-number-requires
@@ -42,11 +36,7 @@ returns-2 c =
     let listed = settings .before in
     let stops = listed .before .before in
     let a = stops .before .before .before .before .before .before .before .before .before .before .before .args in
-    let node = seasonNodeOf (a .settings) (eightOf (two (now (a .source-pass-first)) (now (a .source-pass-second)))
-    (two (now (a .source-reject-first)) (now (a .source-reject-second)))
-    (two (now (a .destination-pass-first)) (now (a .destination-pass-second)))
-    (two (now (a .destination-reject-first)) (now (a .destination-reject-second)))) in
-    chosen-heard (a .edition) node (stops .stop-number .result) (stops .stop-number .ensures) (now (a .received)) (now (a .output)) _
+    chosen-heard (a .edition) _ (stops .stop-number .result) (stops .stop-number .ensures) (now (a .received)) (now (a .output)) _
     (listed .listed-number .result) _ _ (listed .before .if1 .left) (settings .chosen-settings .ensures) (listed .listed-number .ensures)
     (heard .hear-given .ensures)
 

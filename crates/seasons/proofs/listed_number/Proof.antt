@@ -3,7 +3,7 @@ use denote.Ref.{now}
 use borrow.Author.Tests.{not-true}
 use Rattle.pdu.specs.Header.{headerOf}
 use Rattle.decision.specs.Decision.{Node, passFault}
-use Rattle.seasons.specs.Choosing.{two, eightOf, seasonNodeOf}
+use Rattle.seasons.specs.Choosing.{seasonNodeOf}
 use Rattle.seasons.proofs.Answering.{chosen-is, none-listed}
 use borrow.Author.Needs.{needs}
 use Rattle.seasons.proofs.listed_number.Statement.{statement}
@@ -16,12 +16,8 @@ returns : tie.Need-returns
 returns c =
     let any = c .before in
     let a = any .before .before .before .before .before .before .before .before .before .before .args in
-    let node = seasonNodeOf (a .settings) (eightOf (two (now (a .source-pass-first)) (now (a .source-pass-second)))
-    (two (now (a .source-reject-first)) (now (a .source-reject-second)))
-    (two (now (a .destination-pass-first)) (now (a .destination-pass-second)))
-    (two (now (a .destination-reject-first)) (now (a .destination-reject-second)))) in
     let off = any .any-is-chosen .ensures (not-true _ (c .if1 .taken)) in
-    none-listed node (headerOf (now (a .received))) (off .0) (off .1) (off .2) (off .3)
+    none-listed (seasonNodeOf (a .settings) _) (headerOf (now (a .received))) (off .0) (off .1) (off .2) (off .3)
 
 chosen-settings-requires : tie.Need-chosen-settings-requires
 chosen-settings-requires c κs = search needs
@@ -49,14 +45,10 @@ returns-2 c =
     let first = second .before in
     let settings = first .before in
     let a = settings .before .before .before .before .before .before .before .before .before .before .before .before .args in
-    let node = seasonNodeOf (a .settings) (eightOf (two (now (a .source-pass-first)) (now (a .source-pass-second)))
-    (two (now (a .source-reject-first)) (now (a .source-reject-second)))
-    (two (now (a .destination-pass-first)) (now (a .destination-pass-second)))
-    (two (now (a .destination-reject-first)) (now (a .destination-reject-second)))) in
     c .listed-fault .ensures
     ∙ ap (λ (n : Node). passFault n (headerOf (now (a .received))))
-    (chosen-is node _ _ _ _ _ (settings .chosen-settings .ensures) (first .chosen .ensures) (second .chosen2 .ensures) (third .chosen3 .ensures)
-    (fourth .chosen4 .ensures))
+    (chosen-is (seasonNodeOf (a .settings) _) _ _ _ _ _ (settings .chosen-settings .ensures) (first .chosen .ensures) (second .chosen2 .ensures)
+    (third .chosen3 .ensures) (fourth .chosen4 .ensures))
 
 pub listed-number-spec : {M : Type 1} → statement M
 listed-number-spec =

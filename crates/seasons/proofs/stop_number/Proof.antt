@@ -1,5 +1,4 @@
 use mathlib.Core.Path.{sym, _∙_}
-use denote.Ref.{now}
 use borrow.Author.Tests.{not-true, not-false}
 use Rattle.seasons.proofs.Faults.{in-the-first, in-the-last, eight-empty}
 use Rattle.seasons.proofs.Answering.{no-edition, in-edition}
@@ -13,7 +12,8 @@ is-known-requires c κs = search needs
 returns : tie.Need-returns
 returns c =
     let named = c .before in
-    no-edition (named .before .before .before .before .before .before .before .before .before .args .edition) _ (sym (named .is-known .ensures) ∙ not-true _ (c .if1 .taken))
+    no-edition (named .before .before .before .before .before .before .before .before .before .args .edition) _
+    (sym (named .is-known .ensures) ∙ not-true _ (c .if1 .taken))
 
 are-empty-requires : tie.Need-are-empty-requires
 are-empty-requires c κs = search needs
@@ -28,9 +28,7 @@ returns-2 c =
     let named = first .before .before in
     let a = named .before .before .before .before .before .before .before .before .before .args in
     in-edition (a .edition) _ _ (sym (named .is-known .ensures) ∙ not-false _ (first .before .if1 .left))
-    (eight-empty (now (a .source-pass-first)) (now (a .source-pass-second)) (now (a .source-reject-first)) (now (a .source-reject-second))
-    (now (a .destination-pass-first)) (now (a .destination-pass-second)) (now (a .destination-reject-first)) (now (a .destination-reject-second))
-    (first .are-empty .ensures (second .before .if2 .taken)) (second .are-empty2 .ensures (c .if3 .taken)))
+    (eight-empty _ _ _ _ _ _ _ _ (first .are-empty .ensures (second .before .if2 .taken)) (second .are-empty2 .ensures (c .if3 .taken)))
 
 fault-requires : tie.Need-fault-requires
 fault-requires c κs = search needs
@@ -42,9 +40,7 @@ returns-3 c =
     let named = passed .before in
     let a = named .before .before .before .before .before .before .before .before .before .args in
     in-edition (a .edition) _ _ (sym (named .is-known .ensures) ∙ not-false _ (passed .if1 .left))
-    (in-the-first (now (a .source-pass-first)) (now (a .source-pass-second)) (now (a .source-reject-first)) (now (a .source-reject-second))
-    (now (a .destination-pass-first)) (now (a .destination-pass-second)) (now (a .destination-reject-first)) (now (a .destination-reject-second))
-    (first .fault .result) (c .if4 .taken) (first .fault .ensures))
+    (in-the-first _ _ _ _ _ _ _ _ (first .fault .result) (c .if4 .taken) (first .fault .ensures))
 
 fault-requires-2 : tie.Need-fault-requires-2
 fault-requires-2 c κs = search needs
@@ -56,9 +52,7 @@ returns-4 c =
     let named = passed .before in
     let a = named .before .before .before .before .before .before .before .before .before .args in
     in-edition (a .edition) _ _ (sym (named .is-known .ensures) ∙ not-false _ (passed .if1 .left))
-    (in-the-last (now (a .source-pass-first)) (now (a .source-pass-second)) (now (a .source-reject-first)) (now (a .source-reject-second))
-    (now (a .destination-pass-first)) (now (a .destination-pass-second)) (now (a .destination-reject-first)) (now (a .destination-reject-second))
-    (first .fault .result) (c .fault2 .result) (c .before .if4 .left) (first .fault .ensures) (c .fault2 .ensures))
+    (in-the-last _ _ _ _ _ _ _ _ (first .fault .result) (c .fault2 .result) (c .before .if4 .left) (first .fault .ensures) (c .fault2 .ensures))
 
 pub stop-number-spec : {M : Type 1} → statement M
 stop-number-spec =

@@ -1,5 +1,4 @@
 use denote.Ref.{now}
-use Rattle.seasons.specs.Choosing.{two, eightOf}
 use Rattle.mant.proofs.Season.{heard-in-c}
 use borrow.Author.Needs.{needs}
 use Rattle.mant.proofs.a_node.mant_hear_eight.Statement.{statement}
@@ -22,11 +21,7 @@ returns c =
     let hears = c .before .before .before in
     let from = hears .before .before in
     let a = from .before .before .before .before .before .before .before .before .before .before .before .args in
-    let lists = eightOf (two (now (a .source-pass-first)) (now (a .source-pass-second)))
-    (two (now (a .source-reject-first)) (now (a .source-reject-second)))
-    (two (now (a .destination-pass-first)) (now (a .destination-pass-second)))
-    (two (now (a .destination-reject-first)) (now (a .destination-reject-second))) in
-    heard-in-c (a .edition) (a .settings) _ (from .node-from-c .ensures) lists (now (a .received)) (now (a .output)) _ _ _ (hears .hear .ensures)
+    heard-in-c (a .edition) (a .settings) _ (from .node-from-c .ensures) _ (now (a .received)) (now (a .output)) _ _ _ (hears .hear .ensures)
     (c .answer-in-c .ensures)
 
 pub mant-hear-eight-spec : {M : Type 1} → statement M

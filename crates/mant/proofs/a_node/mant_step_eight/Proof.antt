@@ -1,8 +1,6 @@
 use mathlib.Core.Path.{sym, _∙_}
 use denote.Ref.{now}
 use Rattle.batch.proofs.Stepping.{rest}
-use Rattle.seasons.specs.Choosing.{two, eightOf, seasonNodeOf}
-use Rattle.boundary.specs.Boundary.{nodeFromC}
 use Rattle.mant.proofs.Season.{refused-in-c, ended-in-c, at-end-in-c, next-in-c, answered-in-c}
 use native.Mathlib.Omega.{arith}
 use borrow.Author.Needs.{needs}
@@ -19,11 +17,7 @@ returns : tie.Need-returns
 returns c =
     let long = c .before .before in
     let a = long .before .before .before .before .before .before .before .before .before .before .before .args in
-    let node = seasonNodeOf (nodeFromC (a .settings)) (eightOf (two (now (a .source-pass-first)) (now (a .source-pass-second)))
-    (two (now (a .source-reject-first)) (now (a .source-reject-second)))
-    (two (now (a .destination-pass-first)) (now (a .destination-pass-second)))
-    (two (now (a .destination-reject-first)) (now (a .destination-reject-second)))) in
-    refused-in-c (a .edition) node (now (a .batch)) (now (a .output)) (a .cursor) _ (sym (long .is-too-long .ensures) ∙ c .before .if1 .taken)
+    refused-in-c (a .edition) _ (now (a .batch)) (now (a .output)) (a .cursor) _ (sym (long .is-too-long .ensures) ∙ c .before .if1 .taken)
     (c .step-in-c .ensures)
 
 step-in-c-requires-2 : tie.Need-step-in-c-requires-2
@@ -34,11 +28,7 @@ returns-2 c =
     let first = c .before .before in
     let long = first .before in
     let a = long .before .before .before .before .before .before .before .before .before .before .before .args in
-    let node = seasonNodeOf (nodeFromC (a .settings)) (eightOf (two (now (a .source-pass-first)) (now (a .source-pass-second)))
-    (two (now (a .source-reject-first)) (now (a .source-reject-second)))
-    (two (now (a .destination-pass-first)) (now (a .destination-pass-second)))
-    (two (now (a .destination-reject-first)) (now (a .destination-reject-second)))) in
-    ended-in-c (a .edition) node (now (a .batch)) (now (a .output)) (a .cursor) (sym (long .is-too-long .ensures) ∙ first .if1 .left) _
+    ended-in-c (a .edition) _ (now (a .batch)) (now (a .output)) (a .cursor) (sym (long .is-too-long .ensures) ∙ first .if1 .left) _
     (c .before .if2 .taken) (c .step-in-c2 .ensures)
 
 step-in-c-requires-3 : tie.Need-step-in-c-requires-3
@@ -50,11 +40,7 @@ returns-3 c =
     let first = second .before in
     let long = first .before in
     let a = long .before .before .before .before .before .before .before .before .before .before .before .args in
-    let node = seasonNodeOf (nodeFromC (a .settings)) (eightOf (two (now (a .source-pass-first)) (now (a .source-pass-second)))
-    (two (now (a .source-reject-first)) (now (a .source-reject-second)))
-    (two (now (a .destination-pass-first)) (now (a .destination-pass-second)))
-    (two (now (a .destination-reject-first)) (now (a .destination-reject-second)))) in
-    at-end-in-c (a .edition) node (now (a .batch)) (now (a .output)) (a .cursor) (sym (long .is-too-long .ensures) ∙ first .if1 .left)
+    at-end-in-c (a .edition) _ (now (a .batch)) (now (a .output)) (a .cursor) (sym (long .is-too-long .ensures) ∙ first .if1 .left)
     (second .if2 .left) _ (c .before .if3 .taken) (c .step-in-c3 .ensures)
 
 sub-mant-hear-eight : tie.Need-sub-mant-hear-eight
@@ -78,14 +64,10 @@ add-after c =
     let long = first .before in
     let start = long .before .before .before .before .before .before .before .before .before .before .before in
     let a = start .args in
-    let node = seasonNodeOf (nodeFromC (a .settings)) (eightOf (two (now (a .source-pass-first)) (now (a .source-pass-second)))
-    (two (now (a .source-reject-first)) (now (a .source-reject-second)))
-    (two (now (a .destination-pass-first)) (now (a .destination-pass-second)))
-    (two (now (a .destination-reject-first)) (now (a .destination-reject-second)))) in
     omega (
       arith,
       start .good,
-      next-in-c (a .edition) node (now (a .batch)) (now (a .output)) (a .cursor) (sym (long .is-too-long .ensures) ∙ first .if1 .left)
+      next-in-c (a .edition) _ (now (a .batch)) (now (a .output)) (a .cursor) (sym (long .is-too-long .ensures) ∙ first .if1 .left)
           (second .if2 .left) (third .if3 .left) _ _ (rest (now (a .batch)) (a .cursor .place)) _ (heard .mant-hear-eight .ensures),
     )
 
@@ -100,11 +82,7 @@ returns-4 c =
     let first = second .before in
     let long = first .before in
     let a = long .before .before .before .before .before .before .before .before .before .before .before .args in
-    let node = seasonNodeOf (nodeFromC (a .settings)) (eightOf (two (now (a .source-pass-first)) (now (a .source-pass-second)))
-    (two (now (a .source-reject-first)) (now (a .source-reject-second)))
-    (two (now (a .destination-pass-first)) (now (a .destination-pass-second)))
-    (two (now (a .destination-reject-first)) (now (a .destination-reject-second)))) in
-    answered-in-c (a .edition) node (now (a .batch)) (now (a .output)) (a .cursor) (sym (long .is-too-long .ensures) ∙ first .if1 .left)
+    answered-in-c (a .edition) _ (now (a .batch)) (now (a .output)) (a .cursor) (sym (long .is-too-long .ensures) ∙ first .if1 .left)
     (second .if2 .left) (third .if3 .left) _ _ (rest (now (a .batch)) (a .cursor .place)) _ (heard .mant-hear-eight .ensures)
 
 pub mant-step-eight-spec : {M : Type 1} → statement M

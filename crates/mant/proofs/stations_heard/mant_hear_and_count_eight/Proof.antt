@@ -1,6 +1,4 @@
 use denote.Ref.{now}
-use Rattle.seasons.specs.Choosing.{two, eightOf, seasonNodeOf}
-use Rattle.boundary.specs.Boundary.{nodeFromC}
 use Rattle.mant.proofs.Season.{counted-in-c}
 use borrow.Author.Needs.{needs}
 use Rattle.mant.proofs.stations_heard.mant_hear_and_count_eight.Statement.{statement}
@@ -23,11 +21,7 @@ returns c =
     let counts = c .before .before in
     let hears = counts .before .before .before .before in
     let a = hears .before .before .before .before .before .before .before .before .before .before .before .before .before .args in
-    let node = seasonNodeOf (nodeFromC (a .settings)) (eightOf (two (now (a .source-pass-first)) (now (a .source-pass-second)))
-    (two (now (a .source-reject-first)) (now (a .source-reject-second)))
-    (two (now (a .destination-pass-first)) (now (a .destination-pass-second)))
-    (two (now (a .destination-reject-first)) (now (a .destination-reject-second)))) in
-    counted-in-c (a .edition) node (now (a .received)) (now (a .output)) _ (now (a .table)) _ _ _ (hears .mant-hear-eight .ensures)
+    counted-in-c (a .edition) _ (now (a .received)) (now (a .output)) _ (now (a .table)) _ _ _ (hears .mant-hear-eight .ensures)
     (counts .mant-count-answer .ensures)
 
 pub mant-hear-and-count-eight-spec : {M : Type 1} → statement M
