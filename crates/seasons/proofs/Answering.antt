@@ -72,11 +72,11 @@ unfolding passFault _gives_ _orElse_
 none-listed node header a b c d = rw (a, b, c, d) refl
 
 -- 17, or the first fault of the eight lists
-pub no-edition : (edition faults : ℕ) → known edition ≡ false → 17 ≡ cond (known edition) faults 17
-no-edition edition faults e = rw e refl
+pub no-edition : (named : Bool) (faults : ℕ) → named ≡ false → 17 ≡ cond named faults 17
+no-edition named faults e = rw e refl
 
-pub in-edition : (edition number faults : ℕ) → known edition ≡ true → number ≡ faults → number ≡ cond (known edition) faults 17
-in-edition edition number faults e is = rw e is
+pub in-edition : (named : Bool) (number faults : ℕ) → named ≡ true → number ≡ faults → number ≡ cond named faults 17
+in-edition named number faults e is = rw e is
 
 module _ (edition : ℕ) (node : SeasonNode) (stop : ℕ) (is : stop ≡ cond (known edition) (eightFault (node .lists)) 17) (received output : List ℕ) where
   pub stop-heard : (answer : Answer) → (stop ≡ 0 → ⊥) → answer ≡ twice stop 0 Unknown → SeasonHears edition node received output answer output
