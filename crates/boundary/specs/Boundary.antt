@@ -37,14 +37,14 @@ use Rattle.seasons.specs.Under.{seasonAnswerUnder, seasonOutputUnder, seasonSte
 use Rattle.listening.specs.Listening.{answerNumber, memoryAfterAnswer}
 use Rattle.bound.specs.declared.Bound.{Bound}
 use Rattle.bound.specs.declared.Bound.the-variants.{Exactly, TooLarge, HopRefused}
-use Rattle.boundary.specs.declared.MantHeader.{MantHeader}
-use Rattle.boundary.specs.declared.MantFresh.{MantFresh}
-use Rattle.boundary.specs.declared.MantNode.{MantNode}
-use Rattle.boundary.specs.declared.MantAnswer.{MantAnswer}
-use Rattle.boundary.specs.declared.MantListened.{MantListened}
-use Rattle.boundary.specs.declared.MantStep.{MantStep}
-use Rattle.boundary.specs.declared.MantBound.{MantBound}
-use Rattle.boundary.specs.declared.MantLimits.{MantLimits}
+use Rattle.boundary.specs.declared.reading.MantHeader.{MantHeader}
+use Rattle.boundary.specs.declared.originating.MantFresh.{MantFresh}
+use Rattle.boundary.specs.declared.a_node.MantNode.{MantNode}
+use Rattle.boundary.specs.declared.a_node.MantAnswer.{MantAnswer}
+use Rattle.boundary.specs.declared.a_node.MantListened.{MantListened}
+use Rattle.boundary.specs.declared.a_walk.MantStep.{MantStep}
+use Rattle.boundary.specs.declared.planning.MantBound.{MantBound}
+use Rattle.boundary.specs.declared.planning.MantLimits.{MantLimits}
 
 -- a destination as a flag and an address, the address 0 where there is none ("Header, byte by byte")
 abbrev pub hasDestination : Destination → Bool

@@ -30,7 +30,7 @@ use Rattle.editions.specs.declared.Shown.{Shown}
 use Rattle.editions.specs.declared.Reading as edition-read
 use Rattle.editions.specs.Editions.{known, bitsUnder, shownWith, readUnder, wireOf}
 use Rattle.editions.proofs.Showing.{unknown-refused, wire-refused, pdu-shown, wire-back}
-use Rattle.boundary.specs.declared.MantHeader.{MantHeader}
+use Rattle.boundary.specs.declared.reading.MantHeader.{MantHeader}
 use Rattle.boundary.specs.Boundary.{hasDestination, destinationAddress, hasSender, senderAddress, hasFlag, flagOf, reservedOf}
 use Rattle.boundary.specs.Boundary.{shownHeader, refusedHeader, headerInC}
 

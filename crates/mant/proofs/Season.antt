@@ -20,9 +20,9 @@ use Rattle.seasons.specs.Choosing.{EightLists, SeasonNode, seasonNodeOf}
 use Rattle.seasons.specs.Under.{seasonAnswerUnder, seasonOutputUnder, SeasonHears}
 use Rattle.seasons.proofs.Stepping.{refused, has-ended, at-end, goes-on, stays-within}
 use Rattle.listening.specs.Listening.{answerNumber, memoryAfterAnswer}
-use Rattle.boundary.specs.declared.MantNode.{MantNode}
-use Rattle.boundary.specs.declared.MantAnswer.{MantAnswer}
-use Rattle.boundary.specs.declared.MantStep.{MantStep}
+use Rattle.boundary.specs.declared.a_node.MantNode.{MantNode}
+use Rattle.boundary.specs.declared.a_node.MantAnswer.{MantAnswer}
+use Rattle.boundary.specs.declared.a_walk.MantStep.{MantStep}
 use Rattle.boundary.specs.Boundary.{hasSender, senderAddress, senderFromC, nodeFromC, answerInC, answerFromC, HearsInC, ListensInC, stepInC, StepsInC}
 
 module _ (edition : ℕ) (given : MantNode) (settings : SeasonSettings) (is : settings ≡ nodeFromC given) (lists : EightLists) where

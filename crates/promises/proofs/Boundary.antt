@@ -1,20 +1,20 @@
 -- Every public function of `boundary`: its promise asks nothing of the caller and determines what the caller sees.
 use mathlib.Core.Path.{sym, _∙_}
 use Rattle.promises.specs.Promise.{Promised}
-use Rattle.boundary.proofs.fresh_from_c.Reads as fresh-from-c-reads
-use Rattle.boundary.proofs.fresh_from_c.Kinds as fresh-from-c-kinds
-use Rattle.boundary.proofs.node_from_c.Reads as node-from-c-reads
-use Rattle.boundary.proofs.node_from_c.Kinds as node-from-c-kinds
-use Rattle.boundary.proofs.answer_in_c.Reads as answer-in-c-reads
-use Rattle.boundary.proofs.answer_in_c.Kinds as answer-in-c-kinds
-use Rattle.boundary.proofs.answer_from_c.Reads as answer-from-c-reads
-use Rattle.boundary.proofs.answer_from_c.Kinds as answer-from-c-kinds
-use Rattle.boundary.proofs.step_in_c.Reads as step-in-c-reads
-use Rattle.boundary.proofs.step_in_c.Kinds as step-in-c-kinds
-use Rattle.boundary.proofs.bound_in_c.Reads as bound-in-c-reads
-use Rattle.boundary.proofs.bound_in_c.Kinds as bound-in-c-kinds
-use Rattle.boundary.proofs.limits_in_c.Reads as limits-in-c-reads
-use Rattle.boundary.proofs.limits_in_c.Kinds as limits-in-c-kinds
+use Rattle.boundary.proofs.originating.fresh_from_c.Reads as fresh-from-c-reads
+use Rattle.boundary.proofs.originating.fresh_from_c.Kinds as fresh-from-c-kinds
+use Rattle.boundary.proofs.a_node.node_from_c.Reads as node-from-c-reads
+use Rattle.boundary.proofs.a_node.node_from_c.Kinds as node-from-c-kinds
+use Rattle.boundary.proofs.a_node.answer_in_c.Reads as answer-in-c-reads
+use Rattle.boundary.proofs.a_node.answer_in_c.Kinds as answer-in-c-kinds
+use Rattle.boundary.proofs.a_node.answer_from_c.Reads as answer-from-c-reads
+use Rattle.boundary.proofs.a_node.answer_from_c.Kinds as answer-from-c-kinds
+use Rattle.boundary.proofs.a_walk.step_in_c.Reads as step-in-c-reads
+use Rattle.boundary.proofs.a_walk.step_in_c.Kinds as step-in-c-kinds
+use Rattle.boundary.proofs.planning.bound_in_c.Reads as bound-in-c-reads
+use Rattle.boundary.proofs.planning.bound_in_c.Kinds as bound-in-c-kinds
+use Rattle.boundary.proofs.planning.limits_in_c.Reads as limits-in-c-reads
+use Rattle.boundary.proofs.planning.limits_in_c.Kinds as limits-in-c-kinds
 
 pub fresh-from-c : Promised 0 fresh-from-c-kinds.ps fresh-from-c-kinds.r fresh-from-c-reads.Asked fresh-from-c-reads.Post (λ κs x. x)
 fresh-from-c = (λ κs a. tt, λ κs a x y s t p q. p ∙ sym q)

@@ -33,7 +33,7 @@ use Rattle.hearing.specs.Hearing.{answerUnder, outputUnder, stepUnder, stepOutp
 use Rattle.lines.specs.Lines.{pduLine}
 use Rattle.run.specs.Run.{roomForOne, repeatedOrNone, lineAt, walkLines, linesOf}
 use Rattle.listening.specs.Listening.{answerNumber, memoryAfterAnswer}
-use Rattle.boundary.specs.declared.MantFresh.{MantFresh}
+use Rattle.boundary.specs.declared.originating.MantFresh.{MantFresh}
 use Rattle.boundary.specs.Boundary.{headerInC, freshFromC}
 use Rattle.checked_by_hand.specs.Examples.{nodeAt}
 

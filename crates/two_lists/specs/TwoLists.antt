@@ -37,7 +37,7 @@ use Rattle.flood.specs.Air.{Repeater, Nodes, Open, Begins, Originated, address,
 use Rattle.flood.specs.Complete.{Complete}
 use Rattle.coverage.specs.Hearing.{Taken}
 use Rattle.coverage.specs.Delivery.{Planned, Delivers, Delivered}
-use Rattle.boundary.specs.declared.MantNode.{MantNode}
+use Rattle.boundary.specs.declared.a_node.MantNode.{MantNode}
 use Rattle.boundary.specs.Boundary.{choiceFromC, nodeFromC}
 use Rattle.two_lists.specs.ListsAndChoices.{listInOrder, changedTo, firstsPass, secondsPass, numberBy, byEmpty, besideOdd}
 use Rattle.two_lists.specs.SeasonNetwork.{SeasonRepeater, own, asChosen, seasonSends, seasonAir, SeasonDelivered}

@@ -40,7 +40,7 @@ use Rattle.deciding.specs.declared.Ask.{Ask}
 use Rattle.deciding.specs.declared.Effect.{Effect}
 use Rattle.retained.specs.declared.Outcome.{Outcome}
 use Rattle.answering.specs.declared.Sending.{Sending}
-use Rattle.boundary.specs.declared.MantAnswer.{MantAnswer}
+use Rattle.boundary.specs.declared.a_node.MantAnswer.{MantAnswer}
 use Rattle.retained.proofs.Retained as T
 use Rattle.retained.proofs.Retained.Laws as T′
 use Rattle.deciding.proofs.Ask as Q
@@ -49,8 +49,8 @@ use Rattle.retained.proofs.Outcome as O
 use Rattle.retained.proofs.Outcome.Laws as O′
 use Rattle.answering.proofs.Sending as G
 use Rattle.answering.proofs.Sending.Laws as G′
-use Rattle.boundary.proofs.MantAnswer as N
-use Rattle.boundary.proofs.MantAnswer.Laws as N′
+use Rattle.boundary.proofs.a_node.MantAnswer as N
+use Rattle.boundary.proofs.a_node.MantAnswer.Laws as N′
 use Rattle.answering.proofs.ask_acknowledge as ask
 use Rattle.answering.proofs.ask_acknowledge.Symbol as ask-def
 use Rattle.retained.proofs.freed_record as freed

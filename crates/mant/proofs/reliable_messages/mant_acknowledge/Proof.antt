@@ -43,13 +43,13 @@ use Rattle.deciding.specs.declared.Ask.{Ask}
 use Rattle.deciding.specs.declared.Effect.{Effect}
 use Rattle.retained.specs.declared.Outcome.{Outcome}
 use Rattle.answering.specs.declared.Sending.{Sending}
-use Rattle.boundary.specs.declared.MantAnswer.{MantAnswer}
+use Rattle.boundary.specs.declared.a_node.MantAnswer.{MantAnswer}
 use Rattle.answering.proofs.Tied.{acknowledge-tied}
 use Rattle.retained.proofs.Retained as T
 use Rattle.deciding.proofs.Effect as F
 use Rattle.deciding.proofs.Effect.Laws as F′
 use Rattle.answering.proofs.Sending as G
-use Rattle.boundary.proofs.MantAnswer as N
+use Rattle.boundary.proofs.a_node.MantAnswer as N
 use Rattle.answering.proofs.ask_acknowledge.Symbol as ask-def
 use Rattle.answering.proofs.ask_acknowledge.Met as ask-thm
 use Rattle.answering.proofs.respond.Symbol as respond-def

@@ -1,7 +1,7 @@
 use mathlib.Core.Path.{refl}
 use borrow.Author.Needs.{needs}
-use Rattle.boundary.proofs.step_in_c.Statement.{statement}
-use Rattle.boundary.proofs.step_in_c.Tie as tie
+use Rattle.boundary.proofs.a_walk.step_in_c.Statement.{statement}
+use Rattle.boundary.proofs.a_walk.step_in_c.Tie as tie
 
 enum-known-stepped : tie.Need-enum-known-stepped
 enum-known-stepped c = search needs

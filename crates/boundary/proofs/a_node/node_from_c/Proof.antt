@@ -1,7 +1,7 @@
 use mathlib.Core.Path.{refl}
 use borrow.Author.Needs.{needs}
-use Rattle.boundary.proofs.node_from_c.Statement.{statement}
-use Rattle.boundary.proofs.node_from_c.Tie as tie
+use Rattle.boundary.proofs.a_node.node_from_c.Statement.{statement}
+use Rattle.boundary.proofs.a_node.node_from_c.Tie as tie
 
 choice-from-c-requires : tie.Need-choice-from-c-requires
 choice-from-c-requires c κs = search needs

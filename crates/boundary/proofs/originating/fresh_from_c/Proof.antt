@@ -1,7 +1,7 @@
 use mathlib.Core.Path.{refl}
 use borrow.Author.Needs.{needs}
-use Rattle.boundary.proofs.fresh_from_c.Statement.{statement}
-use Rattle.boundary.proofs.fresh_from_c.Tie as tie
+use Rattle.boundary.proofs.originating.fresh_from_c.Statement.{statement}
+use Rattle.boundary.proofs.originating.fresh_from_c.Tie as tie
 
 destination-from-c-requires : tie.Need-destination-from-c-requires
 destination-from-c-requires c κs = search needs

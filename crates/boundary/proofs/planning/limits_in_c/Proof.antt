@@ -1,7 +1,7 @@
 use mathlib.Core.Path.{refl}
 use borrow.Author.Needs.{needs}
-use Rattle.boundary.proofs.limits_in_c.Statement.{statement}
-use Rattle.boundary.proofs.limits_in_c.Tie as tie
+use Rattle.boundary.proofs.planning.limits_in_c.Statement.{statement}
+use Rattle.boundary.proofs.planning.limits_in_c.Tie as tie
 
 limits-requires : tie.Need-limits-requires
 limits-requires c κs = search needs

@@ -1,7 +1,7 @@
 use mathlib.Core.Path.{refl}
 use borrow.Author.Needs.{needs}
-use Rattle.boundary.proofs.answer_from_c.Statement.{statement}
-use Rattle.boundary.proofs.answer_from_c.Tie as tie
+use Rattle.boundary.proofs.a_node.answer_from_c.Statement.{statement}
+use Rattle.boundary.proofs.a_node.answer_from_c.Tie as tie
 
 sender-from-c-requires : tie.Need-sender-from-c-requires
 sender-from-c-requires c κs = search needs

@@ -1,8 +1,8 @@
 use mathlib.Core.Path.{sym, ap}
 use Rattle.boundary.specs.Boundary.{boundInC}
 use borrow.Author.Needs.{needs}
-use Rattle.boundary.proofs.bound_in_c.Statement.{statement}
-use Rattle.boundary.proofs.bound_in_c.Tie as tie
+use Rattle.boundary.proofs.planning.bound_in_c.Statement.{statement}
+use Rattle.boundary.proofs.planning.bound_in_c.Tie as tie
 
 enum-known-bound : tie.Need-enum-known-bound
 enum-known-bound c = search needs

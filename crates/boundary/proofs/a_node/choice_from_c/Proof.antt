@@ -1,6 +1,6 @@
 use borrow.Author.Tests.{eq-eqb, ne-eqb}
-use Rattle.boundary.proofs.choice_from_c.Statement.{statement}
-use Rattle.boundary.proofs.choice_from_c.Tie as tie
+use Rattle.boundary.proofs.a_node.choice_from_c.Statement.{statement}
+use Rattle.boundary.proofs.a_node.choice_from_c.Tie as tie
 
 returns : tie.Need-returns
 returns c = simp (eq-eqb _ _ (c .if1 .taken))

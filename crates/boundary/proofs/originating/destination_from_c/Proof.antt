@@ -1,7 +1,7 @@
 use mathlib.Core.Path.{refl}
 use borrow.Author.Needs.{needs}
-use Rattle.boundary.proofs.destination_from_c.Statement.{statement}
-use Rattle.boundary.proofs.destination_from_c.Tie as tie
+use Rattle.boundary.proofs.originating.destination_from_c.Statement.{statement}
+use Rattle.boundary.proofs.originating.destination_from_c.Tie as tie
 
 returns : tie.Need-returns
 returns c = rw (c .if1 .taken) refl

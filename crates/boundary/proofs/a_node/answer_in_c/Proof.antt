@@ -1,7 +1,7 @@
 use mathlib.Core.Path.{refl}
 use borrow.Author.Needs.{needs}
-use Rattle.boundary.proofs.answer_in_c.Statement.{statement}
-use Rattle.boundary.proofs.answer_in_c.Tie as tie
+use Rattle.boundary.proofs.a_node.answer_in_c.Statement.{statement}
+use Rattle.boundary.proofs.a_node.answer_in_c.Tie as tie
 
 has-sender-requires : tie.Need-has-sender-requires
 has-sender-requires c κs = search needs
