@@ -101,6 +101,13 @@ changed-over front mid output before after place end f same lf lm eb ea =
     ∙ rw (t, d, take-at mid rest (end - place) n, drop-at mid rest (end - place) n)
     (sym (append-assoc front (f mid) rest) ∙ ap (λ (l : List ℕ). front ++ f mid ++ l) behind)
 
+-- what lies in an output once the hash was put: there is room to encipher from the place behind the number on, and what that gives is the sealed PDU
+pub record Laid (bytes output : List ℕ) (header : Header) (number place end : ℕ) (before : List ℕ) : Type 0 where
+  pub room : (place ≤ end) × (end ≤ length before)
+  pub sealed : (key nonce after : List ℕ) → nonce ≡ nonceOf (header .source) number
+      → after ≡ take place before ++ (counterMode key nonce (take (end - place) (drop place before)) ++ drop (end - place) (drop place before))
+      → (end ≡ sealedLength bytes) × (after ≡ over (sealedPdu key number bytes) output)
+
 module _ (bytes output : List ℕ) (header : Header) (small : AllBytes bytes) (read : readOf bytes ≡ Pdu header) (short : header .«payload_length» ≤ 4088)
     (room : pduLength header + 7 ≤ length output) where
   abbrev path : List ℕ
@@ -191,7 +198,7 @@ module _ (bytes output : List ℕ) (header : Header) (small : AllBytes bytes) (r
     place-4 : p4 ≡ pduLength header + 7
     place-4 = omega (arith, b4 .ends, length-append (head ++ digits ++ plain) hash, b3 .ends, place-3, hash-long)
 
-    pub encipher-room : (p2 ≤ p4) × (p4 ≤ length o4)
+    encipher-room : (p2 ≤ p4) × (p4 ≤ length o4)
     encipher-room =
         let all = head ++ digits ++ plain ++ hash in
         let same : length o4 ≡ length output = ap length (b4 .is) ∙ length-over all output (omega (arith, b4 .ends, place-4)) in
@@ -210,21 +217,24 @@ module _ (bytes output : List ℕ) (header : Header) (small : AllBytes bytes) (r
         ap hashedHeader (b3 .is ∙ split) ∙ hashed-header (sealedHeader header) tail (within (sealedHeader header) sealed-within .protocol) in
         eh ∙ ap₂ (λ (l : List ℕ) (h : Header). take 4 (sha1 (l ++ numberBytes number ++ payloadIn h bytes))) front (sym is)
 
-    pub sealed-put : (key nonce o5 : List ℕ) → nonce ≡ nonceOf (header .source) number
-        → o5 ≡ take p2 o4 ++ (counterMode key nonce (take (p4 - p2) (drop p2 o4)) ++ drop (p4 - p2) (drop p2 o4))
-        → (p4 ≡ sealedLength bytes) × (o5 ≡ over (sealedPdu key number bytes) output)
+    pub laid : Laid bytes output header number p2 p4 o4
     unfolding encode sealedPayload sealedHeader sealedPdu
-    sealed-put key nonce o5 en e5 =
+    laid =
         let mid = plain ++ hash in
         let together : head ++ digits ++ plain ++ hash ≡ head ++ digits ++ mid = append-assoc (head ++ digits) plain hash in
         let before : o4 ≡ over (head ++ digits ++ mid) output = b4 .is ∙ ap (λ (l : List ℕ). over l output) together in
         let long : length (head ++ digits ++ mid) ≡ p4 = ap length (sym together) ∙ b4 .ends in
-        let laid = changed-over (head ++ digits) mid output o4 o5 p2 p4 (counterMode key nonce) (length-enciphered key nonce mid) (b2 .ends) long before e5 in
-        let whole : head ++ digits ++ counterMode key nonce mid
-        ≡ head ++ (numberBytes number ++ counterMode key (nonceOf (header .source) number) (payloadIn header bytes
-        ++ hashBytes (headerBytes (sealedHeader header)) number (payloadIn header bytes))) =
-        append-assoc head digits (counterMode key nonce mid) ∙ rw (ed, en, hash-same, ep) in
-        let sealed : over (encode (sealedHeader header) (pathIn header bytes) (sealedPayload key (sealedHeader header) number (payloadIn header bytes))) output
-        ≡ over (sealedPdu key number bytes) output =
-        ap (λ (h : Header). over (encode (sealedHeader h) (pathIn h bytes) (sealedPayload key (sealedHeader h) number (payloadIn h bytes))) output) is in
-        (place-4 ∙ ap (λ (h : Header). pduLength h + 7) is, laid ∙ ap (λ (l : List ℕ). over l output) whole ∙ sealed)
+        record {
+          room = encipher-room;
+          sealed = λ key nonce o5 en e5.
+              let put = changed-over (head ++ digits) mid output o4 o5 p2 p4 (counterMode key nonce) (length-enciphered key nonce mid) (b2 .ends) long
+              before e5 in
+              let whole : head ++ digits ++ counterMode key nonce mid
+              ≡ head ++ (numberBytes number ++ counterMode key (nonceOf (header .source) number) (payloadIn header bytes
+              ++ hashBytes (headerBytes (sealedHeader header)) number (payloadIn header bytes))) =
+              append-assoc head digits (counterMode key nonce mid) ∙ rw (ed, en, hash-same, ep) in
+              let sealed : over (encode (sealedHeader header) (pathIn header bytes) (sealedPayload key (sealedHeader header) number (payloadIn header bytes)))
+              output ≡ over (sealedPdu key number bytes) output =
+              ap (λ (h : Header). over (encode (sealedHeader h) (pathIn h bytes) (sealedPayload key (sealedHeader h) number (payloadIn h bytes))) output) is in
+              (place-4 ∙ ap (λ (h : Header). pduLength h + 7) is, put ∙ ap (λ (l : List ℕ). over l output) whole ∙ sealed);
+        }
