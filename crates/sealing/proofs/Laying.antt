@@ -1,12 +1,11 @@
 -- The sealed PDU, put part by part.
-use Prim.Native.Nat.{ℕ, _+_, _-_, _*_, _/_, _%_, _≤_, _<_}
+use Prim.Native.Nat.{ℕ, _+_, _-_, _*_, _/_, _%_, _≤_}
 use native.Mathlib.Omega.{arith}
 use native.Mathlib.Nat.{mod-eq-of-lt}
-use mathlib.Core.Bool.{cond}
 use mathlib.Core.List.{List, [], _∷_, _++_, append-assoc}
 use mathlib.Core.Path.{_≡_, refl, ap, ap₂, sym, _∙_}
 use lib.Dec.{eqb}
-use lib.ListN.{length, take, drop, length-append, length-drop}
+use lib.ListN.{length, take, drop, length-append}
 use lib.Seq.{take-at, drop-at, take-add, take-take, length-take-le, take-append-le}
 use borrow.Rule.Slice.PartMut.{putMid}
 use Rattle.octets.specs.Numbers.{flag}
@@ -27,7 +26,7 @@ use Rattle.pdu.specs.Reading.{readOf}
 use Rattle.pdu.specs.Parts.{pathIn, payloadIn}
 use Rattle.pdu.proofs.Inversion.{shown}
 use Rattle.pdu.proofs.Showing.{destination-small}
-use Rattle.writing.specs.Writing.{headerBytes, pathBytes, encode, fieldFault, headerWritten, headerOutput, WellFormed}
+use Rattle.writing.specs.Writing.{headerBytes, pathBytes, encode, fieldFault, headerWritten, headerOutput}
 use Rattle.writing.proofs.Encoding.{header-begins, length-header, length-pathIn}
 use Rattle.writing.proofs.Within.{within, all-within, shown-within}
 use Rattle.writing.proofs.Same.{written-same, shown-well-formed}
