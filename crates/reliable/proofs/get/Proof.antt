@@ -13,7 +13,7 @@ use base.Logic.{SProp, ent}
 use base.Fml.{Lft, GName, Share, Fml, ftrue, fat, flft}
 use prog.Memory.{Memory}
 use prog.Routine.{Routine}
-use prog.Wp.{Heap, Calls, Loops, WpFn, Tables}
+use prog.Wp.{Heap, Calls, Loops, WpFn}
 use ghost.Atoms.{Atoms}
 use contract.Monad.{Fun}
 use contract.Running.{givenOf, tables, tablesOf}
@@ -21,7 +21,6 @@ use types.Kit.{Given, ‵, _⊛_, ⋆, _$_, _∵_, !, qed, by, move, keep, use1,
 use types.Part.{whole, sub, look-in}
 use types.Run.{look, look-raw, init, forget, stop, hop, fld, from, load, lit, of-opd, bin, assigns, returns, enter, alloc1, alloc0, params1, pass1}
 use types.Run.{pass0, free1, free0}
-use sound.WpLaws.{WpFn-mono}
 use denote.RattleType.{owns}
 use denote.Laws.{Is, shows}
 use denote.Plain.{uint-vals, uint-tells}
@@ -33,15 +32,14 @@ use denote.Index.{place-is, elem-out, elem-back, looks-slice, shuts-slice}
 use denote.Steps.{nothing}
 use denote.Struct.Laws as LL
 use denote.Triple.Entry.{Vals, onEntry}
-use denote.Triple.Spec.{Meets, tripleOf}
-use denote.Triple.Table.{entered}
-use denote.Triple.Walked.{says, needs, Stays, stay-none-slice, stay-none, walkOf, goes-none-slice, goes-none, Walks, ends-at, walked, walk-meets}
+use denote.Triple.Walked.{says, needs, Stays, stay-none-slice, stay-none, walkOf, goes-none-slice, goes-none, Walks, ends-at, walked}
 use denote.Exit.{yes}
 use borrow.Author.Needs.{scaled-fits}
 use Rattle.retained.specs.Records.{freedRecord as none}
 use Rattle.retained.specs.declared.Retained.{Retained}
 use Rattle.retained.proofs.Retained as T
 use Rattle.retained.proofs.Retained.Laws as T′
+use Rattle.reliable.proofs.Meeting.{meets}
 use Rattle.reliable.proofs.get.Key.{name as #reliable·get}
 use Rattle.reliable.proofs.get as get
 use Rattle.reliable.proofs.get.Statement as stated
@@ -120,18 +118,12 @@ module _ {M : Type 1} (𝓤 : URA M) (H : Heap 𝓤) (A : Atoms 𝓤) (W : Given
       (λ κs qs bounds a g are. needs 𝓤 _ _
       (walk 𝓤 H A W mem run (κs .0) (qs .0) (a .0 .ptr .0) (a .0 .ptr .1) (a .0 .name) (a .0 .now) (a .1 .0) C Λ (are .0 .0 .1) (are .1 .0 .1)))
 
-get-meets : {M : Type 1} (𝓤 : URA M) (H : Heap 𝓤) (A : Atoms 𝓤) → Given 𝓤 H A → (mem : Memory → SProp 𝓤) (run : Routine → Fun 𝓤) (𝓣 : Tables 𝓤 H)
-    → Meets 𝓤 H A get.signature (WpFn 𝓤 H (𝓣 .C) (𝓣 .Λ) code.function) (get.spec 𝓤 H A mem run)
-get-meets 𝓤 H A W mem run 𝓣 =
-    walk-meets 𝓤 H A get.ended stayed W (
-      goes-none-slice 𝓤 H A W 1 (0 ∷ []) tt (plain (λ _. T.the-row)) yes,
-      (goes-none 𝓤 H A W 1 (λ _. usize) yes (λ κs x f. refl), tt),
-    ) (get.clauses 𝓤 H A mem run)
-    (WpFn 𝓤 H (𝓣 .C) (𝓣 .Λ) code.function) (WpFn-mono 𝓤 H (W .laws) 𝓣 code.function) (get-walks 𝓤 H A W mem run (𝓣 .C) (𝓣 .Λ))
-
 pub get-spec : {M : Type 1} → stated.statement M
 unfolding code.routine tablesOf
 get-spec 𝓤 H 𝓜 𝓖 𝓡 =
-    entered 𝓤 H (tripleOf 𝓤 H (𝓖 .A) get.signature (get.spec 𝓤 H (𝓖 .A) (𝓜 .mem) (𝓡 .run)))
-    (tables 𝓤 H 𝓜 𝓡 code.env .C) (tables 𝓤 H 𝓜 𝓡 code.env .Λ) #reliable·get code.function (code.unfolded 𝓤 H 𝓜 𝓡)
-    (get-meets 𝓤 H (𝓖 .A) (givenOf 𝓤 H 𝓜 𝓖) (𝓜 .mem) (𝓡 .run) (tablesOf 𝓤 H 𝓜 (tables 𝓤 H 𝓜 𝓡 code.env)))
+    let W = givenOf 𝓤 H 𝓜 𝓖 in
+    meets 𝓤 H 𝓜 𝓖 𝓡 get.ended stayed (get.clauses 𝓤 H (𝓖 .A) (𝓜 .mem) (𝓡 .run)) code.env #reliable·get code.function (code.unfolded 𝓤 H 𝓜 𝓡) (
+      goes-none-slice 𝓤 H (𝓖 .A) W 1 (0 ∷ []) tt (plain (λ _. T.the-row)) yes,
+      (goes-none 𝓤 H (𝓖 .A) W 1 (λ _. usize) yes (λ κs x f. refl), tt),
+    )
+    (get-walks 𝓤 H (𝓖 .A) W (𝓜 .mem) (𝓡 .run) (tables 𝓤 H 𝓜 𝓡 code.env .C) (tables 𝓤 H 𝓜 𝓡 code.env .Λ))

@@ -15,7 +15,7 @@ use base.Logic.{SProp, ent, emp, via, fst∗}
 use base.Fml.{Lft, GName, Share, Fml, ftrue, fat, flft, fobs, fbor}
 use prog.Memory.{Memory}
 use prog.Routine.{Routine}
-use prog.Wp.{Heap, Env, spotOf, Calls, Loops, Wp, WpFn, Tables, afterSeq, atReturn}
+use prog.Wp.{Heap, Env, spotOf, Calls, Loops, Wp, WpFn, afterSeq, atReturn}
 use ghost.Atoms.{Atoms}
 use contract.Monad.{Fun}
 use contract.Running.{givenOf, tables, tablesOf}
@@ -25,7 +25,6 @@ use types.Kit.{feqI, suffices, done, frame as framed}
 use types.Part.{whole, sub, look-in}
 use types.Run.{look, init, store-raw, forget, stop, hop, fld, from, load, lit, unit-lit, of-opd, bin, assigns, assigns-last, first, branches, skips}
 use types.Run.{exec, returns}
-use sound.WpLaws.{WpFn-mono}
 use denote.RattleType.{owns}
 use denote.Laws.{Is, shows}
 use denote.Plain.{uint-vals, uint-tells}
@@ -39,15 +38,14 @@ use denote.Index.{place-is, elem-out, elem-put, opens-slice, closes-slice}
 use denote.Steps.{nothing}
 use denote.Struct.Laws as LL
 use denote.Triple.Entry.{Vals, onEntry}
-use denote.Triple.Spec.{Meets, tripleOf}
-use denote.Triple.Table.{entered}
-use denote.Triple.Walked.{says, Stays, stay-slice, stay-dropped, walkOf, goes-slice, Walks, ends-at, walked, walk-meets}
+use denote.Triple.Walked.{says, Stays, stay-slice, stay-dropped, walkOf, goes-slice, Walks, ends-at, walked}
 use denote.Exit.{yes}
 use borrow.Author.Needs.{scaled-fits}
 use Rattle.retained.specs.Records.{freedRecord as none}
 use Rattle.retained.specs.declared.Retained.{Retained}
 use Rattle.retained.proofs.Retained as T
 use Rattle.retained.proofs.Retained.Laws as T′
+use Rattle.reliable.proofs.Meeting.{meets}
 use Rattle.reliable.proofs.Locals.{Cell, bare, has, frame, Blocks, locals, begins, freed}
 use Rattle.reliable.proofs.Values.{tval, IsT, typed-t, typed-word, typed-slice, own-t}
 use Rattle.reliable.proofs.lay.Key.{name as #reliable·lay}
@@ -163,17 +161,11 @@ module _ {M : Type 1} (𝓤 : URA M) (H : Heap 𝓤) (A : Atoms 𝓤) (W : Given
       (walk 𝓤 H A W mem run (κs .0) (qs .0) (a .0 .ptr .0) (a .0 .ptr .1) (a .0 .name) (a .0 .now) (a .1 .0) (a .1 .1 .0) C Λ (are .0 .0 .1)
       (are .1 .0 .1) (are .1 .1 .0)))
 
-lay-meets : {M : Type 1} (𝓤 : URA M) (H : Heap 𝓤) (A : Atoms 𝓤) → Given 𝓤 H A → (mem : Memory → SProp 𝓤) (run : Routine → Fun 𝓤) (𝓣 : Tables 𝓤 H)
-    → Meets 𝓤 H A lay.signature (WpFn 𝓤 H (𝓣 .C) (𝓣 .Λ) code.function) (lay.spec 𝓤 H A mem run)
-lay-meets 𝓤 H A W mem run 𝓣 =
-    let quiet = W .laws .⇛-intro (emp 𝓤) in
-    walk-meets 𝓤 H A lay.ended stayed W (goes-slice 𝓤 H A W 1 0 tt (plain (λ _. T.the-row)), (λ κs x f vs g. quiet, (λ κs x f vs g. quiet, tt)))
-    (lay.clauses 𝓤 H A mem run)
-    (WpFn 𝓤 H (𝓣 .C) (𝓣 .Λ) code.function) (WpFn-mono 𝓤 H (W .laws) 𝓣 code.function) (lay-walks 𝓤 H A W mem run (𝓣 .C) (𝓣 .Λ))
-
 pub lay-spec : {M : Type 1} → stated.statement M
 unfolding code.routine tablesOf
 lay-spec 𝓤 H 𝓜 𝓖 𝓡 =
-    entered 𝓤 H (tripleOf 𝓤 H (𝓖 .A) lay.signature (lay.spec 𝓤 H (𝓖 .A) (𝓜 .mem) (𝓡 .run)))
-    (tables 𝓤 H 𝓜 𝓡 code.env .C) (tables 𝓤 H 𝓜 𝓡 code.env .Λ) #reliable·lay code.function (code.unfolded 𝓤 H 𝓜 𝓡)
-    (lay-meets 𝓤 H (𝓖 .A) (givenOf 𝓤 H 𝓜 𝓖) (𝓜 .mem) (𝓡 .run) (tablesOf 𝓤 H 𝓜 (tables 𝓤 H 𝓜 𝓡 code.env)))
+    let W = givenOf 𝓤 H 𝓜 𝓖 in
+    let quiet = W .laws .⇛-intro (emp 𝓤) in
+    meets 𝓤 H 𝓜 𝓖 𝓡 lay.ended stayed (lay.clauses 𝓤 H (𝓖 .A) (𝓜 .mem) (𝓡 .run)) code.env #reliable·lay code.function (code.unfolded 𝓤 H 𝓜 𝓡)
+    (goes-slice 𝓤 H (𝓖 .A) W 1 0 tt (plain (λ _. T.the-row)), (λ κs x f vs g. quiet, (λ κs x f vs g. quiet, tt)))
+    (lay-walks 𝓤 H (𝓖 .A) W (𝓜 .mem) (𝓡 .run) (tables 𝓤 H 𝓜 𝓡 code.env .C) (tables 𝓤 H 𝓜 𝓡 code.env .Λ))

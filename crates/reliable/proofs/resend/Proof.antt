@@ -19,7 +19,7 @@ use prog.Wp.{Heap, Env, spotOf, Wp, WpFn, Tables, afterSeq, atReturn}
 use ghost.Atoms.{Atoms, sem}
 use contract.Monad.{Fun}
 use contract.Running.{givenOf, tables, tablesOf}
-use sound.WpLaws.{FmC, fmOf, WpFn-mono}
+use sound.WpLaws.{FmC, fmOf}
 use types.Kit as Kit
 use types.Kit.{Given, Item, Sq, runs, anyQ, atRet, ‵, raw, _⊛_, ⋆, _$_, _∵_, !, qed, by, move, drop, use1, use2, split, join, rewrite, fsplit, fjoin}
 use types.Kit.{feqI, suffices, done, frame as framed}
@@ -40,10 +40,10 @@ use denote.Struct.Laws as LL
 use denote.Triple.Statement.{Contract, Triple}
 use denote.Triple.Call.{calls-at}
 use denote.Triple.Entry.{Vals, onEntry}
-use denote.Triple.Spec.{Meets, tripleOf}
-use denote.Triple.Table.{entered, cited}
+use denote.Triple.Spec.{tripleOf}
+use denote.Triple.Table.{cited}
 use denote.Triple.Clauses.{lasts}
-use denote.Triple.Walked.{says, Stays, stay-slice, stay-dropped, gave-slice, walkOf, goes-slice, goes-gave-slice, Walks, ends-at, walked, walk-meets}
+use denote.Triple.Walked.{says, Stays, stay-slice, stay-dropped, gave-slice, walkOf, goes-slice, goes-gave-slice, Walks, ends-at, walked}
 use denote.Exit.{yes}
 use borrow.Author.Needs.{scaled-fits}
 use Rattle.retained.specs.Records.{freedRecord as none}
@@ -57,6 +57,7 @@ use Rattle.deciding.proofs.Effect.Laws as F′
 use Rattle.deciding.proofs.send as send
 use Rattle.deciding.proofs.send.Symbol as send-def
 use Rattle.deciding.proofs.send.Met as send-thm
+use Rattle.reliable.proofs.Meeting.{meets}
 use Rattle.reliable.proofs.Calls.{left}
 use Rattle.reliable.proofs.Locals.{Cell, bare, has, frame, Blocks, locals, begins, freed}
 use Rattle.reliable.proofs.Arguments.{arg, again}
@@ -272,19 +273,14 @@ module _ {M : Type 1} (𝓤 : URA M) (H : Heap 𝓤) (A : Atoms 𝓤) (W : Given
       (a .1 .1 .0 .ptr .0) (a .1 .1 .0 .ptr .1) (a .1 .1 .0 .name) (a .1 .1 .0 .now) (a .1 .0) 𝓣 known
       (are .0 .0 .1) (are .1 .1 .0 .0 .1) (are .1 .0)))
 
-  resend-meets : Meets 𝓤 H A resend.signature (WpFn 𝓤 H (𝓣 .C) (𝓣 .Λ) code.function) (resend.spec 𝓤 H A mem run)
-  resend-meets =
-      let quiet = W .laws .⇛-intro (emp 𝓤) in
-      walk-meets 𝓤 H A resend.ended stayed W (
-        goes-slice 𝓤 H A W 2 0 tt (plain (λ _. T.the-row)),
-        (λ κs x f vs g. quiet, (goes-gave-slice 𝓤 H A W 2 1 tt (plain (λ _. u8)), tt)),
-      ) (resend.clauses 𝓤 H A mem run)
-      (WpFn 𝓤 H (𝓣 .C) (𝓣 .Λ) code.function) (WpFn-mono 𝓤 H (W .laws) 𝓣 code.function) resend-walks
-
 pub resend-spec : {M : Type 1} → stated.statement M
 unfolding code.routine tablesOf
 resend-spec 𝓤 H 𝓜 𝓖 𝓡 =
-    entered 𝓤 H (tripleOf 𝓤 H (𝓖 .A) resend.signature (resend.spec 𝓤 H (𝓖 .A) (𝓜 .mem) (𝓡 .run)))
-    (tables 𝓤 H 𝓜 𝓡 code.env .C) (tables 𝓤 H 𝓜 𝓡 code.env .Λ) #resend code.function (code.unfolded 𝓤 H 𝓜 𝓡)
-    (resend-meets 𝓤 H (𝓖 .A) (givenOf 𝓤 H 𝓜 𝓖) (𝓜 .mem) (𝓡 .run) (tablesOf 𝓤 H 𝓜 (tables 𝓤 H 𝓜 𝓡 code.env))
-    (cited 𝓤 H (Send 𝓤 H (𝓖 .A) (𝓜 .mem) (𝓡 .run)) 𝓜 𝓡 code.env send-def.name send-def.routine code.calls-deciding·send (send-thm.met 𝓤 H 𝓜 𝓖 𝓡)))
+    let W = givenOf 𝓤 H 𝓜 𝓖 in
+    let quiet = W .laws .⇛-intro (emp 𝓤) in
+    meets 𝓤 H 𝓜 𝓖 𝓡 resend.ended stayed (resend.clauses 𝓤 H (𝓖 .A) (𝓜 .mem) (𝓡 .run)) code.env #resend code.function (code.unfolded 𝓤 H 𝓜 𝓡) (
+      goes-slice 𝓤 H (𝓖 .A) W 2 0 tt (plain (λ _. T.the-row)),
+      (λ κs x f vs g. quiet, (goes-gave-slice 𝓤 H (𝓖 .A) W 2 1 tt (plain (λ _. u8)), tt)),
+    )
+    (resend-walks 𝓤 H (𝓖 .A) W (𝓜 .mem) (𝓡 .run) (tablesOf 𝓤 H 𝓜 (tables 𝓤 H 𝓜 𝓡 code.env))
+    (cited 𝓤 H _ 𝓜 𝓡 code.env send-def.name send-def.routine code.calls-deciding·send (send-thm.met 𝓤 H 𝓜 𝓖 𝓡)))

@@ -24,7 +24,7 @@ use ghost.Atoms.{Atoms, sem}
 use contract.Monad.{Fun, fact}
 use contract.Running.{givenOf, tables, tablesOf}
 use sound.Loop.{loop-rule}
-use sound.WpLaws.{FmC, fmOf, WpFn-mono}
+use sound.WpLaws.{FmC, fmOf}
 use types.Kit.{Given, Item, Sq, runs, ‵, raw, _⊛_, ⋆, anyQ, atRet, _$_, _∵_, !, qed, by, move, use1, use2, drop, split, join, rewrite, fsplit, fjoin}
 use types.Kit.{suffices, done, frame as framed}
 use types.Part.{whole, sub, look-in}
@@ -38,10 +38,10 @@ use denote.Triple.Statement.{Contract, Triple}
 use denote.Triple.Call.{calls-at}
 use denote.Triple.Entry.{Vals, onEntry}
 use denote.Steps.{nothing}
-use denote.Triple.Spec.{tripleOf, Meets}
-use denote.Triple.Table.{entered, cited}
+use denote.Triple.Spec.{tripleOf}
+use denote.Triple.Table.{cited}
 use denote.Triple.Clauses.{ensured, lasts}
-use denote.Triple.Walked.{says, Stays, stay-dropped, walkOf, Walks, ends-at, walked, walk-meets}
+use denote.Triple.Walked.{says, Stays, stay-dropped, walkOf, Walks, ends-at, walked}
 use Rattle.retained.specs.Records.{freedRecord as none}
 use Rattle.retained.specs.Searching.{lookOf as stepOf, scanOf}
 use Rattle.retained.specs.declared.Retained.{Retained}
@@ -50,6 +50,7 @@ use Rattle.retained.proofs.Retained as T
 use Rattle.retained.proofs.Retained.Laws as T′
 use Rattle.retained.proofs.Seek as S
 use Rattle.retained.proofs.Seek.Laws as S′
+use Rattle.reliable.proofs.Meeting.{meets}
 use Rattle.reliable.proofs.get as get
 use Rattle.reliable.proofs.get.Symbol as get-def
 use Rattle.reliable.proofs.get.Met as get-thm
@@ -282,18 +283,14 @@ module _ {M : Type 1} (𝓤 : URA M) (H : Heap 𝓤) (A : Atoms 𝓤) (W : Given
       (λ κs qs bounds a gh are. via 𝓤 _ (fst∗ 𝓤 _ (emp 𝓤))
       (walk 𝓤 H A W mem run (κs .0) (qs .0) (a .0 .ptr .0) (a .0 .ptr .1) (a .0 .name) (a .0 .now) (a .1 .0) 𝓣 known (are .0 .0 .1) (are .1 .0)))
 
-  scan-meets : Meets 𝓤 H A scan.signature (WpFn 𝓤 H (𝓣 .C) (𝓣 .Λ) code.function) (scan.spec 𝓤 H A mem run)
-  scan-meets =
-      let quiet = W .laws .⇛-intro (emp 𝓤) in
-      walk-meets 𝓤 H A scan.ended stayed W (λ κs x f vs g. quiet, (λ κs x f vs g. quiet, tt)) (scan.clauses 𝓤 H A mem run)
-      (WpFn 𝓤 H (𝓣 .C) (𝓣 .Λ) code.function) (WpFn-mono 𝓤 H (W .laws) 𝓣 code.function) scan-walks
-
 pub scan-spec : {M : Type 1} → stated.statement M
 unfolding code.routine tablesOf
 scan-spec 𝓤 H 𝓜 𝓖 𝓡 =
-    entered 𝓤 H (tripleOf 𝓤 H (𝓖 .A) scan.signature (scan.spec 𝓤 H (𝓖 .A) (𝓜 .mem) (𝓡 .run)))
-    (tables 𝓤 H 𝓜 𝓡 code.env .C) (tables 𝓤 H 𝓜 𝓡 code.env .Λ) #reliable·scan code.function (code.unfolded 𝓤 H 𝓜 𝓡)
-    (scan-meets 𝓤 H (𝓖 .A) (givenOf 𝓤 H 𝓜 𝓖) (𝓜 .mem) (𝓡 .run) (tablesOf 𝓤 H 𝓜 (tables 𝓤 H 𝓜 𝓡 code.env)) (record {
-      gets = cited 𝓤 H (Get 𝓤 H (𝓖 .A) (𝓜 .mem) (𝓡 .run)) 𝓜 𝓡 code.env get-def.name get-def.routine code.calls-reliable·get (get-thm.met 𝓤 H 𝓜 𝓖 𝓡);
-      steps = cited 𝓤 H (Step 𝓤 H (𝓖 .A) (𝓜 .mem) (𝓡 .run)) 𝓜 𝓡 code.env step-def.name step-def.routine code.calls-retained·look (step-thm.met 𝓤 H 𝓜 𝓖 𝓡);
+    let W = givenOf 𝓤 H 𝓜 𝓖 in
+    let quiet = W .laws .⇛-intro (emp 𝓤) in
+    meets 𝓤 H 𝓜 𝓖 𝓡 scan.ended stayed (scan.clauses 𝓤 H (𝓖 .A) (𝓜 .mem) (𝓡 .run)) code.env #reliable·scan code.function (code.unfolded 𝓤 H 𝓜 𝓡)
+    (λ κs x f vs g. quiet, (λ κs x f vs g. quiet, tt))
+    (scan-walks 𝓤 H (𝓖 .A) W (𝓜 .mem) (𝓡 .run) (tablesOf 𝓤 H 𝓜 (tables 𝓤 H 𝓜 𝓡 code.env)) (record {
+      gets = cited 𝓤 H _ 𝓜 𝓡 code.env get-def.name get-def.routine code.calls-reliable·get (get-thm.met 𝓤 H 𝓜 𝓖 𝓡);
+      steps = cited 𝓤 H _ 𝓜 𝓡 code.env step-def.name step-def.routine code.calls-retained·look (step-thm.met 𝓤 H 𝓜 𝓖 𝓡);
     }))

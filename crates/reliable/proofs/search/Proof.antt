@@ -15,7 +15,7 @@ use prog.Wp.{Heap, Env, WpFn, Tables}
 use ghost.Atoms.{Atoms, sem}
 use contract.Monad.{Fun, fact}
 use contract.Running.{givenOf, tables, tablesOf}
-use sound.WpLaws.{FmC, fmOf, WpFn-mono}
+use sound.WpLaws.{FmC, fmOf}
 use types.Kit.{Given, Item, Sq, runs, ‵, raw, _⊛_, ⋆, atRet, _$_, _∵_, !, qed, by, move, use1, use2, drop, split, join}
 use types.Kit.{fsplit, fjoin, suffices, done, frame as framed}
 use types.Part.{whole, sub, look-in}
@@ -29,10 +29,10 @@ use denote.Triple.Statement.{Contract, Triple}
 use denote.Triple.Call.{calls-at}
 use denote.Triple.Entry.{Vals, onEntry}
 use denote.Steps.{nothing}
-use denote.Triple.Spec.{tripleOf, Meets}
-use denote.Triple.Table.{entered, cited}
+use denote.Triple.Spec.{tripleOf}
+use denote.Triple.Table.{cited}
 use denote.Triple.Clauses.{ensured, lasts}
-use denote.Triple.Walked.{says, Stays, stay-dropped, walkOf, Walks, ends-at, walked, walk-meets}
+use denote.Triple.Walked.{says, Stays, stay-dropped, walkOf, Walks, ends-at, walked}
 use Rattle.retained.specs.Searching.{begun, scanOf}
 use Rattle.retained.specs.declared.Retained.{Retained}
 use Rattle.retained.specs.declared.Seek.{Seek}
@@ -56,6 +56,7 @@ use Rattle.deciding.proofs.decide.Met as decide-thm
 use Rattle.reliable.proofs.scan as scan
 use Rattle.reliable.proofs.scan.Symbol as scan-def
 use Rattle.reliable.proofs.scan.Met as scan-thm
+use Rattle.reliable.proofs.Meeting.{meets}
 use Rattle.reliable.proofs.Calls.{told}
 use Rattle.reliable.proofs.Locals.{Cell, bare, has, frame, Blocks, locals, begins, freed}
 use Rattle.reliable.proofs.Arguments.{arg}
@@ -218,21 +219,15 @@ module _ {M : Type 1} (𝓤 : URA M) (H : Heap 𝓤) (A : Atoms 𝓤) (W : Given
       (walk 𝓤 H A W mem run (κs .0) (qs .0) (a .0 .ptr .0) (a .0 .ptr .1) (a .0 .name) (a .0 .now)
       (a .1 .0) 𝓣 known (are .0 .0 .1) (are .1 .0)))
 
-  search-meets : Meets 𝓤 H A search.signature (WpFn 𝓤 H (𝓣 .C) (𝓣 .Λ) code.function) (search.spec 𝓤 H A mem run)
-  search-meets =
-      let quiet = W .laws .⇛-intro (emp 𝓤) in
-      walk-meets 𝓤 H A search.ended stayed W (λ κs x f vs g. quiet, (λ κs x f vs g. quiet, tt)) (search.clauses 𝓤 H A mem run)
-      (WpFn 𝓤 H (𝓣 .C) (𝓣 .Λ) code.function) (WpFn-mono 𝓤 H (W .laws) 𝓣 code.function) search-walks
-
 pub search-spec : {M : Type 1} → stated.statement M
 unfolding code.routine tablesOf
 search-spec 𝓤 H 𝓜 𝓖 𝓡 =
-    entered 𝓤 H (tripleOf 𝓤 H (𝓖 .A) search.signature (search.spec 𝓤 H (𝓖 .A) (𝓜 .mem) (𝓡 .run)))
-    (tables 𝓤 H 𝓜 𝓡 code.env .C) (tables 𝓤 H 𝓜 𝓡 code.env .Λ) #search code.function (code.unfolded 𝓤 H 𝓜 𝓡)
-    (search-meets 𝓤 H (𝓖 .A) (givenOf 𝓤 H 𝓜 𝓖) (𝓜 .mem) (𝓡 .run) (tablesOf 𝓤 H 𝓜 (tables 𝓤 H 𝓜 𝓡 code.env)) (record {
-      begin = cited 𝓤 H (Begin 𝓤 H (𝓖 .A) (𝓜 .mem) (𝓡 .run)) 𝓜 𝓡 code.env begin-def.name begin-def.routine code.calls-deciding·begin-for
-          (begin-thm.met 𝓤 H 𝓜 𝓖 𝓡);
-      scans = cited 𝓤 H (Scan 𝓤 H (𝓖 .A) (𝓜 .mem) (𝓡 .run)) 𝓜 𝓡 code.env scan-def.name scan-def.routine code.calls-reliable·scan (scan-thm.met 𝓤 H 𝓜 𝓖 𝓡);
-      decides = cited 𝓤 H (Decide 𝓤 H (𝓖 .A) (𝓜 .mem) (𝓡 .run)) 𝓜 𝓡 code.env decide-def.name decide-def.routine code.calls-deciding·decide
-          (decide-thm.met 𝓤 H 𝓜 𝓖 𝓡);
+    let W = givenOf 𝓤 H 𝓜 𝓖 in
+    let quiet = W .laws .⇛-intro (emp 𝓤) in
+    meets 𝓤 H 𝓜 𝓖 𝓡 search.ended stayed (search.clauses 𝓤 H (𝓖 .A) (𝓜 .mem) (𝓡 .run)) code.env #search code.function (code.unfolded 𝓤 H 𝓜 𝓡)
+    (λ κs x f vs g. quiet, (λ κs x f vs g. quiet, tt))
+    (search-walks 𝓤 H (𝓖 .A) W (𝓜 .mem) (𝓡 .run) (tablesOf 𝓤 H 𝓜 (tables 𝓤 H 𝓜 𝓡 code.env)) (record {
+      begin = cited 𝓤 H _ 𝓜 𝓡 code.env begin-def.name begin-def.routine code.calls-deciding·begin-for (begin-thm.met 𝓤 H 𝓜 𝓖 𝓡);
+      scans = cited 𝓤 H _ 𝓜 𝓡 code.env scan-def.name scan-def.routine code.calls-reliable·scan (scan-thm.met 𝓤 H 𝓜 𝓖 𝓡);
+      decides = cited 𝓤 H _ 𝓜 𝓡 code.env decide-def.name decide-def.routine code.calls-deciding·decide (decide-thm.met 𝓤 H 𝓜 𝓖 𝓡);
     }))

@@ -15,7 +15,7 @@ use prog.Wp.{Heap, Env, WpFn, Tables}
 use ghost.Atoms.{Atoms}
 use contract.Monad.{Fun}
 use contract.Running.{givenOf, tables, tablesOf}
-use sound.WpLaws.{FmC, fmOf, WpFn-mono}
+use sound.WpLaws.{FmC, fmOf}
 use types.Kit.{Given, Item, Goal, Sq, runs, ‵, _⊛_, ⋆, atRet, _$_, _∵_, !, qed, by, move, use1, drop, split, join, fsplit, fjoin, suffices, done}
 use types.Kit.{frame as framed}
 use types.Part.{whole, sub, look-in}
@@ -31,9 +31,8 @@ use denote.Struct.Laws as LL
 use denote.Triple.Statement.{Triple}
 use denote.Triple.Entry.{Vals, onEntry}
 use denote.Steps.{nothing}
-use denote.Triple.Spec.{tripleOf, Meets}
-use denote.Triple.Table.{entered, cited}
-use denote.Triple.Walked.{says, Stays, gave-slice, stay-dropped, walkOf, Walks, ends-at, walked, goes-gave-slice, walk-meets}
+use denote.Triple.Table.{cited}
+use denote.Triple.Walked.{says, Stays, gave-slice, stay-dropped, walkOf, Walks, ends-at, walked, goes-gave-slice}
 use Rattle.retained.specs.Records.{freedRecord}
 use Rattle.deciding.specs.Deciding.{effectOn}
 use Rattle.answering.specs.Delivered.{acknowledge as acknowledgeOf, tableAcknowledged, outputAcknowledged}
@@ -56,6 +55,7 @@ use Rattle.answering.proofs.respond.Symbol as respond-def
 use Rattle.answering.proofs.respond.Met as respond-thm
 use Rattle.retained.proofs.freed_record.Symbol as freed-def
 use Rattle.retained.proofs.freed_record.Met as freed-thm
+use Rattle.reliable.proofs.Meeting.{meets}
 use Rattle.reliable.proofs.Locals.{Cell, bare, has, frame, Blocks, locals, begins, freed}
 use Rattle.reliable.proofs.Arguments.{arg, again}
 use Rattle.reliable.proofs.Values.{tval, oval, qval, fval, IsO, IsQ, IsF, typed-t, typed-o, typed-q, typed-f, typed-word, typed-slice, own-o}
@@ -264,29 +264,22 @@ module _ {M : Type 1} (𝓤 : URA M) (H : Heap 𝓤) (A : Atoms 𝓤) (W : Given
       (a .1 .1 .1 .1 .0) 𝓣 known
       (are .0 .0 .1) (are .1 .1 .0 .0 .1) (are .1 .1 .1 .1 .1 .0 .0 .1) (are .1 .0 .1) (are .1 .1 .1 .0) (are .1 .1 .1 .1 .0)))
 
-  acknowledges-meets : Meets 𝓤 H A acknowledges.signature (WpFn 𝓤 H (𝓣 .C) (𝓣 .Λ) code.function) (acknowledges.spec 𝓤 H A mem run)
-  acknowledges-meets =
-      let quiet = W .laws .⇛-intro (emp 𝓤) in
-      walk-meets 𝓤 H A acknowledges.ended stayed W (
-        goes-gave-slice 𝓤 H A W 3 0 tt (plain (λ _. T.the-row)),
-        (λ κs x f vs g. quiet, (λ κs x f vs g. quiet, (λ κs x f vs g. quiet, (λ κs x f vs g. quiet, (goes-gave-slice 𝓤 H A W 3 2 tt (plain (λ _. u8)), tt))))),
-      )
-      (acknowledges.clauses 𝓤 H A mem run) (WpFn 𝓤 H (𝓣 .C) (𝓣 .Λ) code.function) (WpFn-mono 𝓤 H (W .laws) 𝓣 code.function) acknowledges-walks
-
 pub mant-acknowledge-spec : {M : Type 1} → stated.statement M
 unfolding code.routine tablesOf
 mant-acknowledge-spec 𝓤 H 𝓜 𝓖 𝓡 =
-    entered 𝓤 H (tripleOf 𝓤 H (𝓖 .A) acknowledges.signature (acknowledges.spec 𝓤 H (𝓖 .A) (𝓜 .mem) (𝓡 .run)))
-    (tables 𝓤 H 𝓜 𝓡 code.env .C) (tables 𝓤 H 𝓜 𝓡 code.env .Λ) #acknowledges code.function (code.unfolded 𝓤 H 𝓜 𝓡)
-    (acknowledges-meets 𝓤 H (𝓖 .A) (givenOf 𝓤 H 𝓜 𝓖) (𝓜 .mem) (𝓡 .run) (tablesOf 𝓤 H 𝓜 (tables 𝓤 H 𝓜 𝓡 code.env)) (record {
-      asks = cited 𝓤 H (Asks 𝓤 H (𝓖 .A) (𝓜 .mem) (𝓡 .run)) 𝓜 𝓡 code.env ask-def.name ask-def.routine code.calls-answering·ask-acknowledge
-          (ask-thm.met 𝓤 H 𝓜 𝓖 𝓡);
-      search = cited 𝓤 H (Search 𝓤 H (𝓖 .A) (𝓜 .mem) (𝓡 .run)) 𝓜 𝓡 code.env search-def.name search-def.routine code.calls-reliable·search
-          (search-thm.met 𝓤 H 𝓜 𝓖 𝓡);
-      frees = cited 𝓤 H (Freed 𝓤 H (𝓖 .A) (𝓜 .mem) (𝓡 .run)) 𝓜 𝓡 code.env freed-def.name freed-def.routine code.calls-retained·freed-record
-          (freed-thm.met 𝓤 H 𝓜 𝓖 𝓡);
-      lay = cited 𝓤 H (Lay 𝓤 H (𝓖 .A) (𝓜 .mem) (𝓡 .run)) 𝓜 𝓡 code.env lay-def.name lay-def.routine code.calls-reliable·lay
-          (lay-thm.met 𝓤 H 𝓜 𝓖 𝓡);
-      responds = cited 𝓤 H (Respond 𝓤 H (𝓖 .A) (𝓜 .mem) (𝓡 .run)) 𝓜 𝓡 code.env respond-def.name respond-def.routine code.calls-answering·respond
-          (respond-thm.met 𝓤 H 𝓜 𝓖 𝓡);
+    let W = givenOf 𝓤 H 𝓜 𝓖 in
+    let quiet = W .laws .⇛-intro (emp 𝓤) in
+    meets 𝓤 H 𝓜 𝓖 𝓡 acknowledges.ended stayed (acknowledges.clauses 𝓤 H (𝓖 .A) (𝓜 .mem) (𝓡 .run)) code.env #acknowledges code.function (code.unfolded 𝓤 H 𝓜 𝓡) (
+      goes-gave-slice 𝓤 H (𝓖 .A) W 3 0 tt (plain (λ _. T.the-row)),
+      (
+        λ κs x f vs g. quiet,
+        (λ κs x f vs g. quiet, (λ κs x f vs g. quiet, (λ κs x f vs g. quiet, (goes-gave-slice 𝓤 H (𝓖 .A) W 3 2 tt (plain (λ _. u8)), tt)))),
+      ),
+    )
+    (acknowledges-walks 𝓤 H (𝓖 .A) W (𝓜 .mem) (𝓡 .run) (tablesOf 𝓤 H 𝓜 (tables 𝓤 H 𝓜 𝓡 code.env)) (record {
+      asks = cited 𝓤 H _ 𝓜 𝓡 code.env ask-def.name ask-def.routine code.calls-answering·ask-acknowledge (ask-thm.met 𝓤 H 𝓜 𝓖 𝓡);
+      search = cited 𝓤 H _ 𝓜 𝓡 code.env search-def.name search-def.routine code.calls-reliable·search (search-thm.met 𝓤 H 𝓜 𝓖 𝓡);
+      frees = cited 𝓤 H _ 𝓜 𝓡 code.env freed-def.name freed-def.routine code.calls-retained·freed-record (freed-thm.met 𝓤 H 𝓜 𝓖 𝓡);
+      lay = cited 𝓤 H _ 𝓜 𝓡 code.env lay-def.name lay-def.routine code.calls-reliable·lay (lay-thm.met 𝓤 H 𝓜 𝓖 𝓡);
+      responds = cited 𝓤 H _ 𝓜 𝓡 code.env respond-def.name respond-def.routine code.calls-answering·respond (respond-thm.met 𝓤 H 𝓜 𝓖 𝓡);
     }))

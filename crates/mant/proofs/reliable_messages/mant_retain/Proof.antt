@@ -15,7 +15,7 @@ use prog.Wp.{Heap, Env, WpFn, Tables}
 use ghost.Atoms.{Atoms, sem}
 use contract.Monad.{Fun, fact}
 use contract.Running.{givenOf, tables, tablesOf}
-use sound.WpLaws.{FmC, fmOf, WpFn-mono}
+use sound.WpLaws.{FmC, fmOf}
 use types.Kit.{Given, Item, Goal, Sq, runs, ‵, raw, _⊛_, ⋆, atRet, _$_, _∵_, !, qed, by, move, use1, use2, drop, split, join, fsplit, fjoin, suffices, done}
 use types.Kit.{frame as framed}
 use types.Part.{whole, sub, look-in}
@@ -32,10 +32,10 @@ use denote.Triple.Statement.{Contract, Triple}
 use denote.Triple.Call.{calls-at}
 use denote.Triple.Entry.{Vals, onEntry}
 use denote.Steps.{nothing}
-use denote.Triple.Spec.{tripleOf, Meets}
-use denote.Triple.Table.{entered, cited}
+use denote.Triple.Spec.{tripleOf}
+use denote.Triple.Table.{cited}
 use denote.Triple.Clauses.{ensured, lasts}
-use denote.Triple.Walked.{says, Stays, gave-slice, stay-dropped, walkOf, Walks, ends-at, walked, goes-gave-slice, walk-meets}
+use denote.Triple.Walked.{says, Stays, gave-slice, stay-dropped, walkOf, Walks, ends-at, walked, goes-gave-slice}
 use Rattle.retained.specs.Table.{retain as retainOf, tableRetained}
 use Rattle.retained.specs.Records.{retainedRecord}
 use Rattle.deciding.specs.Deciding.{effectOn, askRetain}
@@ -56,6 +56,7 @@ use Rattle.deciding.proofs.ask_retain.Met as ask-thm
 use Rattle.retained.proofs.retained_record as record-of
 use Rattle.retained.proofs.retained_record.Symbol as record-def
 use Rattle.retained.proofs.retained_record.Met as record-thm
+use Rattle.reliable.proofs.Meeting.{meets}
 use Rattle.reliable.proofs.Calls.{told}
 use Rattle.reliable.proofs.Locals.{Cell, bare, has, frame, Blocks, locals, begins, freed}
 use Rattle.reliable.proofs.Arguments.{arg, again}
@@ -251,25 +252,18 @@ module _ {M : Type 1} (𝓤 : URA M) (H : Heap 𝓤) (A : Atoms 𝓤) (W : Given
       (a .1 .1 .1 .0 .ptr .1) (a .1 .1 .1 .0 .name) (a .1 .1 .1 .0 .now) (a .1 .0) (a .1 .1 .0) 𝓣 known (are .0 .0 .1) (are .1 .1 .1 .0 .0 .1)
       (are .1 .0 .1) (are .1 .1 .0 .1)))
 
-  retain-meets : Meets 𝓤 H A retain.signature (WpFn 𝓤 H (𝓣 .C) (𝓣 .Λ) code.function) (retain.spec 𝓤 H A mem run)
-  retain-meets =
-      let quiet = W .laws .⇛-intro (emp 𝓤) in
-      walk-meets 𝓤 H A retain.ended stayed W (
-        goes-gave-slice 𝓤 H A W 2 0 tt (plain (λ _. T.the-row)),
-        (λ κs x f vs g. quiet, (λ κs x f vs g. quiet, (λ κs x f vs g. quiet, tt))),
-      )
-      (retain.clauses 𝓤 H A mem run) (WpFn 𝓤 H (𝓣 .C) (𝓣 .Λ) code.function) (WpFn-mono 𝓤 H (W .laws) 𝓣 code.function) retain-walks
-
 pub mant-retain-spec : {M : Type 1} → stated.statement M
 unfolding code.routine tablesOf
 mant-retain-spec 𝓤 H 𝓜 𝓖 𝓡 =
-    entered 𝓤 H (tripleOf 𝓤 H (𝓖 .A) retain.signature (retain.spec 𝓤 H (𝓖 .A) (𝓜 .mem) (𝓡 .run)))
-    (tables 𝓤 H 𝓜 𝓡 code.env .C) (tables 𝓤 H 𝓜 𝓡 code.env .Λ) #retain code.function (code.unfolded 𝓤 H 𝓜 𝓡)
-    (retain-meets 𝓤 H (𝓖 .A) (givenOf 𝓤 H 𝓜 𝓖) (𝓜 .mem) (𝓡 .run) (tablesOf 𝓤 H 𝓜 (tables 𝓤 H 𝓜 𝓡 code.env)) (record {
-      asks = cited 𝓤 H (Asks 𝓤 H (𝓖 .A) (𝓜 .mem) (𝓡 .run)) 𝓜 𝓡 code.env ask-def.name ask-def.routine code.calls-deciding·ask-retain (ask-thm.met 𝓤 H 𝓜 𝓖 𝓡);
-      search = cited 𝓤 H (Search 𝓤 H (𝓖 .A) (𝓜 .mem) (𝓡 .run)) 𝓜 𝓡 code.env search-def.name search-def.routine code.calls-reliable·search
-          (search-thm.met 𝓤 H 𝓜 𝓖 𝓡);
-      records = cited 𝓤 H (Records 𝓤 H (𝓖 .A) (𝓜 .mem) (𝓡 .run)) 𝓜 𝓡 code.env record-def.name record-def.routine code.calls-retained·retained-record
-          (record-thm.met 𝓤 H 𝓜 𝓖 𝓡);
-      lay = cited 𝓤 H (Lay 𝓤 H (𝓖 .A) (𝓜 .mem) (𝓡 .run)) 𝓜 𝓡 code.env lay-def.name lay-def.routine code.calls-reliable·lay (lay-thm.met 𝓤 H 𝓜 𝓖 𝓡);
+    let W = givenOf 𝓤 H 𝓜 𝓖 in
+    let quiet = W .laws .⇛-intro (emp 𝓤) in
+    meets 𝓤 H 𝓜 𝓖 𝓡 retain.ended stayed (retain.clauses 𝓤 H (𝓖 .A) (𝓜 .mem) (𝓡 .run)) code.env #retain code.function (code.unfolded 𝓤 H 𝓜 𝓡) (
+      goes-gave-slice 𝓤 H (𝓖 .A) W 2 0 tt (plain (λ _. T.the-row)),
+      (λ κs x f vs g. quiet, (λ κs x f vs g. quiet, (λ κs x f vs g. quiet, tt))),
+    )
+    (retain-walks 𝓤 H (𝓖 .A) W (𝓜 .mem) (𝓡 .run) (tablesOf 𝓤 H 𝓜 (tables 𝓤 H 𝓜 𝓡 code.env)) (record {
+      asks = cited 𝓤 H _ 𝓜 𝓡 code.env ask-def.name ask-def.routine code.calls-deciding·ask-retain (ask-thm.met 𝓤 H 𝓜 𝓖 𝓡);
+      search = cited 𝓤 H _ 𝓜 𝓡 code.env search-def.name search-def.routine code.calls-reliable·search (search-thm.met 𝓤 H 𝓜 𝓖 𝓡);
+      records = cited 𝓤 H _ 𝓜 𝓡 code.env record-def.name record-def.routine code.calls-retained·retained-record (record-thm.met 𝓤 H 𝓜 𝓖 𝓡);
+      lay = cited 𝓤 H _ 𝓜 𝓡 code.env lay-def.name lay-def.routine code.calls-reliable·lay (lay-thm.met 𝓤 H 𝓜 𝓖 𝓡);
     }))
