@@ -16,7 +16,7 @@ use borrow.Author.Tests.{lt-ltb, le-ltb}
 use package.mir.Syntax.{named, w64, tyInt, tyBool, loop}
 use package.mir.Val.{Val, vbool, vint}
 use base.Logic.{SProp, ent, sep, ex, guard, id⊢, via, exI, exE, guardI, guardE, emp, fst∗, snd∗}
-use base.Fml.{Lft, GName, Share, Fml, ftrue, fat, flft}
+use base.Fml.{Lft, Share, Fml, ftrue, fat, flft}
 use prog.Memory.{Memory}
 use prog.Routine.{Routine}
 use prog.Wp.{Heap, Out, Env, spotOf, afterSeq, afterBlock, afterTurn, Wp, atReturn, WpFn, Tables}
@@ -32,7 +32,7 @@ use types.Run.{look, store, init, forget, stop, fld, from, load, lit, of-opd, bi
 use denote.Exit.{yes}
 use denote.RattleType.{owns}
 use denote.Ref.{RefT}
-use denote.Slice.{sliceVal, ShrSlice, Room, slice-vals, shr-slice-tells, shr-slice-copy}
+use denote.Slice.{ShrSlice, Room, slice-vals, shr-slice-tells, shr-slice-copy}
 use denote.Struct.Laws as LL
 use denote.Triple.Statement.{Contract, Triple}
 use denote.Triple.Call.{calls-at}
@@ -60,7 +60,7 @@ use Rattle.retained.proofs.look.Met as step-thm
 use Rattle.reliable.proofs.Calls.{told}
 use Rattle.reliable.proofs.Locals.{Cell, bare, has, frame, Blocks, locals, begins, freed}
 use Rattle.reliable.proofs.Arguments.{arg}
-use Rattle.reliable.proofs.Values.{tval, sval, IsT, IsS, typed-t, typed-s, typed-word, typed-slice, own-word, own-t, own-s}
+use Rattle.reliable.proofs.Values.{slice, tval, sval, IsT, IsS, typed-t, typed-s, typed-word, typed-slice, own-word, own-t, own-s}
 use Rattle.reliable.proofs.scan.Key.{name as #reliable·scan}
 use Rattle.reliable.proofs.scan as scan
 use Rattle.reliable.proofs.scan.Statement as stated
@@ -96,24 +96,20 @@ pub record Known {M : Type 1} (𝓤 : URA M) (H : Heap 𝓤) (A : Atoms 𝓤) (m
   pub steps : Triple 𝓤 (𝓣 .C step-def.name) (Step 𝓤 H A mem run)
 
 module _ {M : Type 1} (𝓤 : URA M) (H : Heap 𝓤) (A : Atoms 𝓤) (W : Given 𝓤 H A) (mem : Memory → SProp 𝓤) (run : Routine → Fun 𝓤) (κ : Lft) (q : Share)
-    (b o : ℕ) (γ : GName) (ys : List Retained) (p : Seek) where
+    (x : RefT (List Retained)) (p : Seek) where
+  open RefT x using (now as ys)
+
   abbrev n : ℕ
   n = length ys
 
-  abbrev x : RefT (List Retained)
-  x = record { ptr = (b, o); name = γ; now = ys }
-
-  abbrev v : Val
-  v = sliceVal (b, o) n
-
   abbrev at : Vals scan.signature (κ, tt)
-  at = (v ∷ [], (sval p ∷ [], tt))
+  at = (slice x ∷ [], (sval p ∷ [], tt))
 
   abbrev Post : Val → SProp 𝓤
   Post = walkOf 𝓤 H A scan.ended stayed (scan.clauses 𝓤 H A mem run) .post (((κ, tt), (q, tt), tt, (x, (p, tt)), at), tt)
 
   abbrev Own : Fml
-  Own = ShrSlice (named 0) κ T.the-row .own x (v ∷ [])
+  Own = ShrSlice (named 0) κ T.the-row .own x (slice x ∷ [])
 
   abbrev Owns : Fml
   Owns = owns (ShrSlice (named 0) κ T.the-row ∷ S.the-row ∷ []) (x, (p, tt)) at
@@ -130,7 +126,7 @@ module _ {M : Type 1} (𝓤 : URA M) (H : Heap 𝓤) (A : Atoms 𝓤) (W : Given
 
   -- the call of `get`
   abbrev to-get : ℕ → Get 𝓤 H A mem run .Ghost
-  to-get i = (((κ, tt), (q, tt), tt, (x, (i, tt)), (v ∷ [], (vint w64 i ∷ [], tt))), tt)
+  to-get i = (((κ, tt), (q, tt), tt, (x, (i, tt)), (slice x ∷ [], (vint w64 i ∷ [], tt))), tt)
 
   pre-get : (i : ℕ) → i < n → i < 2 ^ 64 → ent 𝓤 (⋆ 𝓤 H A (Token ∷ ‵ Own ∷ [])) (Get 𝓤 H A mem run .pre (to-get i))
   pre-get i within fits =
@@ -138,7 +134,7 @@ module _ {M : Type 1} (𝓤 : URA M) (H : Heap 𝓤) (A : Atoms 𝓤) (W : Given
 
   goes-get : (i : ℕ) → i < n → i < 2 ^ 64 → ent 𝓤 (⋆ 𝓤 H A (Token ∷ ‵ Own ∷ [])) (sep 𝓤 (Get 𝓤 H A mem run .pre (to-get i)) (sem 𝓤 H A Own))
   goes-get i within fits =
-      qed W (Token ∷ ‵ Own ∷ []) ∵ move ! (1 ∷ []) $ use1 W (‵ Own ⊛ ‵ Own) (shr-slice-copy 𝓤 H A W (named 0) κ T.the-row .twice x (v ∷ [])) $ split ! $
+      qed W (Token ∷ ‵ Own ∷ []) ∵ move ! (1 ∷ []) $ use1 W (‵ Own ⊛ ‵ Own) (shr-slice-copy 𝓤 H A W (named 0) κ T.the-row .twice x (slice x ∷ [])) $ split ! $
       move ! (2 ∷ 0 ∷ []) $ use2 W (raw (Get 𝓤 H A mem run .pre (to-get i))) (pre-get i within fits) $ framed ! $ done !
 
   get-said : (i : ℕ) (r : Retained) → ent 𝓤 (ensured 𝓤 H A get.ended (get.clauses 𝓤 H A mem run) (κ, tt) (x, (i, tt)) tt r) (fact 𝓤 (r ≡ getD ys i none))
@@ -164,7 +160,7 @@ module _ {M : Type 1} (𝓤 : URA M) (H : Heap 𝓤) (A : Atoms 𝓤) (W : Given
     En = locals (code.function .locals) bl
 
     abbrev cells : Cell → ℕ → Seek → List Cell → List Cell
-    cells r i s cs = r ∷ has v ∷ has (sval p) ∷ has (sval s) ∷ has (vint w64 i) ∷ cs
+    cells r i s cs = r ∷ has (slice x) ∷ has (sval p) ∷ has (sval s) ∷ has (vint w64 i) ∷ cs
 
     -- i records are passed, and s is what has been found
     abbrev At : ℕ → Seek → List (Item 𝓤)
@@ -262,16 +258,16 @@ module _ {M : Type 1} (𝓤 : URA M) (H : Heap 𝓤) (A : Atoms 𝓤) (W : Given
     loops gp = via 𝓤 (Inv n) (holds-at n (0, p) (zero-add n, refl, gp)) (loop-rule 𝓤 H (W .laws) 𝓣 _<_ (Nat·lt-wfRel .wf) En mir.turn-1 Left Inv turns n)
 
     -- the body: up to the loop
-    starts : IsS p → Sq W (Token ∷ ‵ Owns ∷ frame En (bare ∷ has v ∷ has (sval p) ∷ [])) (runs (𝓣 .C) (𝓣 .Λ) En mir.t-1 (atRet En Post))
+    starts : IsS p → Sq W (Token ∷ ‵ Owns ∷ frame En (bare ∷ has (slice x) ∷ has (sval p) ∷ [])) (runs (𝓣 .C) (𝓣 .Λ) En mir.t-1 (atRet En Post))
     starts gp =
         move ! (1 ∷ []) $ fsplit ! $ move ! (1 ∷ []) $ drop ! $ move ! (1 ∷ []) $
         assigns ! (of-opd ! (load ! (from ! (stop !)) (look ! 4 refl))) (from ! (stop !)) (init ! 5 refl (typed-s W p gp)) $
         assigns ! (of-opd ! (lit ! tt)) (from ! (stop !)) (init ! 6 refl (typed-word (lit< tt))) $ by ! (loops gp)
 
   walk : (𝓣 : Tables 𝓤 H) → Known 𝓤 H A mem run 𝓣 → Room T.the-row n → IsS p
-      → ent 𝓤 (onEntry 𝓤 H A scan.signature (κ, tt) (q, tt) (x, (p, tt)) at) (WpFn 𝓤 H (𝓣 .C) (𝓣 .Λ) code.function (v ∷ sval p ∷ []) Post)
+      → ent 𝓤 (onEntry 𝓤 H A scan.signature (κ, tt) (q, tt) (x, (p, tt)) at) (WpFn 𝓤 H (𝓣 .C) (𝓣 .Λ) code.function (slice x ∷ sval p ∷ []) Post)
   walk 𝓣 known g gp =
-      qed W (Token ∷ ‵ Owns ∷ []) ∵ begins ! (𝓣 .C) (𝓣 .Λ) code.function (v ∷ sval p ∷ []) (λ bl. (typed-slice (g .0), (typed-s W p gp, tt)))
+      qed W (Token ∷ ‵ Owns ∷ []) ∵ begins ! (𝓣 .C) (𝓣 .Λ) code.function (slice x ∷ sval p ∷ []) (λ bl. (typed-slice (g .0), (typed-s W p gp, tt)))
       (λ bl. starts 𝓣 known g bl gp)
 
 module _ {M : Type 1} (𝓤 : URA M) (H : Heap 𝓤) (A : Atoms 𝓤) (W : Given 𝓤 H A) (mem : Memory → SProp 𝓤) (run : Routine → Fun 𝓤) (𝓣 : Tables 𝓤 H)
@@ -281,7 +277,7 @@ module _ {M : Type 1} (𝓤 : URA M) (H : Heap 𝓤) (A : Atoms 𝓤) (W : Given
       (λ κs. (slice-vals, (LL.vals S.the-type S′.the-laws, tt)))
       (λ κs. (shr-slice-tells (named 0) (κs .0) T.the-row, (LL.tells S.the-type S′.the-laws, tt)))
       (λ κs qs bounds a gh are. via 𝓤 _ (fst∗ 𝓤 _ (emp 𝓤))
-      (walk 𝓤 H A W mem run (κs .0) (qs .0) (a .0 .ptr .0) (a .0 .ptr .1) (a .0 .name) (a .0 .now) (a .1 .0) 𝓣 known (are .0 .0 .1) (are .1 .0)))
+      (walk 𝓤 H A W mem run (κs .0) (qs .0) (a .0) (a .1 .0) 𝓣 known (are .0 .0 .1) (are .1 .0)))
 
 pub scan-spec : {M : Type 1} → stated.statement M
 unfolding code.routine tablesOf
