@@ -1,5 +1,7 @@
 // A received PDU held as one thing: the caller's bytes, and the places in them that reading found.
-// A function over the view only takes it apart. The work is done below, by a function on slice and places.
+// A function over the view only takes it apart. The work is done in `fields`, by a function on slice and places.
+mod fields;
+
 use pdu::Destination;
 use pdu::Header;
 use pdu::Reading;
@@ -9,7 +11,7 @@ ghost use Prim.Native.Nat.{_-_};
 ghost use Rattle.octets.specs.Octets.{IsPart};
 ghost use Rattle.pdu.specs.Reading.{readOf};
 ghost use Rattle.pdu.specs.Parts.{pathIn, pathAddress, inPath};
-ghost use Rattle.view.specs.View.{placesOf, shownIn, headerIn, lastSenderIn, summaryAt};
+ghost use Rattle.view.specs.View.{placesOf, headerIn, lastSenderIn, summaryAt};
 
 // What reading found: its number, the offset of the payload's first byte, and the offset of the byte after the PDU.
 // After a refusal both offsets are 0.
@@ -56,98 +58,98 @@ pub fn summary_of(bytes: &[u8]) -> Summary
 pub fn summarize<'a>(pdu: Pdu<'a>) -> Summary
     ensures { λ r. ⌜ r ≡ summaryAt (now (pdu .entry .bytes)) (pdu .entry .at) ⌝ }
 {
-    summary_at(pdu.bytes, pdu.at)
+    fields::summary_at(pdu.bytes, pdu.at)
 }
 
 // The number of reading: 0, or that of the refusal, 1 to 6. Document 01, "Numbers answered", 1 to 6.
 pub fn number<'a>(pdu: Pdu<'a>) -> u8
     ensures { λ r. ⌜ r ≡ pdu .entry .at .number ⌝ }
 {
-    number_at(pdu.bytes, pdu.at)
+    fields::number_at(pdu.bytes, pdu.at)
 }
 
 // The PDU's length in bytes, header and payload. 0 after a refusal. Document 01, "Sizes".
 pub fn size<'a>(pdu: Pdu<'a>) -> usize
     ensures { λ r. ⌜ r ≡ pdu .entry .at .end ⌝ }
 {
-    size_at(pdu.bytes, pdu.at)
+    fields::size_at(pdu.bytes, pdu.at)
 }
 
 // The protocol: 0 best efforts, 1 reliable. 0 after a refusal. Document 01, "Header, byte by byte": byte 0, bits 5-3.
 pub fn protocol<'a>(pdu: Pdu<'a>) -> u8
     ensures { λ r. ⌜ r ≡ headerIn (now (pdu .entry .bytes)) (pdu .entry .at) .protocol ⌝ }
 {
-    protocol_at(pdu.bytes, pdu.at)
+    fields::protocol_at(pdu.bytes, pdu.at)
 }
 
 // Whether a time stamp is asked for. Not after a refusal. Document 01, "Header, byte by byte": byte 0, bit 2.
 pub fn time_stamp_request<'a>(pdu: Pdu<'a>) -> bool
     ensures { λ r. ⌜ r ≡ headerIn (now (pdu .entry .bytes)) (pdu .entry .at) .«time_stamp_request» ⌝ }
 {
-    time_stamp_request_at(pdu.bytes, pdu.at)
+    fields::time_stamp_request_at(pdu.bytes, pdu.at)
 }
 
 // Whether the PDU has a path, which may be empty. Not after a refusal. Document 01, "Header, byte by byte": byte 0, bit 1.
 pub fn path_bit<'a>(pdu: Pdu<'a>) -> bool
     ensures { λ r. ⌜ r ≡ headerIn (now (pdu .entry .bytes)) (pdu .entry .at) .«path_bit» ⌝ }
 {
-    path_bit_at(pdu.bytes, pdu.at)
+    fields::path_bit_at(pdu.bytes, pdu.at)
 }
 
 // The port, 0 to 15. 0 after a refusal. Document 01, "Header, byte by byte": byte 1, bits 7-4.
 pub fn port<'a>(pdu: Pdu<'a>) -> u8
     ensures { λ r. ⌜ r ≡ headerIn (now (pdu .entry .bytes)) (pdu .entry .at) .port ⌝ }
 {
-    port_at(pdu.bytes, pdu.at)
+    fields::port_at(pdu.bytes, pdu.at)
 }
 
 // Whether the payload is encrypted. Not after a refusal. Document 01, "Header, byte by byte": byte 1, bit 3.
 pub fn encrypted<'a>(pdu: Pdu<'a>) -> bool
     ensures { λ r. ⌜ r ≡ headerIn (now (pdu .entry .bytes)) (pdu .entry .at) .encrypted ⌝ }
 {
-    encrypted_at(pdu.bytes, pdu.at)
+    fields::encrypted_at(pdu.bytes, pdu.at)
 }
 
 // The two reserved bits, which may hold anything. 0 after a refusal. Document 01, "Header, byte by byte": byte 1, bits 2-1.
 pub fn reserved<'a>(pdu: Pdu<'a>) -> u8
     ensures { λ r. ⌜ r ≡ headerIn (now (pdu .entry .bytes)) (pdu .entry .at) .reserved ⌝ }
 {
-    reserved_at(pdu.bytes, pdu.at)
+    fields::reserved_at(pdu.bytes, pdu.at)
 }
 
 // Whether the ACK bit is set. Not after a refusal. Document 01, "Header, byte by byte": byte 1, bit 0.
 pub fn ack<'a>(pdu: Pdu<'a>) -> bool
     ensures { λ r. ⌜ r ≡ headerIn (now (pdu .entry .bytes)) (pdu .entry .at) .ack ⌝ }
 {
-    ack_at(pdu.bytes, pdu.at)
+    fields::ack_at(pdu.bytes, pdu.at)
 }
 
 // Whether the payload begins with an added header. Not after a refusal. Document 01, "Header, byte by byte": byte 2, bit 7.
 pub fn added_header<'a>(pdu: Pdu<'a>) -> bool
     ensures { λ r. ⌜ r ≡ headerIn (now (pdu .entry .bytes)) (pdu .entry .at) .«added_header» ⌝ }
 {
-    added_header_at(pdu.bytes, pdu.at)
+    fields::added_header_at(pdu.bytes, pdu.at)
 }
 
 // The hop limit, 0 to 7. 0 after a refusal. Document 01, "Header, byte by byte": byte 2, bits 6-4.
 pub fn hop_limit<'a>(pdu: Pdu<'a>) -> u8
     ensures { λ r. ⌜ r ≡ headerIn (now (pdu .entry .bytes)) (pdu .entry .at) .«hop_limit» ⌝ }
 {
-    hop_limit_at(pdu.bytes, pdu.at)
+    fields::hop_limit_at(pdu.bytes, pdu.at)
 }
 
 // The payload length that the header states. 0 after a refusal. Document 01, "Header, byte by byte": bytes 2 and 3.
 pub fn payload_length<'a>(pdu: Pdu<'a>) -> u16
     ensures { λ r. ⌜ r ≡ headerIn (now (pdu .entry .bytes)) (pdu .entry .at) .«payload_length» ⌝ }
 {
-    payload_length_at(pdu.bytes, pdu.at)
+    fields::payload_length_at(pdu.bytes, pdu.at)
 }
 
 // The source address. 0 after a refusal. Document 01, "Header, byte by byte": bytes 4 and 5.
 pub fn source<'a>(pdu: Pdu<'a>) -> u16
     ensures { λ r. ⌜ r ≡ headerIn (now (pdu .entry .bytes)) (pdu .entry .at) .source ⌝ }
 {
-    source_at(pdu.bytes, pdu.at)
+    fields::source_at(pdu.bytes, pdu.at)
 }
 
 // Who the PDU is for: the destination address, or everyone where it has none. Everyone after a refusal.
@@ -155,21 +157,21 @@ pub fn source<'a>(pdu: Pdu<'a>) -> u16
 pub fn destination<'a>(pdu: Pdu<'a>) -> Destination
     ensures { λ r. ⌜ r ≡ headerIn (now (pdu .entry .bytes)) (pdu .entry .at) .destination ⌝ }
 {
-    destination_at(pdu.bytes, pdu.at)
+    fields::destination_at(pdu.bytes, pdu.at)
 }
 
 // The PDU ID; 0 where the PDU has none, and after a refusal. Document 01, "Header, byte by byte", the second field called for.
 pub fn pdu_id<'a>(pdu: Pdu<'a>) -> u8
     ensures { λ r. ⌜ r ≡ headerIn (now (pdu .entry .bytes)) (pdu .entry .at) .«pdu_id» ⌝ }
 {
-    pdu_id_at(pdu.bytes, pdu.at)
+    fields::pdu_id_at(pdu.bytes, pdu.at)
 }
 
 // How many addresses the path has; 0 without the path bit, and after a refusal. Document 01, "Header, byte by byte", the third field called for.
 pub fn path_count<'a>(pdu: Pdu<'a>) -> u8
     ensures { λ r. ⌜ r ≡ headerIn (now (pdu .entry .bytes)) (pdu .entry .at) .«path_count» ⌝ }
 {
-    path_count_at(pdu.bytes, pdu.at)
+    fields::path_count_at(pdu.bytes, pdu.at)
 }
 
 // The path's address at place `i`, the first at 0; 0 past the last one, and after a refusal.
@@ -177,14 +179,14 @@ pub fn path_count<'a>(pdu: Pdu<'a>) -> u8
 pub fn path_address<'a>(pdu: Pdu<'a>, i: usize) -> u16
     ensures { λ r. ⌜ r ≡ pathAddress (headerIn (now (pdu .entry .bytes)) (pdu .entry .at)) (now (pdu .entry .bytes)) i ⌝ }
 {
-    path_address_at(pdu.bytes, pdu.at, i)
+    fields::path_address_at(pdu.bytes, pdu.at, i)
 }
 
 // Whether an address is anywhere in the path. In an empty path, and after a refusal, none is. Document 01, "One PDU at one node", 3.
 pub fn path_has<'a>(pdu: Pdu<'a>, address: u16) -> bool
     ensures { λ r. ⌜ r ≡ inPath address (pathIn (headerIn (now (pdu .entry .bytes)) (pdu .entry .at)) (now (pdu .entry .bytes))) ⌝ }
 {
-    path_has_at(pdu.bytes, pdu.at, address)
+    fields::path_has_at(pdu.bytes, pdu.at, address)
 }
 
 // The last sender: the last path address, or the source where the path is empty. Unknown without the path bit, and after a refusal.
@@ -192,7 +194,7 @@ pub fn path_has<'a>(pdu: Pdu<'a>, address: u16) -> bool
 pub fn last_sender<'a>(pdu: Pdu<'a>) -> Sender
     ensures { λ r. ⌜ r ≡ lastSenderIn (now (pdu .entry .bytes)) (pdu .entry .at) ⌝ }
 {
-    last_sender_at(pdu.bytes, pdu.at)
+    fields::last_sender_at(pdu.bytes, pdu.at)
 }
 
 // The payload, as that part of the caller's bytes. Empty where the PDU has none, and after a refusal.
@@ -200,7 +202,7 @@ pub fn last_sender<'a>(pdu: Pdu<'a>) -> Sender
 pub fn payload<'a>(pdu: Pdu<'a>) -> &'a [u8]
     ensures { λ r. ⌜ IsPart (pdu .entry .bytes) (pdu .entry .at .payload) (pdu .entry .at .end - pdu .entry .at .payload) r ⌝ }
 {
-    payload_at(pdu.bytes, pdu.at)
+    fields::payload_at(pdu.bytes, pdu.at)
 }
 
 // Where the parts of the PDU at the start of `bytes` are. Any bytes get an answer; a refusal's has its number and offsets 0.
@@ -221,160 +223,4 @@ pub fn find_places(bytes: &[u8]) -> Places
             end: 0,
         },
     }
-}
-
-// What the header is read from. Nothing after a refusal, so that no field of bytes that are no PDU is ever shown.
-fn shown(bytes: &[u8], places: Places) -> &[u8]
-    ensures { λ r. ⌜ now r ≡ shownIn (now (bytes .entry)) places ⌝ }
-{
-    if places.number == 0 {
-        return bytes;
-    }
-    &bytes[0..0]
-}
-
-fn header_at(bytes: &[u8], places: Places) -> Header
-    ensures { λ r. ⌜ r ≡ headerIn (now (bytes .entry)) places ⌝ }
-{
-    pdu::header_of(shown(bytes, places))
-}
-
-fn summary_at(bytes: &[u8], places: Places) -> Summary
-    ensures { λ r. ⌜ r ≡ summaryAt (now (bytes .entry)) places ⌝ }
-{
-    Summary {
-        number: places.number,
-        size: places.end,
-        header: header_at(bytes, places),
-        last_sender: last_sender_at(bytes, places),
-    }
-}
-
-fn number_at(bytes: &[u8], places: Places) -> u8
-    ensures { λ r. ⌜ r ≡ places .number ⌝ }
-{
-    places.number
-}
-
-fn size_at(bytes: &[u8], places: Places) -> usize
-    ensures { λ r. ⌜ r ≡ places .end ⌝ }
-{
-    places.end
-}
-
-fn protocol_at(bytes: &[u8], places: Places) -> u8
-    ensures { λ r. ⌜ r ≡ headerIn (now (bytes .entry)) places .protocol ⌝ }
-{
-    header_at(bytes, places).protocol
-}
-
-fn time_stamp_request_at(bytes: &[u8], places: Places) -> bool
-    ensures { λ r. ⌜ r ≡ headerIn (now (bytes .entry)) places .«time_stamp_request» ⌝ }
-{
-    header_at(bytes, places).time_stamp_request
-}
-
-fn path_bit_at(bytes: &[u8], places: Places) -> bool
-    ensures { λ r. ⌜ r ≡ headerIn (now (bytes .entry)) places .«path_bit» ⌝ }
-{
-    header_at(bytes, places).path_bit
-}
-
-fn port_at(bytes: &[u8], places: Places) -> u8
-    ensures { λ r. ⌜ r ≡ headerIn (now (bytes .entry)) places .port ⌝ }
-{
-    header_at(bytes, places).port
-}
-
-fn encrypted_at(bytes: &[u8], places: Places) -> bool
-    ensures { λ r. ⌜ r ≡ headerIn (now (bytes .entry)) places .encrypted ⌝ }
-{
-    header_at(bytes, places).encrypted
-}
-
-fn reserved_at(bytes: &[u8], places: Places) -> u8
-    ensures { λ r. ⌜ r ≡ headerIn (now (bytes .entry)) places .reserved ⌝ }
-{
-    header_at(bytes, places).reserved
-}
-
-fn ack_at(bytes: &[u8], places: Places) -> bool
-    ensures { λ r. ⌜ r ≡ headerIn (now (bytes .entry)) places .ack ⌝ }
-{
-    header_at(bytes, places).ack
-}
-
-fn added_header_at(bytes: &[u8], places: Places) -> bool
-    ensures { λ r. ⌜ r ≡ headerIn (now (bytes .entry)) places .«added_header» ⌝ }
-{
-    header_at(bytes, places).added_header
-}
-
-fn hop_limit_at(bytes: &[u8], places: Places) -> u8
-    ensures { λ r. ⌜ r ≡ headerIn (now (bytes .entry)) places .«hop_limit» ⌝ }
-{
-    header_at(bytes, places).hop_limit
-}
-
-fn payload_length_at(bytes: &[u8], places: Places) -> u16
-    ensures { λ r. ⌜ r ≡ headerIn (now (bytes .entry)) places .«payload_length» ⌝ }
-{
-    header_at(bytes, places).payload_length
-}
-
-fn source_at(bytes: &[u8], places: Places) -> u16
-    ensures { λ r. ⌜ r ≡ headerIn (now (bytes .entry)) places .source ⌝ }
-{
-    header_at(bytes, places).source
-}
-
-fn destination_at(bytes: &[u8], places: Places) -> Destination
-    ensures { λ r. ⌜ r ≡ headerIn (now (bytes .entry)) places .destination ⌝ }
-{
-    header_at(bytes, places).destination
-}
-
-fn pdu_id_at(bytes: &[u8], places: Places) -> u8
-    ensures { λ r. ⌜ r ≡ headerIn (now (bytes .entry)) places .«pdu_id» ⌝ }
-{
-    header_at(bytes, places).pdu_id
-}
-
-fn path_count_at(bytes: &[u8], places: Places) -> u8
-    ensures { λ r. ⌜ r ≡ headerIn (now (bytes .entry)) places .«path_count» ⌝ }
-{
-    header_at(bytes, places).path_count
-}
-
-fn path_address_at(bytes: &[u8], places: Places, i: usize) -> u16
-    ensures { λ r. ⌜ r ≡ pathAddress (headerIn (now (bytes .entry)) places) (now (bytes .entry)) i ⌝ }
-{
-    pdu::parts::path_address(bytes, header_at(bytes, places), i)
-}
-
-fn path_has_at(bytes: &[u8], places: Places, address: u16) -> bool
-    ensures { λ r. ⌜ r ≡ inPath address (pathIn (headerIn (now (bytes .entry)) places) (now (bytes .entry))) ⌝ }
-{
-    pdu::parts::path_has(bytes, header_at(bytes, places), address)
-}
-
-fn last_sender_at(bytes: &[u8], places: Places) -> Sender
-    ensures { λ r. ⌜ r ≡ lastSenderIn (now (bytes .entry)) places ⌝ }
-{
-    pdu::parts::last_sender(bytes, header_at(bytes, places))
-}
-
-fn payload_at(bytes: &[u8], places: Places) -> &[u8]
-    ensures { λ r. ⌜ IsPart (bytes .entry) (places .payload) (places .end - places .payload) r ⌝ }
-{
-    let place = places.payload;
-    let size = length_between(place, places.end);
-    octets::part(bytes, place, size)
-}
-
-// From one place to another; 0 where the second comes first.
-fn length_between(start: usize, end: usize) -> usize
-    ensures { λ r. ⌜ r ≡ end - start ⌝ }
-{
-    if end < start { 0 } else { end - start }
 }

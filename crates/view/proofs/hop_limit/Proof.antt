@@ -3,8 +3,8 @@ use mir.Syntax.{w8}
 use denote.Ref.{now}
 use Rattle.view.specs.View.{headerIn}
 use Rattle.view.proofs.Thin.{number, thin-spec}
-use Rattle.view.proofs.hop_limit_at.Symbol as work
-use Rattle.view.proofs.hop_limit_at.Met.{met}
+use Rattle.view.proofs.fields.hop_limit_at.Symbol as work
+use Rattle.view.proofs.fields.hop_limit_at.Met.{met}
 use Rattle.view.proofs.hop_limit.Key.{name}
 use Rattle.view.proofs.hop_limit.Statement.{statement}
 use Rattle.view.proofs.hop_limit.Code as code
@@ -13,4 +13,4 @@ pub hop-limit-spec : {M : Type 1} → statement M
 unfolding code.routine
 hop-limit-spec 𝓤 H 𝓜 𝓖 𝓡 =
     thin-spec (number w8) (λ κs bytes at r. r ≡ headerIn (now bytes) at .«hop_limit») 𝓤 H 𝓜 𝓖 𝓡
-    code.env name work.name work.routine (code.unfolded 𝓤 H 𝓜 𝓡) code.calls-view·hop-limit-at (met 𝓤 H 𝓜 𝓖 𝓡)
+    code.env name work.name work.routine (code.unfolded 𝓤 H 𝓜 𝓡) code.calls-view·fields·hop-limit-at (met 𝓤 H 𝓜 𝓖 𝓡)

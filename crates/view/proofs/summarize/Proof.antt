@@ -6,8 +6,8 @@ use Rattle.view.specs.View.{summaryAt}
 use Rattle.view.proofs.Thin.{Answer, thin-spec}
 use Rattle.view.proofs.Summary as S
 use Rattle.view.proofs.Summary.Laws as S′
-use Rattle.view.proofs.summary_at.Symbol as work
-use Rattle.view.proofs.summary_at.Met.{met}
+use Rattle.view.proofs.fields.summary_at.Symbol as work
+use Rattle.view.proofs.fields.summary_at.Met.{met}
 use Rattle.view.proofs.summarize.Key.{name}
 use Rattle.view.proofs.summarize.Statement.{statement}
 use Rattle.view.proofs.summarize.Code as code
@@ -20,4 +20,4 @@ pub summarize-spec : {M : Type 1} → statement M
 unfolding code.routine
 summarize-spec 𝓤 H 𝓜 𝓖 𝓡 =
     thin-spec summary (λ κs bytes at r. r ≡ summaryAt (now bytes) at) 𝓤 H 𝓜 𝓖 𝓡
-    code.env name work.name work.routine (code.unfolded 𝓤 H 𝓜 𝓡) code.calls-view·summary-at (met 𝓤 H 𝓜 𝓖 𝓡)
+    code.env name work.name work.routine (code.unfolded 𝓤 H 𝓜 𝓡) code.calls-view·fields·summary-at (met 𝓤 H 𝓜 𝓖 𝓡)

@@ -1,0 +1,14 @@
+use mathlib.Core.Path.{ap}
+use Rattle.pdu.specs.declared.Header.{Header}
+use borrow.Author.Needs.{needs}
+use Rattle.view.proofs.fields.added_header_at.Statement.{statement}
+use Rattle.view.proofs.fields.added_header_at.Tie as tie
+
+header-at-requires : tie.Need-header-at-requires
+header-at-requires c κs = search needs
+
+returns : tie.Need-returns
+returns c = ap (λ (header : Header). header .«added_header») (c .header-at .ensures)
+
+pub added-header-at-spec : {M : Type 1} → statement M
+added-header-at-spec = tie.close (tie.spec header-at-requires returns)
