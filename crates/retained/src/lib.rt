@@ -1,14 +1,12 @@
 // A record of a retained PDU, and the search over records, by value.
+mod in_use;
+
 use pdu::Destination;
 use pdu::Header;
 ghost use mathlib.Core.Path.{_≡_};
-ghost use mathlib.Core.Bool.{Bool, true, cond, not, _&&_};
-ghost use Prim.Native.Nat.{_+_, _*_, _/_, _%_};
-ghost use lib.Dec.{eqb, leb};
-ghost use Rattle.pdu.specs.Header.{isSet, pathBit, payloadLength};
-ghost use Rattle.retained.specs.Records.{isFirstSending, isRetainable, unfit, pduOf, isUsed, addressOf, namesOf, sameNames, exchanged};
-ghost use Rattle.retained.specs.Records.{isNamed, isDue, retainedRecord, freedRecord};
-ghost use Rattle.retained.specs.Searching.{notes, seenOf, lookOf};
+ghost use mathlib.Core.Bool.{cond};
+ghost use Rattle.retained.specs.Records.{isFirstSending, isRetainable, unfit, addressOf, namesOf, exchanged, retainedRecord, freedRecord};
+ghost use Rattle.retained.specs.Searching.{notes, lookOf};
 
 // The PDU in its first `length` bytes, when it was last sent, in seconds, and how often it was sent again.
 #[repr(C)]
@@ -92,51 +90,6 @@ fn is_first_sending(header: Header) -> bool
     header.path_entries() == 0
 }
 
-// Whether a record is in use, by the bytes that the header of every retained PDU has. Any memory has an answer.
-fn is_used(r: Retained) -> bool
-    ensures { λ x. ⌜ x ≡ isUsed r ⌝ }
-{
-    let bytes = r.pdu;
-    let entries = path_entries(bytes[0], bytes[9]);
-    let payload = payload_length(bytes[2], bytes[3]);
-    is_whole(r.length, bytes[0], bytes[1], entries, payload)
-}
-
-fn path_entries(byte0: u8, count: u8) -> u8
-    ensures { λ r. ⌜ r ≡ cond (isSet (pathBit byte0)) count 0 ⌝ }
-{
-    if byte0 / 2 % 2 == 1 { count } else { 0 }
-}
-
-fn payload_length(byte2: u8, byte3: u8) -> u16
-    ensures { λ r. ⌜ r ≡ payloadLength byte2 byte3 ⌝ }
-{
-    (byte2 % 16) as u16 * 256 + byte3 as u16
-}
-
-// Version 0, protocol 1, a destination, ACK clear; at most 256 bytes; no path address; as long as header and payload.
-fn is_whole(length: usize, byte0: u8, byte1: u8, entries: u8, payload: u16) -> bool
-    ensures { λ r. ⌜ r ≡ (eqb (byte0 / 8) 1 && (eqb (byte0 % 2) 1 && (eqb (byte1 % 2) 0 && (leb length 256
-        && (eqb entries 0 && eqb (9 + pathBit byte0 + payload) length))))) ⌝ }
-{
-    if byte0 / 8 != 1 {
-        return false;
-    }
-    if byte0 % 2 != 1 {
-        return false;
-    }
-    if byte1 % 2 != 0 {
-        return false;
-    }
-    if 256 < length {
-        return false;
-    }
-    if entries != 0 {
-        return false;
-    }
-    9 + octets::byte_value(byte0 / 2 % 2) + octets::word_value(payload) == length
-}
-
 // What a PDU is known by: source, destination and ID, of any bytes as its header shows them; without a destination, 0. Document 02, W-210.
 pub fn names_of(bytes: &[u8]) -> Names
     ensures { λ r. ⌜ r ≡ namesOf (now (bytes .entry)) ⌝ }
@@ -170,67 +123,6 @@ pub fn exchange(names: Names) -> Names
     }
 }
 
-fn same_names(a: Names, b: Names) -> bool
-    ensures { λ r. ⌜ r ≡ sameNames a b ⌝ }
-{
-    if a.source != b.source {
-        return false;
-    }
-    if a.destination != b.destination {
-        return false;
-    }
-    a.pdu_id == b.pdu_id
-}
-
-// The names of the PDU that a record in use holds, by their places.
-fn names_in(r: Retained) -> Names
-    ensures { λ x. ⌜ (isUsed r ≡ true → x ≡ namesOf (pduOf r)) ⌝ }
-{
-    let bytes = r.pdu;
-    Names {
-        source: word_of(bytes[4], bytes[5]),
-        destination: word_of(bytes[6], bytes[7]),
-        pdu_id: bytes[8],
-    }
-}
-
-fn word_of(high: u8, low: u8) -> u16
-    ensures { λ r. ⌜ r ≡ high * 256 + low ⌝ }
-{
-    high as u16 * 256 + low as u16
-}
-
-// Whether a record is in use and has these names.
-fn is_named(r: Retained, names: Names) -> bool
-    ensures { λ x. ⌜ x ≡ isNamed names r ⌝ }
-{
-    if is_used(r) {
-        same_names(names_in(r), names)
-    } else {
-        false
-    }
-}
-
-// Whether a record is in use and was last sent at least the delay ago.
-fn is_due(r: Retained, time: u64, delay: u64) -> bool
-    ensures { λ x. ⌜ x ≡ isDue time delay r ⌝ }
-{
-    if is_used(r) {
-        is_past(r.sent_at, time, delay)
-    } else {
-        false
-    }
-}
-
-fn is_past(sent_at: u64, time: u64, delay: u64) -> bool
-    ensures { λ x. ⌜ x ≡ leb («sent_at» + delay) time ⌝ }
-{
-    if time < sent_at {
-        return false;
-    }
-    delay <= time - sent_at
-}
-
 // The record of a PDU retained at a time. Document 02, W-210.
 pub fn retained_record(time: u64, bytes: &[u8]) -> Retained
     ensures { λ r. ⌜ r ≡ retainedRecord time (now (bytes .entry)) ⌝ }
@@ -257,33 +149,21 @@ pub fn freed_record() -> Retained
     }
 }
 
-// What is seen of a record in use.
-fn see(r: Retained) -> Seen
-    ensures { λ x. ⌜ (isUsed r ≡ true → x ≡ seenOf r) ⌝ }
-{
-    let names = names_in(r);
-    Seen {
-        names,
-        length: r.length,
-        count: r.count,
-    }
-}
-
 // The search after one record more, at place `i`. Document 02, W-210.
 pub fn look(s: Seek, r: Retained, i: usize) -> Seek
     ensures { λ x. ⌜ x ≡ lookOf s r i ⌝ }
 {
     let names = s.names;
     let old = s.found;
-    let due = is_due(r, s.time, s.delay);
-    let found = seen_noted(s.due, s.count, due, see(r), old);
+    let due = in_use::is_due(r, s.time, s.delay);
+    let found = seen_noted(s.due, s.count, due, in_use::see(r), old);
     Seek {
         names,
         time: s.time,
         delay: s.delay,
         count: s.count,
-        free: noted(s.free, s.count, !is_used(r), i),
-        named: noted(s.named, s.count, is_named(r, names), i),
+        free: noted(s.free, s.count, !in_use::is_used(r), i),
+        named: noted(s.named, s.count, in_use::is_named(r, names), i),
         due: noted(s.due, s.count, due, i),
         found,
     }

@@ -7,11 +7,11 @@ use Rattle.retained.proofs.look.Statement.{statement}
 use Rattle.retained.proofs.look.Tie as tie
 use Rattle.retained.proofs.look.Reads as reads
 use Rattle.retained.proofs.look.Lts as lts
-use Rattle.retained.proofs.is_due.Reads as is-due-reads
-use Rattle.retained.proofs.is_named.Reads as is-named-reads
-use Rattle.retained.proofs.is_used.Reads as is-used-reads
+use Rattle.retained.proofs.in_use.is_due.Reads as is-due-reads
+use Rattle.retained.proofs.in_use.is_named.Reads as is-named-reads
+use Rattle.retained.proofs.in_use.is_used.Reads as is-used-reads
 use Rattle.retained.proofs.noted.Reads as noted-reads
-use Rattle.retained.proofs.see.Reads as see-reads
+use Rattle.retained.proofs.in_use.see.Reads as see-reads
 use Rattle.retained.proofs.seen_noted.Reads as seen-noted-reads
 
 is-due-requires : tie.Need-is-due-requires
