@@ -87,7 +87,8 @@ module _ (table : List Retained) (last delivery : ℕ) (sending : Sending) (rece
           number-77 : room < long → acknowledgeNumber table delivery sending room received ≡ 77
           unfolding acknowledgeNumber _gives_ _orElse_
           number-77 l =
-              simp (a, le-ltb 7 (sending .«hop_limit») h, le-ltb 15 (sending .port) p, eq-eqb (length table) 16 s) (tested (ltb room long) (lt-ltb room long l))
+              simp (a, le-ltb 7 (sending .«hop_limit») h, le-ltb 15 (sending .port) p, eq-eqb (length table) 16 s)
+              (tested (ltb room long) (lt-ltb room long l))
             where
               tested : (b : Bool) → b ≡ true → cond {A = ℕ} b 77 0 ≡ 77
               tested b e = simp e
@@ -98,7 +99,8 @@ module _ (table : List Retained) (last delivery : ℕ) (sending : Sending) (rece
           number-0 : long ≤ room → acknowledgeNumber table delivery sending room received ≡ 0
           unfolding acknowledgeNumber _gives_ _orElse_
           number-0 l =
-              simp (a, le-ltb 7 (sending .«hop_limit») h, le-ltb 15 (sending .port) p, eq-eqb (length table) 16 s) (tested (ltb room long) (le-ltb room long l))
+              simp (a, le-ltb 7 (sending .«hop_limit») h, le-ltb 15 (sending .port) p, eq-eqb (length table) 16 s)
+              (tested (ltb room long) (le-ltb room long l))
             where
               tested : (b : Bool) → b ≡ false → cond {A = ℕ} b 77 0 ≡ 0
               tested b e = simp e

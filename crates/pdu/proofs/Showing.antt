@@ -9,7 +9,8 @@ use Rattle.octets.specs.Octets.{at, wordAt}
 use Rattle.pdu.specs.declared.Destination.{Destination}
 use Rattle.pdu.specs.declared.Destination.the-variants.{Everyone, Address}
 use Rattle.pdu.specs.declared.Header.{Header}
-use Rattle.pdu.specs.Header.{isSet, protocol, timeStampBit, pathBit, destinationBit, port, encryptedBit, reserved, ackBit, addedHeaderBit, hopLimit, payloadLength, sourcePlace, destinationPlace, pathCountPlace, destinationIn, pduIdIn, pathCountIn, headerOf}
+use Rattle.pdu.specs.Header.{isSet, protocol, timeStampBit, pathBit, destinationBit, port, encryptedBit, reserved, ackBit, addedHeaderBit}
+use Rattle.pdu.specs.Header.{hopLimit, payloadLength, sourcePlace, destinationPlace, pathCountPlace, destinationIn, pduIdIn, pathCountIn, headerOf}
 use Rattle.pdu.specs.Sizes.{destinationFlag, pathEntries, pathStart, headerLength, pduLength}
 
 pub header-is : (bytes : List ℕ) {byte0 byte1 byte2 byte3 from id count : ℕ} {to : Destination}

@@ -158,7 +158,9 @@ module _ (n : ℕ) (p : List ℕ) where
   size-there h = simp (there 0 (omega arith), there 2 (omega arith), there 3 (omega arith))
 
   abbrev pub byPlaces : Bool
-  byPlaces = eqb (at p 0 / 8) 1 && (eqb (at p 0 % 2) 1 && (eqb (at p 1 % 2) 0 && (leb n 256 && (eqb (cond (isSet (pathBit (at p 0))) (at p 9) 0) 0 && eqb (sizeBy p) n))))
+  byPlaces =
+      eqb (at p 0 / 8) 1 && (eqb (at p 0 % 2) 1 && (eqb (at p 1 % 2) 0 && (leb n 256
+      && (eqb (cond (isSet (pathBit (at p 0))) (at p 9) 0) 0 && eqb (sizeBy p) n))))
 
   starts : 9 ≤ n → (pathBit (at bytes 0) ≡ 1 → 10 ≤ n) → at p 0 / 8 ≡ 1 → at p 0 % 2 ≡ 1 → at p 1 % 2 ≡ 0 → (pathBit (at p 0) ≡ 1 → at p 9 ≡ 0) → Begins bytes
   starts h k first set clear alone =

@@ -22,7 +22,8 @@ module _ (key : List ℕ) (number : ℕ) (bytes output : List ℕ) where
   unfolding sealWritten sealOutput
   refused fault e some = rw (← e, ne-eqb fault 0 some) (refl, refl)
 
-  pub done : (long : ℕ) (now : List ℕ) → sealNumber number bytes (length output) ≡ 0 → long ≡ sealedLength bytes → now ≡ over (sealedPdu key number bytes) output
+  pub done : (long : ℕ) (now : List ℕ) → sealNumber number bytes (length output) ≡ 0 → long ≡ sealedLength bytes
+      → now ≡ over (sealedPdu key number bytes) output
       → (_≡_ {A = Written} (record { number = 0; length = long }) (sealWritten number bytes (length output))) × (now ≡ sealOutput key number bytes output)
   unfolding sealWritten sealOutput
   done long now e el en = rw (e, el, en) (refl, refl)

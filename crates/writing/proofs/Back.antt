@@ -16,7 +16,8 @@ use Rattle.pdu.specs.declared.Destination.{Destination}
 use Rattle.pdu.specs.declared.Destination.the-variants.{Everyone, Address}
 use Rattle.pdu.specs.declared.Header.{Header}
 use Rattle.pdu.specs.declared.Reading.the-variants.{Pdu}
-use Rattle.pdu.specs.Header.{isSet, version, protocol, timeStampBit, pathBit, destinationBit, port, encryptedBit, reserved, ackBit, addedHeaderBit, hopLimit, payloadLength, destinationPlace, pduIdPlace, pathCountPlace, destinationIn, pduIdIn, headerOf}
+use Rattle.pdu.specs.Header.{isSet, version, protocol, timeStampBit, pathBit, destinationBit, port, encryptedBit, reserved, ackBit, addedHeaderBit}
+use Rattle.pdu.specs.Header.{hopLimit, payloadLength, destinationPlace, pduIdPlace, pathCountPlace, destinationIn, pduIdIn, headerOf}
 use Rattle.pdu.specs.Sizes.{destinationFlag, pathEntries, pathStart, headerLength, pduLength}
 use Rattle.pdu.specs.Reading.{readOf}
 use Rattle.pdu.specs.Parts.{addressesAt, pathIn, payloadIn}

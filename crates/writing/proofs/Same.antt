@@ -15,7 +15,8 @@ use Rattle.octets.proofs.Words.{high-back, low-back}
 use Rattle.pdu.specs.declared.Destination.the-variants.{Everyone, Address}
 use Rattle.pdu.specs.declared.Header.{Header}
 use Rattle.pdu.specs.declared.Reading.the-variants.{Pdu}
-use Rattle.pdu.specs.Header.{isSet, version, protocol, timeStampBit, pathBit, destinationBit, port, encryptedBit, reserved, ackBit, addedHeaderBit, hopLimit, payloadLength, sourcePlace, destinationPlace, pduIdPlace, pathCountPlace, destinationIn, headerOf}
+use Rattle.pdu.specs.Header.{isSet, version, protocol, timeStampBit, pathBit, destinationBit, port, encryptedBit, reserved, ackBit, addedHeaderBit}
+use Rattle.pdu.specs.Header.{hopLimit, payloadLength, sourcePlace, destinationPlace, pduIdPlace, pathCountPlace, destinationIn, headerOf}
 use Rattle.pdu.specs.Sizes.{fixedLength, destinationFlag, pathEntries, pathStart, headerLength, pduLength}
 use Rattle.pdu.specs.Reading.{readOf}
 use Rattle.pdu.specs.Parts.{addressesAt, pathIn, payloadIn}

@@ -15,7 +15,10 @@ freed-record-requires : tie.Need-freed-record-requires
 freed-record-requires c κs = search needs
 
 returns : tie.Need-returns
-returns c = let a = c .before .before .before .before .before .args in simp (c .freed-record .ensures) (dropped (a .e) (a .r) (now (a .output)) (c .before .if1 .taken))
+returns c =
+    let at-deed = c .before in
+    let a = at-deed .before .before .before .before .args in
+    simp (c .freed-record .ensures) (dropped (a .e) (a .r) (now (a .output)) (at-deed .if1 .taken))
 
 slice-aggregate-part : tie.Need-slice-aggregate-part
 slice-aggregate-part c = search needs
@@ -30,7 +33,12 @@ same-length : tie.Need-same-length
 same-length c = search needs
 
 returns-2 : tie.Need-returns-2
-returns-2 c = let a = c .before .before .before .before .before .before .before .before .before .before .before .args in resent (a .e) (a .r) (now (a .output)) _ _ _ (c .before .before .before .before .before .before .before .if1 .left) refl (c .before .before .before .part .ensures .bytes) (c .before .before .put .ensures .1)
+returns-2 c =
+    let at-put = c .before .before in
+    let at-part = at-put .before in
+    let at-deed = at-part .before .before .before .before in
+    let a = at-deed .before .before .before .before .args in
+    resent (a .e) (a .r) (now (a .output)) _ _ _ (at-deed .if1 .left) refl (at-part .part .ensures .bytes) (at-put .put .ensures .1)
 
 pub send-spec : {M : Type 1} → statement M
 send-spec =

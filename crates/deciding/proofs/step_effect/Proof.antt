@@ -16,13 +16,21 @@ changed-requires : tie.Need-changed-requires
 changed-requires c κs = search needs
 
 returns : tie.Need-returns
-returns c = let a = c .before .before .before .before .before .before .before .before .before .args in c .changed .ensures ∙ sends (a .a) (a .s) (c .before .before .before .before .before .before .before .if1 .taken) (c .before .before .if2 .taken)
+returns c =
+    let again = c .before .before in
+    let due = again .before .before .before .before .before in
+    let a = due .before .before .args in
+    c .changed .ensures ∙ sends (a .a) (a .s) (due .if1 .taken) (again .if2 .taken)
 
 changed-requires-2 : tie.Need-changed-requires-2
 changed-requires-2 c κs = search needs
 
 returns-2 : tie.Need-returns-2
-returns-2 c = let a = c .before .before .before .before .before .before .before .before .args in c .changed2 .ensures ∙ drops (a .a) (a .s) (c .before .before .before .before .before .before .if1 .taken) (c .before .if2 .left)
+returns-2 c =
+    let again = c .before in
+    let due = again .before .before .before .before .before in
+    let a = due .before .before .args in
+    c .changed2 .ensures ∙ drops (a .a) (a .s) (due .if1 .taken) (again .if2 .left)
 
 unchanged-requires : tie.Need-unchanged-requires
 unchanged-requires c κs = search needs

@@ -2,7 +2,8 @@ use Prim.Native.Nat.{_≤_, _-_, _%_}
 use mathlib.Core.Path.{_≡_, _∙_, sym}
 use lib.ListN.{length}
 use Rattle.lists.specs.Lists.{faultOf, listsOf, inOrder, listFault}
-use Rattle.lists.proofs.Laws.{rangeFaultFrom, firstFaultFrom, too-long, odd-number, only-ranges, range-right, range-wrong, ranges-end, lists-start, list-right, list-wrong, lists-end}
+use Rattle.lists.proofs.Laws.{rangeFaultFrom, firstFaultFrom, too-long, odd-number, only-ranges, range-right}
+use Rattle.lists.proofs.Laws.{range-wrong, ranges-end, lists-start, list-right, list-wrong, lists-end}
 use native.Mathlib.Omega.{arith}
 use borrow.Author.Needs.{needs}
 use Rattle.lists.proofs.fault.Statement.{statement}

@@ -14,8 +14,9 @@ returns c =
     let at-header = at-payload .before in
     let at-begin = at-header .before in
     let a = at-begin .before .before .before .args in
+    let of-pdu = at-payload .payload .ensures .bytes ∙ ap (λ (h : Header). payloadIn h (a .pdu .now)) (at-header .header-of .ensures) in
     c .finish-hash .ensures ∙ hash-is (a .sent .now) _ (a .number) _ _ (at-begin .begin-hash .ensures) (at-feed .feed .ensures)
-    ∙ ap (hashBytes (a .sent .now) (a .number)) (at-payload .payload .ensures .bytes ∙ ap (λ (h : Header). payloadIn h (a .pdu .now)) (at-header .header-of .ensures))
+    ∙ ap (hashBytes (a .sent .now) (a .number)) of-pdu
 
 pub hash-of-spec : {M : Type 1} → statement M
 hash-of-spec =

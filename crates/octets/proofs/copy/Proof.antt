@@ -36,7 +36,10 @@ same-length : tie.Need-same-length
 same-length c = search needs
 
 returns : tie.Need-returns
-returns c = let a = c .before .before .before .before .before .before .before .args in copied-over (now (a .part)) (now (a .output)) _ (c .before .before .copy .ensures .1)
+returns c =
+    let at-copy = c .before .before in
+    let a = at-copy .before .before .before .before .before .args in
+    copied-over (now (a .part)) (now (a .output)) _ (at-copy .copy .ensures .1)
 
 same-length-2 : tie.Need-same-length-2
 same-length-2 c = search needs

@@ -27,7 +27,11 @@ put-plain-requires c κs =
     let at-early = at-keys .before .before in
     let a = at-early .before .before .before .before .before .args in
     let none = sym (at-early .keyless-fault .ensures) ∙ at-keys .before .if1 .left in
-    let is = ready (a .key) (a .memory .now) (a .pdu .now) (a .output .now) _ _ _ _ _ _ none (at-header .header-of .ensures) (at-payload .payload .ensures .bytes) (at-number .number-in .ensures) (at-keys .expand .ensures)
+    let header-is = at-header .header-of .ensures in
+    let payload-is = at-payload .payload .ensures .bytes in
+    let number-is = at-number .number-in .ensures in
+    let keys-are = at-keys .expand .ensures in
+    let is = ready (a .key) (a .memory .now) (a .pdu .now) (a .output .now) _ _ _ _ _ _ none header-is payload-is number-is keys-are
     (at-nonce .nonce .ensures) (at-late .keyed-fault .ensures) in
     (is .0, is .1)
 
@@ -44,13 +48,18 @@ returns-2 c =
     let at-early = at-keys .before .before in
     let a = at-early .before .before .before .before .before .args in
     let none = sym (at-early .keyless-fault .ensures) ∙ at-keys .before .if1 .left in
-    opened (a .key) (a .memory .now) (a .pdu .now) (a .output .now) _ _ _ _ _ _ none (at-header .header-of .ensures) (at-payload .payload .ensures .bytes) (at-number .number-in .ensures) (at-keys .expand .ensures)
-    (at-nonce .nonce .ensures) (at-late .keyed-fault .ensures)
-    _ _ _ (at-put .put-plain .ensures) (at-note .note .ensures)
+    let header-is = at-header .header-of .ensures in
+    let payload-is = at-payload .payload .ensures .bytes in
+    let number-is = at-number .number-in .ensures in
+    let keys-are = at-keys .expand .ensures in
+    opened (a .key) (a .memory .now) (a .pdu .now) (a .output .now) _ _ _ _ _ _ none header-is payload-is number-is keys-are
+    (at-nonce .nonce .ensures) (at-late .keyed-fault .ensures) _ _ _ (at-put .put-plain .ensures) (at-note .note .ensures)
 
 pub open-spec : {M : Type 1} → statement M
 open-spec =
     tie.close
     (tie.spec
-    (λ c κs. search needs) (λ c κs. search needs) (λ c. search needs) returns (λ c κs. search needs) (λ c κs. search needs) keyed-fault-requires (λ c κs. search needs)
-    (λ c κs. search needs) (λ c κs. search needs) put-plain-requires (λ c κs. search needs) (λ c. search needs) (λ c. search needs) returns-2)
+    (λ c κs. search needs) (λ c κs. search needs) (λ c. search needs) returns
+    (λ c κs. search needs) (λ c κs. search needs) keyed-fault-requires
+    (λ c κs. search needs) (λ c κs. search needs) (λ c κs. search needs) put-plain-requires
+    (λ c κs. search needs) (λ c. search needs) (λ c. search needs) returns-2)

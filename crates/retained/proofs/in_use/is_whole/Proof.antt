@@ -19,10 +19,21 @@ returns-3 : tie.Need-returns-3
 returns-3 c = simp (eq-eqb _ _ (c .before .before .if1 .left), eq-eqb _ _ (c .before .if2 .left), ne-eqb _ _ (c .if3 .taken))
 
 returns-4 : tie.Need-returns-4
-returns-4 c = simp (eq-eqb _ _ (c .before .before .before .if1 .left), eq-eqb _ _ (c .before .before .if2 .left), eq-eqb _ _ (c .before .if3 .left), lt-leb _ _ (c .if4 .taken))
+returns-4 c = simp (
+  eq-eqb _ _ (c .before .before .before .if1 .left),
+  eq-eqb _ _ (c .before .before .if2 .left),
+  eq-eqb _ _ (c .before .if3 .left),
+  lt-leb _ _ (c .if4 .taken),
+)
 
 returns-5 : tie.Need-returns-5
-returns-5 c = simp (eq-eqb _ _ (c .before .before .before .before .if1 .left), eq-eqb _ _ (c .before .before .before .if2 .left), eq-eqb _ _ (c .before .before .if3 .left), le-leb _ _ (c .before .if4 .left), ne-eqb _ _ (c .if5 .taken))
+returns-5 c = simp (
+  eq-eqb _ _ (c .before .before .before .before .if1 .left),
+  eq-eqb _ _ (c .before .before .before .if2 .left),
+  eq-eqb _ _ (c .before .before .if3 .left),
+  le-leb _ _ (c .before .if4 .left),
+  ne-eqb _ _ (c .if5 .taken),
+)
 
 byte-value-requires : tie.Need-byte-value-requires
 byte-value-requires c κs = search needs
