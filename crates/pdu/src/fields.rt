@@ -37,7 +37,7 @@ fn no_destination(byte0: u8) -> bool
     }
 }
 
-// The same header, once its fields that may be missing were found.
+// The header that bytes show, from the three fields that byte 0 calls for, found before; the others, always there, are read here.
 pub(crate) fn header_from(
     bytes: &[u8],
     destination: Destination,
