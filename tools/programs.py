@@ -273,7 +273,7 @@ def missed(log):
     """The facts that a log shows as missed, as (function or file of laws, need), and the places where a proof has another shape. A law that gives a record is
     missed field by field, as `law.field`, by the copy that the log stands in."""
     facts, shapes = set(), set()
-    for line in log.read_text(errors='replace').splitlines():
+    for line in re.sub(r'\n  +', ' ', log.read_text(errors='replace')).splitlines():
         if found := re.match(r'^\S*?/?proofs/(\S+?)\.antt:(\d+):\d+: error: (?:`([^`]+)`: )?(.*)', line):
             place, number, need, what = found.groups()
             file, place = log.parent / f'proofs/{place}.antt', place.removesuffix('/Proof')
