@@ -266,7 +266,8 @@ def rests_beside(crate, programs):
 
 
 def shape_of(line):
-    return re.search(r'has no field|that can be named from here|expected type `tie\.Need', line)
+    """Whether what the prover says is that a proof does not fit the function's code: the need's own form, or in a walk by hand the code that it walks over."""
+    return re.search(r'has no field|that can be named from here|expected type `tie\.Need|`[^`]*\b(?:package\.mir|prog\.Wp\.spotOf)\b', line)
 
 
 def missed(log):
