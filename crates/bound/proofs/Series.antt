@@ -7,55 +7,55 @@ use native.Mathlib.Nat.{mul-assoc, mul-pos, mul-le-mul, le-mul-of-pos-right, add
 use native.Mathlib.Omega.{arith}
 use borrow.Author.Tests.{eq-eqb, ne-eqb}
 use lib.Dec.{eqb}
-use Rattle.bound.specs.Bound.{product, series, terms}
+use Rattle.bound.specs.Bound.{fallingProduct, series, terms}
 
-pub product-positive : (n k : ℕ) → k ≤ n → 0 < product n k
-unfolding product
+pub product-positive : (n k : ℕ) → k ≤ n → 0 < fallingProduct n k
+unfolding fallingProduct
 product-positive n zero h = omega arith
 product-positive n (suc k) h = mul-pos (product-positive n k (omega arith)) (omega arith)
 
-product-larger : (n more k : ℕ) → n ≤ more → product n k ≤ product more k
-unfolding product
+product-larger : (n more k : ℕ) → n ≤ more → fallingProduct n k ≤ fallingProduct more k
+unfolding fallingProduct
 product-larger n more zero h = omega arith
 product-larger n more (suc k) h = mul-le-mul (product-larger n more k h) (omega arith)
 
-product-longer : (n k d : ℕ) → k + d ≤ n → product n k ≤ product n (k + d)
-unfolding product
+product-longer : (n k d : ℕ) → k + d ≤ n → fallingProduct n k ≤ fallingProduct n (k + d)
+unfolding fallingProduct
 product-longer n k zero h = rw (add-zero k) (omega arith)
 product-longer n k (suc d) h =
-    rw (add-suc k d) (omega (arith, product-longer n k d (omega arith), le-mul-of-pos-right {m = n - (k + d)} (product n (k + d)) (omega arith)))
+    rw (add-suc k d) (omega (arith, product-longer n k d (omega arith), le-mul-of-pos-right {m = n - (k + d)} (fallingProduct n (k + d)) (omega arith)))
 
 -- 21 factors are past 64 bits
-pub product-past : (n k : ℕ) → 21 ≤ k → k ≤ n → 2 ^ 64 ≤ product n k
-unfolding product
+pub product-past : (n k : ℕ) → 21 ≤ k → k ≤ n → 2 ^ 64 ≤ fallingProduct n k
+unfolding fallingProduct
 product-past n k long h =
-    let least : product 21 21 ≡ 51090942171709440000 = refl in
+    let least : fallingProduct 21 21 ≡ 51090942171709440000 = refl in
     let split : 21 + (k - 21) ≡ k = omega arith in
-    omega (arith, product-larger 21 n 21 (omega arith), product-longer n 21 (k - 21) (omega arith), ap (product n) split)
+    omega (arith, product-larger 21 n 21 (omega arith), product-longer n 21 (k - 21) (omega arith), ap (fallingProduct n) split)
 
 -- one factor taken out in front
-product-front : (n k : ℕ) → product n (suc k) ≡ n * product (n - 1) k
-unfolding product
+product-front : (n k : ℕ) → fallingProduct n (suc k) ≡ n * fallingProduct (n - 1) k
+unfolding fallingProduct
 product-front n zero = omega arith
 product-front n (suc k) =
-    ap (λ (x : ℕ). x * (n - suc k)) (product-front n k) ∙ mul-assoc n (product (n - 1) k) (n - suc k)
-    ∙ ap (λ (x : ℕ). n * (product (n - 1) k * x)) (omega arith)
+    ap (λ (x : ℕ). x * (n - suc k)) (product-front n k) ∙ mul-assoc n (fallingProduct (n - 1) k) (n - suc k)
+    ∙ ap (λ (x : ℕ). n * (fallingProduct (n - 1) k * x)) (omega arith)
 
 -- the series by its first term: weight 0 + n (weight 1 + (n - 1) (weight 2 + ..))
 pub series-front : (weight : ℕ → ℕ) (n m : ℕ) → series weight n (suc m) ≡ weight 0 + n * series (λ k. weight (suc k)) (n - 1) m
-unfolding series product
-series-front weight n zero = let one : product n 1 ≡ n = omega arith in ap (λ (x : ℕ). weight 0 + x * weight 1) one
+unfolding series fallingProduct
+series-front weight n zero = let one : fallingProduct n 1 ≡ n = omega arith in ap (λ (x : ℕ). weight 0 + x * weight 1) one
 series-front weight n (suc m) =
-    ap (λ (x : ℕ). x + product n (suc (suc m)) * weight (suc (suc m))) (series-front weight n m)
+    ap (λ (x : ℕ). x + fallingProduct n (suc (suc m)) * weight (suc (suc m))) (series-front weight n m)
     ∙ ap (λ (x : ℕ). weight 0 + n * series (λ k. weight (suc k)) (n - 1) m + x * weight (suc (suc m))) (product-front n (suc m))
-    ∙ omega (arith, mul-assoc n (product (n - 1) (suc m)) (weight (suc (suc m))))
+    ∙ omega (arith, mul-assoc n (fallingProduct (n - 1) (suc m)) (weight (suc (suc m))))
 
 pub series-same : (weight other : ℕ → ℕ) (n m : ℕ) → ((k : ℕ) → weight k ≡ other k) → series weight n m ≡ series other n m
 unfolding series
 series-same weight other n zero same = same 0
 series-same weight other n (suc m) same =
-    ap (λ (x : ℕ). x + product n (suc m) * weight (suc m)) (series-same weight other n m same)
-    ∙ ap (λ (x : ℕ). series other n m + product n (suc m) * x) (same (suc m))
+    ap (λ (x : ℕ). x + fallingProduct n (suc m) * weight (suc m)) (series-same weight other n m same)
+    ∙ ap (λ (x : ℕ). series other n m + fallingProduct n (suc m) * x) (same (suc m))
 
 -- the series grows with its terms
 series-grows : (weight : ℕ → ℕ) (n k d : ℕ) → series weight n k ≤ series weight n (k + d)
@@ -63,7 +63,7 @@ unfolding series
 series-grows weight n k zero = rw (add-zero k) (omega arith)
 series-grows weight n k (suc d) = rw (add-suc k d) (omega (arith, series-grows weight n k d))
 
-pub series-more : (weight : ℕ → ℕ) (n k m : ℕ) → k < m → series weight n k + product n (suc k) * weight (suc k) ≤ series weight n m
+pub series-more : (weight : ℕ → ℕ) (n k m : ℕ) → k < m → series weight n k + fallingProduct n (suc k) * weight (suc k) ≤ series weight n m
 unfolding series
 series-more weight n k m h =
     let split : suc k + (m - suc k) ≡ m = omega arith in

@@ -6,15 +6,15 @@ use Rattle.bound.specs.declared.Bound.{Bound}
 use Rattle.bound.specs.declared.Bound.the-variants.{Exactly, TooLarge, HopRefused}
 
 -- the number, or that it is more than 64 bits hold
-unfoldable pub fitting : ℕ → Bound
-fitting number = cond (ltb number (2 ^ 64)) (Exactly number) TooLarge
+unfoldable pub within64Bits : ℕ → Bound
+within64Bits number = cond (ltb number (2 ^ 64)) (Exactly number) TooLarge
 
 -- the answer at a hop limit whose bound is that number: a hop setting above 7 is refused (Numbers answered, 10)
-unfoldable pub answer : ℕ → ℕ → Bound
-answer hopLimit number = cond (ltb 7 hopLimit) HopRefused (fitting number)
+unfoldable pub boundAnswer : ℕ → ℕ → Bound
+boundAnswer hopLimit number = cond (ltb 7 hopLimit) HopRefused (within64Bits number)
 
 -- the number that goes with an answer: 10 for the refused hop setting, 0 for the others (Numbers answered)
-abbrev pub refusalNumber : Bound → ℕ
-refusalNumber (Exactly number) = 0
-refusalNumber TooLarge = 0
-refusalNumber HopRefused = 10
+abbrev pub boundNumber : Bound → ℕ
+boundNumber (Exactly number) = 0
+boundNumber TooLarge = 0
+boundNumber HopRefused = 10

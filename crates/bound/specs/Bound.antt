@@ -4,14 +4,14 @@ use Prim.Native.Nat.{ℕ, zero, suc, _+_, _*_, _-_, min}
 use lib.Dec.{eqb}
 
 -- n (n - 1) (n - 2) .., k factors: as many paths name k different nodes of n
-unfoldable pub product : ℕ → ℕ → ℕ
-product n zero = 1
-product n (suc k) = product n k * (n - k)
+unfoldable pub fallingProduct : ℕ → ℕ → ℕ
+fallingProduct n zero = 1
+fallingProduct n (suc k) = fallingProduct n k * (n - k)
 
 -- weight 0 + n * weight 1 + n (n - 1) * weight 2 + .., m terms after the first
 unfoldable pub series : (ℕ → ℕ) → ℕ → ℕ → ℕ
 series weight n zero = weight 0
-series weight n (suc m) = series weight n m + product n (suc m) * weight (suc m)
+series weight n (suc m) = series weight n m + fallingProduct n (suc m) * weight (suc m)
 
 -- m, the terms after the first: the smaller of the hop limit h and n, or n if h is 7, since 7 is kept (One PDU at one node)
 unfoldable pub terms : ℕ → ℕ → ℕ

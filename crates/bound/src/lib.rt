@@ -2,7 +2,7 @@
 ghost use mathlib.Core.Path.{_≡_};
 ghost use Prim.Native.Nat.{_+_, _*_, _<_, _≤_};
 ghost use Rattle.bound.specs.Bound.{series, terms, bound, bytesBound};
-ghost use Rattle.bound.specs.Answer.{fitting, answer, refusalNumber};
+ghost use Rattle.bound.specs.Answer.{within64Bits, boundAnswer, boundNumber};
 
 // An answer: the number, or that it is more than 64 bits hold, or that the hop limit is above 7.
 pub enum Bound {
@@ -18,7 +18,7 @@ const TOP: u64 = 18446744073709551615;
 // node, the originator too, and no two nodes have the same address. Any numbers are answered, within 21 turns of a loop: `HopRefused` for a hop limit
 // above 7, else `TooLarge` where 64 bits do not hold the number. Document 01, "Checked by hand", the bound of demand 3; document 02, W-203.
 pub fn most_transmissions(nodes: u64, hop_limit: u64) -> Bound
-    ensures { λ r. ⌜ r ≡ answer «hop_limit» (bound nodes «hop_limit») ⌝ }
+    ensures { λ r. ⌜ r ≡ boundAnswer «hop_limit» (bound nodes «hop_limit») ⌝ }
 {
     at_hop_limit(nodes, hop_limit, 1, 0)
 }
@@ -27,14 +27,14 @@ pub fn most_transmissions(nodes: u64, hop_limit: u64) -> Bound
 // `most_transmissions` does. Any size is answered, also one that no PDU has; `HopRefused` for a hop limit above 7, else `TooLarge` where 64 bits do
 // not hold the bytes, which may be so where they hold the transmissions. Document 01, "One PDU at one node", by how much a PDU grows.
 pub fn most_bytes(nodes: u64, hop_limit: u64, size: u64) -> Bound
-    ensures { λ r. ⌜ r ≡ answer «hop_limit» (bytesBound nodes «hop_limit» size) ⌝ }
+    ensures { λ r. ⌜ r ≡ boundAnswer «hop_limit» (bytesBound nodes «hop_limit» size) ⌝ }
 {
     at_hop_limit(nodes, hop_limit, size, 2)
 }
 
 // The number that goes with an answer: 10 for a hop limit that is refused, else 0. Document 01, "Numbers answered", 10.
 pub fn refusal(bound: Bound) -> u64
-    ensures { λ r. ⌜ r ≡ refusalNumber bound ⌝ }
+    ensures { λ r. ⌜ r ≡ boundNumber bound ⌝ }
 {
     match bound {
         Bound::Exactly(_) => 0,
@@ -46,7 +46,7 @@ pub fn refusal(bound: Bound) -> u64
 // The bound where a message with k path entries counts as size + growth * k.
 fn at_hop_limit(nodes: u64, hop_limit: u64, size: u64, growth: u64) -> Bound
     requires { ⌜ 0 < size + growth ⌝ }
-    ensures { λ r. ⌜ r ≡ answer «hop_limit» (series (λ k. size + growth * k) nodes (terms nodes «hop_limit»)) ⌝ }
+    ensures { λ r. ⌜ r ≡ boundAnswer «hop_limit» (series (λ k. size + growth * k) nodes (terms nodes «hop_limit»)) ⌝ }
 {
     if hop_limit > 7 {
         return Bound::HopRefused;
@@ -68,7 +68,7 @@ fn terms_of(nodes: u64, hop_limit: u64) -> u64
 // first. A product of 21 factors does not fit 64 bits, so there are never more turns than that.
 fn add_up(nodes: u64, terms: u64, size: u64, growth: u64) -> Bound
     requires { ⌜ (terms ≤ nodes) × (0 < size + growth) ⌝ }
-    ensures { λ r. ⌜ r ≡ fitting (series (λ k. size + growth * k) nodes terms) ⌝ }
+    ensures { λ r. ⌜ r ≡ within64Bits (series (λ k. size + growth * k) nodes terms) ⌝ }
 {
     let mut total = size;
     let mut paths: u64 = 1;
@@ -96,7 +96,7 @@ fn add_up(nodes: u64, terms: u64, size: u64, growth: u64) -> Bound
 }
 
 fn times(a: u64, b: u64) -> Bound
-    ensures { λ r. ⌜ r ≡ fitting (a * b) ⌝ }
+    ensures { λ r. ⌜ r ≡ within64Bits (a * b) ⌝ }
 {
     if b == 0 {
         return Bound::Exactly(0);
@@ -108,7 +108,7 @@ fn times(a: u64, b: u64) -> Bound
 }
 
 fn plus(a: u64, b: u64) -> Bound
-    ensures { λ r. ⌜ r ≡ fitting (a + b) ⌝ }
+    ensures { λ r. ⌜ r ≡ within64Bits (a + b) ⌝ }
 {
     if a > TOP - b {
         return Bound::TooLarge;

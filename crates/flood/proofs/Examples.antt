@@ -16,7 +16,7 @@ use Rattle.pdu.specs.Reading.{readOf}
 use Rattle.pdu.specs.Parts.{addressesAt, inPath}
 use Rattle.writing.specs.Writing.{headerBytes, pathBytes, encode}
 use Rattle.lists.specs.Lists.{listsOf, lowAboveHigh, faultOf, firstFault}
-use Rattle.bound.specs.Bound.{product, series, terms, bound, bytesBound}
+use Rattle.bound.specs.Bound.{fallingProduct, series, terms, bound, bytesBound}
 use Rattle.origin.specs.declared.Settings.{Settings}
 use Rattle.origin.specs.Origination.{freshHeader, fresh, settingsFault, originationNumber}
 use Rattle.decision.specs.Decision.{nodeOf, echoFault, passFault, dropFault, repeatFault}
@@ -152,7 +152,7 @@ pub record Computed : Type 0 where
       ∷ (0x02 ∷ 0x00 ∷ 0x00 ∷ 0x01 ∷ 0x03 ∷ 0xE8 ∷ 0x02 ∷ 0x00 ∷ 0x01 ∷ 0x00 ∷ 0x02 ∷ 0x70 ∷ []) ∷ []
 
 pub computed : Computed
-unfolding bound bytesBound series product terms total others air rounds round flood answer sends fresh freshHeader encode headerBytes pathBytes
+unfolding bound bytesBound series fallingProduct terms total others air rounds round flood answer sends fresh freshHeader encode headerBytes pathBytes
     repeated repeatNumber stopFault listOrReadingFault firstFault faultOf lowAboveHigh readOf headerOf dropFault echoFault passFault
     repeatFault addressesAt inPath _gives_ _orElse_
 computed =
@@ -186,7 +186,7 @@ pair-fit a m =
     ⊎-elim (λ (e : a ≡ 1000). omega arith) (λ k. let e : a ≡ 1 = List·Memᴰ·eq-of-singleton k in omega arith) (List·Memᴰ·cases-cons m)
 
 pair-most : bound (length (others address 1000 (pair true))) 2 ≡ 2
-unfolding bound series product terms others
+unfolding bound series fallingProduct terms others
 pair-most = refl
 
 pub never-three : (receptions : List Reception) → List·Nodup receptions → length (onTheAir (pair true) (begun true 2) receptions) ≤ 2

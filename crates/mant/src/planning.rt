@@ -3,7 +3,7 @@ use boundary::MantBound;
 use boundary::MantLimits;
 ghost use mathlib.Core.Path.{_≡_};
 ghost use Rattle.bound.specs.Bound.{bound, bytesBound};
-ghost use Rattle.bound.specs.Answer.{answer};
+ghost use Rattle.bound.specs.Answer.{boundAnswer};
 ghost use Rattle.boundary.specs.Boundary.{boundInC, limitsInC};
 
 // The most transmissions that one fresh message with that hop limit can cause among so many repeating nodes, its own counted. The node that originated
@@ -12,7 +12,7 @@ ghost use Rattle.boundary.specs.Boundary.{boundInC, limitsInC};
 // value. Document 01, "Checked by hand", the bound of demand 3; document 02, W-203.
 #[no_mangle]
 pub extern "C" fn mant_most_transmissions(nodes: u64, hop_limit: u64) -> MantBound
-    ensures { λ r. ⌜ r ≡ boundInC (answer «hop_limit» (bound nodes «hop_limit»)) ⌝ }
+    ensures { λ r. ⌜ r ≡ boundInC (boundAnswer «hop_limit» (bound nodes «hop_limit»)) ⌝ }
 {
     boundary::bound_in_c(bound::most_transmissions(nodes, hop_limit))
 }
@@ -22,7 +22,7 @@ pub extern "C" fn mant_most_transmissions(nodes: u64, hop_limit: u64) -> MantBou
 // Document 01, "One PDU at one node", by how much a PDU grows.
 #[no_mangle]
 pub extern "C" fn mant_most_bytes(nodes: u64, hop_limit: u64, size: u64) -> MantBound
-    ensures { λ r. ⌜ r ≡ boundInC (answer «hop_limit» (bytesBound nodes «hop_limit» size)) ⌝ }
+    ensures { λ r. ⌜ r ≡ boundInC (boundAnswer «hop_limit» (bytesBound nodes «hop_limit» size)) ⌝ }
 {
     boundary::bound_in_c(bound::most_bytes(nodes, hop_limit, size))
 }

@@ -25,7 +25,7 @@ use Rattle.node.specs.Answers.{Hears}
 use Rattle.node.proofs.Answering.{read-sender, given-twice}
 use Rattle.node.proofs.Chain.{holds-stop, holds-delivery, holds-repeat, unread-small}
 use Rattle.node.proofs.Heard.{dropped-stop, dropped-delivery}
-use Rattle.bound.specs.Bound.{product, series, terms, bound}
+use Rattle.bound.specs.Bound.{fallingProduct, series, terms, bound}
 use Rattle.flood.specs.Flood.{Reception, flood, answer, others}
 use Rattle.flood.specs.Air.{address, sends, onTheAir}
 use Rattle.flood.proofs.Demand.{begun-source}
@@ -144,7 +144,7 @@ never-three receptions once =
     subst (λ (first : List ℕ). length (onTheAir (network true) first receptions) ≤ 2) report-is (examples.never-three receptions once)
 
 pub own-report : OwnReport
-unfolding bound series product terms others flood answer sends repeated repeatNumber deliveryNumber stopFault listOrReadingFault firstFault faultOf
+unfolding bound series fallingProduct terms others flood answer sends repeated repeatNumber deliveryNumber stopFault listOrReadingFault firstFault faultOf
     lowAboveHigh holds readOf headerOf dropFault echoFault passFault deliveryFault repeatFault taken heardFrom answerOf addressesAt inPath
     lastOr _gives_ _orElse_
 own-report =

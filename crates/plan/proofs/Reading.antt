@@ -9,7 +9,7 @@ use borrow.Author.Tests.{lt-ltb, le-ltb}
 use denote.Enum.Declared.{tagOf}
 use lib.ListN.{length, getD, drop, drop-of-length-le}
 use lib.Seq.{drop-cons}
-use Rattle.plan.specs.Argument.{withDigit, andThen, readOn, argumentOf}
+use Rattle.plan.specs.Argument.{withDigit, thenDigit, readOn, argumentOf}
 use Rattle.plan.specs.declared.argument.Argument.{Argument}
 use Rattle.plan.specs.declared.argument.Argument.the-variants.{Number, NotDecimal, TooLong}
 use Rattle.plan.proofs.argument.Argument.{the-type}
@@ -42,20 +42,20 @@ unfolding argumentOf
 read-start [] some = absurd (some refl)
 read-start (b ∷ l) some = refl
 
-read-step : (l : List ℕ) (n i : ℕ) → i < length l → readOn n (drop i l) ≡ andThen (withDigit n (getD l i 0)) (λ m. readOn m (drop (i + 1) l))
+read-step : (l : List ℕ) (n i : ℕ) → i < length l → readOn n (drop i l) ≡ thenDigit (withDigit n (getD l i 0)) (λ m. readOn m (drop (i + 1) l))
 unfolding readOn
 read-step l n i h = rw (drop-cons l i 0 h, add-one i)
 
 pub read-more : (l : List ℕ) (n i m : ℕ) {r : Argument} → i < length l → r ≡ withDigit n (getD l i 0) → r ≡ Number m
     → readOn n (drop i l) ≡ readOn m (drop (i + 1) l)
-read-more l n i m h is number = read-step l n i h ∙ ap (λ (a : Argument). andThen a (λ k. readOn k (drop (i + 1) l))) (sym is ∙ number)
+read-more l n i m h is number = read-step l n i h ∙ ap (λ (a : Argument). thenDigit a (λ k. readOn k (drop (i + 1) l))) (sym is ∙ number)
 
 pub read-stop : (l : List ℕ) (n i : ℕ) (r : Argument) → i < length l → r ≡ withDigit n (getD l i 0)
     → (tagOf the-type r ≡ 1) ⊎ (tagOf the-type r ≡ 2)
     → readOn n (drop i l) ≡ r
-read-stop l n i r h is other = read-step l n i h ∙ ap (λ (a : Argument). andThen a (λ k. readOn k (drop (i + 1) l))) (sym is) ∙ stop r other
+read-stop l n i r h is other = read-step l n i h ∙ ap (λ (a : Argument). thenDigit a (λ k. readOn k (drop (i + 1) l))) (sym is) ∙ stop r other
   where
-    stop : (a : Argument) → (tagOf the-type a ≡ 1) ⊎ (tagOf the-type a ≡ 2) → andThen a (λ k. readOn k (drop (i + 1) l)) ≡ a
+    stop : (a : Argument) → (tagOf the-type a ≡ 1) ⊎ (tagOf the-type a ≡ 2) → thenDigit a (λ k. readOn k (drop (i + 1) l)) ≡ a
     stop (Number k) o = absurd (⊎-elim {C = ⊥} (λ e. omega arith) (λ e. omega arith) o)
     stop NotDecimal o = refl
     stop TooLong o = refl

@@ -13,15 +13,15 @@ withDigit number byte =
     (cond (ltb 57 byte) NotDecimal
     (cond (ltb (number * 10 + (byte - 48)) (2 ^ 64)) (Number (number * 10 + (byte - 48))) TooLong))
 
-abbrev pub andThen : Argument → (ℕ → Argument) → Argument
-andThen (Number number) next = next number
-andThen NotDecimal next = NotDecimal
-andThen TooLong next = TooLong
+abbrev pub thenDigit : Argument → (ℕ → Argument) → Argument
+thenDigit (Number number) next = next number
+thenDigit NotDecimal next = NotDecimal
+thenDigit TooLong next = TooLong
 
 -- digits after a number that was read; the first fault gives the answer
 unfoldable pub readOn : ℕ → List ℕ → Argument
 readOn number [] = Number number
-readOn number (byte ∷ rest) = andThen (withDigit number byte) (λ longer. readOn longer rest)
+readOn number (byte ∷ rest) = thenDigit (withDigit number byte) (λ longer. readOn longer rest)
 
 -- no bytes are no number
 unfoldable pub argumentOf : List ℕ → Argument
