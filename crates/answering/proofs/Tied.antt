@@ -28,7 +28,7 @@ use Rattle.deciding.specs.declared.Effect.{Effect}
 use Rattle.retained.specs.declared.Outcome.{Outcome}
 use Rattle.deciding.specs.declared.Kind.the-variants.{Free, Nothing}
 use Rattle.retained.specs.Records.{namesOf, exchanged, isNamed, freedRecord}
-use Rattle.retained.specs.Table.{tableFault, first, has, freed, answers, did}
+use Rattle.retained.specs.Table.{tableFault, first, has, freed, numberAlone, did}
 use Rattle.deciding.specs.Deciding.{kindNumber, decideNumber, stays, changes, effectOf, decideOf, effectOn}
 use Rattle.retained.specs.Searching.{foundIn}
 use Rattle.answering.specs.Delivered.{isAcknowledgement, isAnswered, ackHeader, acknowledgement, answered, acknowledgeNumber, matching}
@@ -139,7 +139,7 @@ module _ (table : List Retained) (last : ℕ) (delivery : ℕ) (sending : Sendin
       (cond b (cond k (cond m (changes (first (matching received) table) 0 (did freed last (first (matching received) table)
       (exchanged (namesOf received)) 0)) (stays 0 last (length table))) (stays 0 last (length table))) (stays N last (length table)) .outcome)
       ≡ cond b (cond d (did answered last 0 (namesOf received) (pduLength (ackHeader sending (namesOf received))))
-      (cond (k && m) (did freed last (first (matching received) table) (exchanged (namesOf received)) 0) (answers 0 last))) (answers N last)
+      (cond (k && m) (did freed last (first (matching received) table) (exchanged (namesOf received)) 0) (numberAlone 0 last))) (numberAlone N last)
   told true true k m = refl
   told true false true true = refl
   told true false true false = refl

@@ -17,7 +17,7 @@ use Rattle.retained.specs.declared.Names.{Names}
 use Rattle.retained.specs.declared.Retained.{Retained}
 use Rattle.retained.specs.declared.Outcome.{Outcome}
 use Rattle.retained.specs.Records.{namesOf, exchanged, isNamed, freedRecord}
-use Rattle.retained.specs.Table.{tableFault, first, has, freed, answers, did}
+use Rattle.retained.specs.Table.{tableFault, first, has, freed, numberAlone, did}
 
 -- delivered, which the node's delivery number 0 says, of protocol 1 and with ACK set: an acknowledgement
 abbrev pub isAcknowledgement : ℕ → Header → Bool
@@ -74,8 +74,8 @@ acknowledge table last delivery sending room received =
     (did answered last 0 (namesOf received) (pduLength (ackHeader sending (namesOf received))))
     (cond (isAcknowledgement delivery (headerOf received) && has (matching received) table)
     (did freed last (first (matching received) table) (exchanged (namesOf received)) 0)
-    (answers 0 last)))
-    (answers (acknowledgeNumber table delivery sending room received) last)
+    (numberAlone 0 last)))
+    (numberAlone (acknowledgeNumber table delivery sending room received) last)
 
 unfoldable pub tableAcknowledged : List Retained → ℕ → Sending → ℕ → List ℕ → List Retained
 tableAcknowledged table delivery sending room received =

@@ -19,14 +19,14 @@ use Rattle.retained.specs.declared.Outcome.{Outcome}
 use Rattle.deciding.specs.declared.Ask.{Ask}
 use Rattle.deciding.specs.declared.Effect.{Effect}
 use Rattle.retained.specs.Records.{isDue, pduOf, namesOf, retainedRecord, sentRecord, freedRecord}
-use Rattle.retained.specs.Table.{has, recordAt, due, isSpent, answers, did, sent, failed}
-use Rattle.retained.specs.Table.{retainNumber, retain, tableRetained, stepNumber, step, tableStepped, outputStepped}
-use Rattle.retained.specs.Searching.{scanOf, begun}
+use Rattle.retained.specs.Table.{has, recordAt, due, isSpent, numberAlone, did, sent, failed}
+use Rattle.retained.specs.Table.{retainNumber, retain, tableRetained, stepNumber, retryStep, tableStepped, outputStepped}
+use Rattle.retained.specs.Searching.{scanOf, seekBegun}
 use Rattle.retained.proofs.Found.{scan-found}
 use Rattle.deciding.specs.Deciding.{decideNumber, stays, changes, decideOf, effectOn, askRetain, askStep, leftOf, emitted, tableResent, outputResent}
 
 -- the decision on what the search found is the one on the table
-pub searched : (a : Ask) (table : List Retained) (t s : Seek) (e : Effect) → t ≡ begun (a .names) (a .time) (a .delay) (length table)
+pub searched : (a : Ask) (table : List Retained) (t s : Seek) (e : Effect) → t ≡ seekBegun (a .names) (a .time) (a .delay) (length table)
     → s ≡ scanOf 0 table t → e ≡ decideOf a s → e ≡ effectOn a table
 unfolding effectOn
 searched a table t s e p q r = r ∙ ap (decideOf a) (q ∙ ap (scanOf 0 table) p ∙ scan-found table (a .names) (a .time) (a .delay))
@@ -82,7 +82,7 @@ module _ (table : List Retained) (place time last number : ℕ) where
   theStep b d r = cond b (cond d (cond r drops sends) (stays 0 time (length table))) (stays number last (length table))
 
   step-outcome : (b d r : Bool)
-      → theStep b d r .outcome ≡ cond b (cond d (cond r (drops .outcome) (sends .outcome)) (answers 0 time)) (answers number last)
+      → theStep b d r .outcome ≡ cond b (cond d (cond r (drops .outcome) (sends .outcome)) (numberAlone 0 time)) (numberAlone number last)
   step-outcome true true true = refl
   step-outcome true true false = refl
   step-outcome true false r = refl
@@ -143,8 +143,8 @@ module _ (table : List Retained) (last time delay tries room : ℕ) where
   unfolding effectOn decideOf decideNumber stepNumber _orElse_
   step-is = refl
 
-  step-told : its .outcome ≡ step table last time delay tries room
-  unfolding step
+  step-told : its .outcome ≡ retryStep table last time delay tries room
+  unfolding retryStep
   step-told = step-outcome table place time last number b d r
 
   step-left : tableResent its table ≡ tableStepped table last time delay tries room
@@ -167,7 +167,7 @@ module _ (table : List Retained) (last time delay tries : ℕ) (output : List �
 
   pub step-tied : (a : Ask) (e : Effect) (after : List Retained) (shown : List ℕ) → a ≡ askStep last time delay tries (length output)
       → e ≡ effectOn a table → (after ≡ tableResent e table) × (shown ≡ outputResent e table output)
-      → (e .outcome ≡ step table last time delay tries (length output)) × (after ≡ tableStepped table last time delay tries (length output))
+      → (e .outcome ≡ retryStep table last time delay tries (length output)) × (after ≡ tableStepped table last time delay tries (length output))
       × (shown ≡ outputStepped table last time delay tries output)
   step-tied a e after shown p q o = (
     ap (λ (x : Effect). x .outcome) is ∙ step-told table last time delay tries (length output),

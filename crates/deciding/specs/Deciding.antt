@@ -14,7 +14,7 @@ use Rattle.deciding.specs.declared.Kind.the-variants.{Retain, Step, Free
 use Rattle.deciding.specs.declared.Ask.{Ask}
 use Rattle.deciding.specs.declared.Effect.{Effect}
 use Rattle.retained.specs.Records.{unfit, pduOf, namesOf, freedRecord}
-use Rattle.retained.specs.Table.{tableSize, recordAt, isSpent, kept, sent, failed, freed, noNames, answers, did}
+use Rattle.retained.specs.Table.{tableSize, recordAt, isSpent, kept, sent, failed, freed, noNames, numberAlone, did}
 use Rattle.retained.specs.Searching.{foundIn}
 
 -- the refusals in 02's order: 10 and 11 before the table is looked at, 74, 73, then `late`, which is 75 or 72 of a PDU to retain and 77 of a PDU heard,
@@ -35,7 +35,7 @@ decideNumber a s =
 
 -- no record changes: the place is past the last
 abbrev pub stays : ℕ → ℕ → ℕ → Effect
-stays number last size = record { place = size; count = 0; outcome = answers number last }
+stays number last size = record { place = size; count = 0; outcome = numberAlone number last }
 
 abbrev pub changes : ℕ → ℕ → Outcome → Effect
 changes place count outcome = record { place = place; count = count; outcome = outcome }

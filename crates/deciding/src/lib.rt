@@ -6,7 +6,7 @@ use retained::Seek;
 use retained::Seen;
 ghost use mathlib.Core.Path.{_≡_};
 ghost use Rattle.retained.specs.Table.{did};
-ghost use Rattle.retained.specs.Searching.{begun};
+ghost use Rattle.retained.specs.Searching.{seekBegun};
 ghost use Rattle.deciding.specs.Deciding.{kindNumber, decideNumber, stays, changes, effectOf, decideOf, askRetain, askStep, emitted, leftOf};
 ghost use Rattle.deciding.specs.declared.Kind.the-variants.{Retain, Step, Free};
 
@@ -87,7 +87,7 @@ fn no_names() -> Names
 
 // The search that an ask needs, over so many records, before any of them. Document 02, W-210.
 pub fn begin_for(a: Ask, count: usize) -> Seek
-    ensures { λ r. ⌜ r ≡ begun (a .names) (a .time) (a .delay) count ⌝ }
+    ensures { λ r. ⌜ r ≡ seekBegun (a .names) (a .time) (a .delay) count ⌝ }
 {
     let names = a.names;
     let found = Seen {

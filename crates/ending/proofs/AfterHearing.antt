@@ -11,12 +11,12 @@ use Rattle.retained.specs.declared.Names.{Names}
 use Rattle.retained.specs.declared.Retained.{Retained}
 use Rattle.retained.specs.declared.Outcome.{Outcome}
 use Rattle.retained.specs.Records.{isNamed, namesOf, exchanged, sameNames, freedRecord}
-use Rattle.retained.specs.Table.{first, has, recordAt, answers, did, sent, freed}
+use Rattle.retained.specs.Table.{first, has, recordAt, numberAlone, did, sent, freed}
 use Rattle.pdu.specs.Header.{headerOf}
 use Rattle.pdu.specs.Sizes.{pduLength}
 use Rattle.answering.specs.declared.Sending.{Sending}
 use Rattle.answering.specs.Delivered.{isAcknowledgement, isAnswered, ackHeader, answered, acknowledgeNumber, acknowledge, tableAcknowledged}
-use Rattle.ending.specs.History.{Arrived, Settings, HearPdu, Life, watch, next}
+use Rattle.ending.specs.History.{Arrived, Settings, HearPdu, Life, watch, worldAfter}
 use Rattle.ending.proofs.First.{has-hit}
 use Rattle.ending.proofs.Facts.{names-eq, free-is, other-name, freed-free}
 use Rattle.ending.proofs.Holding.{never, elsewhere, removed}
@@ -60,8 +60,8 @@ module _ (s : Settings) (names : Names) (table : List Retained) (last : ℕ) (li
     hearing b d c =
         cond b
         (cond d (did answered last 0 (namesOf received) (pduLength (ackHeader sending (namesOf received))))
-        (cond c (did freed last (first (isNamed sought) table) sought 0) (answers 0 last)))
-        (answers number last)
+        (cond c (did freed last (first (isNamed sought) table) sought 0) (numberAlone 0 last)))
+        (numberAlone number last)
 
     apart : asked ≡ true → matched ≡ true → ⊥
     apart e f = bits (eqb delivery 0) (eqb (headerOf received .protocol) 1) (headerOf received .ack) (has (isNamed sought) table) e f
@@ -72,8 +72,8 @@ module _ (s : Settings) (names : Names) (table : List Retained) (last : ℕ) (li
         bits true false a m e f = never (sym e)
         bits false y a m e f = never (sym e)
 
-    pub good-hears : Good s names (next s names (HearPdu delivery sending room received) (world table last life))
-    unfolding next watch acknowledge tableAcknowledged
+    pub good-hears : Good s names (worldAfter s names (HearPdu delivery sending room received) (world table last life))
+    unfolding worldAfter watch acknowledge tableAcknowledged
     good-hears = by (eqb number 0) asked matched refl refl
       where
         by : (b d c : Bool) → asked ≡ d → matched ≡ c

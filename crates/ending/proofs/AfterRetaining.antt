@@ -14,8 +14,8 @@ use Rattle.octets.proofs.Numbering.{orElse-zero, gives-zero}
 use Rattle.retained.specs.declared.Names.{Names}
 use Rattle.retained.specs.declared.Retained.{Retained}
 use Rattle.retained.specs.Records.{unfit, isUsed, isFree, isNamed, namesOf, sameNames, retainedRecord}
-use Rattle.retained.specs.Table.{tableFault, timeFault, first, has, recordAt, answers, did, kept, sent, retainNumber, retain, tableRetained}
-use Rattle.ending.specs.History.{Waiting, Settings, RetainAt, Life, watch, next}
+use Rattle.retained.specs.Table.{tableFault, timeFault, first, has, recordAt, numberAlone, did, kept, sent, retainNumber, retain, tableRetained}
+use Rattle.ending.specs.History.{Waiting, Settings, RetainAt, Life, watch, worldAfter}
 use Rattle.ending.proofs.First.{has-hit, has-none}
 use Rattle.ending.proofs.Facts.{names-eq, free-is, retained-named}
 use Rattle.ending.proofs.Holding.{never, elsewhere, retained}
@@ -68,14 +68,14 @@ module _ (s : Settings) (names : Names) (table : List Retained) (last : ℕ) (li
         (elsewhere names table last now life (p .later) i (retainedRecord now bytes) within (free-is names (recordAt table i) unused)
         (retained-named now bytes (p .fit) names ∙ e) (g .status))
 
-  pub good-retains : (now : ℕ) (bytes : List ℕ) → Good s names (next s names (RetainAt now bytes) (world table last life))
-  unfolding next watch retain tableRetained
+  pub good-retains : (now : ℕ) (bytes : List ℕ) → Good s names (worldAfter s names (RetainAt now bytes) (world table last life))
+  unfolding worldAfter watch retain tableRetained
   good-retains now bytes = by (eqb (retainNumber table last now bytes) 0) refl
     where
       by : (b : Bool) → eqb (retainNumber table last now bytes) 0 ≡ b
           → Good s names (world (cond b (set table (first isFree table) (retainedRecord now bytes)) table)
-          (cond b (did kept now (first isFree table) (namesOf bytes) 0) (answers (retainNumber table last now bytes) last) .last)
+          (cond b (did kept now (first isFree table) (namesOf bytes) 0) (numberAlone (retainNumber table last now bytes) last) .last)
           (watch (s .delay) names (RetainAt now bytes) (cond b (did kept now (first isFree table) (namesOf bytes) 0)
-          (answers (retainNumber table last now bytes) last)) life))
+          (numberAlone (retainNumber table last now bytes) last)) life))
       by true e = born now bytes (retain-passes table last now bytes (eqb-true _ 0 e)) (sameNames (namesOf bytes) names) refl
       by false e = g

@@ -14,8 +14,8 @@ use Rattle.retained.specs.declared.Names.{Names}
 use Rattle.retained.specs.declared.Retained.{Retained}
 use Rattle.retained.specs.declared.Outcome.{Outcome}
 use Rattle.retained.specs.Records.{isUsed, isNamed, isDue, pduOf, namesOf, sameNames, sentRecord, freedRecord}
-use Rattle.retained.specs.Table.{tableFault, timeFault, has, recordAt, due, isSpent, answers, did, sent, failed, stepNumber, step, tableStepped}
-use Rattle.ending.specs.History.{Lost, isWaiting, Settings, StepAt, Life, watch, next}
+use Rattle.retained.specs.Table.{tableFault, timeFault, has, recordAt, due, isSpent, numberAlone, did, sent, failed, stepNumber, retryStep, tableStepped}
+use Rattle.ending.specs.History.{Lost, isWaiting, Settings, StepAt, Life, watch, worldAfter}
 use Rattle.ending.proofs.First.{has-hit, has-none}
 use Rattle.ending.proofs.Facts.{named-is, free-is, freed-free, sent-named, due-used}
 use Rattle.ending.proofs.Holding.{Kept, Status, gone, here, never, quiet, elsewhere, again, removed, kept-at, passes}
@@ -95,7 +95,7 @@ module _ (s : Settings) (names : Names) (table : List Retained) (last : ℕ) (li
   abbrev stepping : Bool → Bool → Bool → Outcome
   stepping b c q =
       cond b (cond c (cond q (did failed now place (namesOf (pduOf held)) 0)
-      (did sent now place (namesOf (pduOf held)) (held .length))) (answers 0 now)) (answers number last)
+      (did sent now place (namesOf (pduOf held)) (held .length))) (numberAlone 0 now)) (numberAlone number last)
 
   in-time : number ≡ 0 → last ≤ now
   unfolding stepNumber
@@ -112,8 +112,8 @@ module _ (s : Settings) (names : Names) (table : List Retained) (last : ℕ) (li
   }
   counts later none false e = record { sixteen = g .sixteen; bound = g .bound; exact = g .exact; status = quiet names table last now life later (g .status) }
 
-  pub good-steps : Good s names (next s names (StepAt now) (world table last life))
-  unfolding next watch step tableStepped
+  pub good-steps : Good s names (worldAfter s names (StepAt now) (world table last life))
+  unfolding worldAfter watch retryStep tableStepped
   good-steps = by (eqb number 0) (has (isDue now (s .delay)) table) (isSpent (held .count) (s .tries)) refl refl refl
     where
       by : (b c q : Bool) → eqb number 0 ≡ b → has (isDue now (s .delay)) table ≡ c → isSpent (held .count) (s .tries) ≡ q

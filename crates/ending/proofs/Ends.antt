@@ -10,7 +10,7 @@ use Rattle.retained.specs.declared.Retained.{Retained}
 use Rattle.retained.specs.Records.{isNamed}
 use Rattle.retained.specs.Table.{has, recordAt}
 use Rattle.ending.specs.History.{Fate, NotYet, Waiting, Lost, Arrived, isWaiting, Settings, Operation, RetainAt, HearPdu, StepAt}
-use Rattle.ending.specs.History.{World, next, history, start}
+use Rattle.ending.specs.History.{World, worldAfter, history, start}
 use Rattle.ending.specs.Ending.{FreeTable, Ended, Statement}
 use Rattle.ending.proofs.First.{has-at, has-nowhere}
 use Rattle.ending.proofs.Facts.{free-is}
@@ -20,7 +20,7 @@ use Rattle.ending.proofs.AfterRetaining.{good-retains}
 use Rattle.ending.proofs.AfterHearing.{good-hears}
 use Rattle.ending.proofs.AfterStep.{good-steps}
 
-good-next : (s : Settings) (names : Names) (op : Operation) (w : World) → Good s names w → Good s names (next s names op w)
+good-next : (s : Settings) (names : Names) (op : Operation) (w : World) → Good s names w → Good s names (worldAfter s names op w)
 good-next s names (RetainAt now bytes) w g = good-retains s names (w .table) (w .last) (w .life) g now bytes
 good-next s names (HearPdu delivery sending room received) w g = good-hears s names (w .table) (w .last) (w .life) g delivery sending room received
 good-next s names (StepAt now) w g = good-steps s names (w .table) (w .last) (w .life) g now
@@ -28,7 +28,7 @@ good-next s names (StepAt now) w g = good-steps s names (w .table) (w .last) (w 
 good-history : (s : Settings) (names : Names) (ops : List Operation) (w : World) → Good s names w → Good s names (history s names ops w)
 unfolding history
 good-history s names [] w g = g
-good-history s names (op ∷ ops) w g = good-history s names ops (next s names op w) (good-next s names op w g)
+good-history s names (op ∷ ops) w g = good-history s names ops (worldAfter s names op w) (good-next s names op w g)
 
 good-start : (s : Settings) (names : Names) (table : List Retained) (last : ℕ) → FreeTable table → Good s names (start table last)
 good-start s names table last f = record {

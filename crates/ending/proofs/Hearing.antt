@@ -14,7 +14,7 @@ use Rattle.pdu.specs.Sizes.{pduLength}
 use Rattle.retained.specs.declared.Retained.{Retained}
 use Rattle.retained.specs.declared.Outcome.{Outcome}
 use Rattle.retained.specs.Records.{namesOf, exchanged, freedRecord}
-use Rattle.retained.specs.Table.{first, has, answers, did, freed}
+use Rattle.retained.specs.Table.{first, has, numberAlone, did, freed}
 use Rattle.answering.specs.declared.Sending.{Sending}
 use Rattle.answering.specs.Delivered.{isAnswered, isAcknowledgement, matching, ackHeader, acknowledgement, answered}
 use Rattle.answering.specs.Delivered.{acknowledgeNumber, acknowledge, tableAcknowledged, outputAcknowledged}
@@ -49,7 +49,7 @@ module _ (table : List Retained) (last delivery : ℕ) (sending : Sending) (rece
       bits true false a e = refl
       bits false y a e = refl
 
-  refused : (n : ℕ) → acknowledgeNumber table delivery sending room received ≡ n → (n ≡ 0 → ⊥) → Leaves (answers n last)
+  refused : (n : ℕ) → acknowledgeNumber table delivery sending room received ≡ n → (n ≡ 0 → ⊥) → Leaves (numberAlone n last)
   unfolding acknowledge tableAcknowledged outputAcknowledged
   refused n e f = (simp (e, ne-eqb n 0 f), simp (e, ne-eqb n 0 f), simp (e, ne-eqb n 0 f))
 
@@ -61,7 +61,7 @@ module _ (table : List Retained) (last delivery : ℕ) (sending : Sending) (rece
     unfolding acknowledgeNumber _gives_ _orElse_
     number-10 h = simp (a, lt-ltb 7 (sending .«hop_limit») h)
 
-    pub answer-10 : 7 < sending .«hop_limit» → Leaves (answers 10 last)
+    pub answer-10 : 7 < sending .«hop_limit» → Leaves (numberAlone 10 last)
     answer-10 h = refused 10 (number-10 h) some
 
     module _ (h : sending .«hop_limit» ≤ 7) where
@@ -69,7 +69,7 @@ module _ (table : List Retained) (last delivery : ℕ) (sending : Sending) (rece
       unfolding acknowledgeNumber _gives_ _orElse_
       number-11 p = simp (a, le-ltb 7 (sending .«hop_limit») h, lt-ltb 15 (sending .port) p)
 
-      pub answer-11 : 15 < sending .port → Leaves (answers 11 last)
+      pub answer-11 : 15 < sending .port → Leaves (numberAlone 11 last)
       answer-11 p = refused 11 (number-11 p) some
 
       module _ (p : sending .port ≤ 15) where
@@ -77,7 +77,7 @@ module _ (table : List Retained) (last delivery : ℕ) (sending : Sending) (rece
         unfolding acknowledgeNumber _gives_ _orElse_
         number-74 s = simp (a, le-ltb 7 (sending .«hop_limit») h, le-ltb 15 (sending .port) p, ne-eqb (length table) 16 s)
 
-        pub answer-74 : (length table ≡ 16 → ⊥) → Leaves (answers 74 last)
+        pub answer-74 : (length table ≡ 16 → ⊥) → Leaves (numberAlone 74 last)
         answer-74 s = refused 74 (number-74 s) some
 
         module _ (s : length table ≡ 16) where
@@ -93,7 +93,7 @@ module _ (table : List Retained) (last delivery : ℕ) (sending : Sending) (rece
               tested : (b : Bool) → b ≡ true → cond {A = ℕ} b 77 0 ≡ 77
               tested b e = simp e
 
-          pub answer-77 : room < long → Leaves (answers 77 last)
+          pub answer-77 : room < long → Leaves (numberAlone 77 last)
           answer-77 l = refused 77 (number-77 l) some
 
           number-0 : long ≤ room → acknowledgeNumber table delivery sending room received ≡ 0
@@ -130,7 +130,7 @@ module _ (table : List Retained) (last delivery : ℕ) (sending : Sending) (rece
     other-74 : (length table ≡ 16 → ⊥) → acknowledgeNumber table delivery sending room received ≡ 74
     other-74 s = number-is ∙ simp (ne-eqb (length table) 16 s)
 
-    pub heard-74 : (length table ≡ 16 → ⊥) → Leaves (answers 74 last)
+    pub heard-74 : (length table ≡ 16 → ⊥) → Leaves (numberAlone 74 last)
     heard-74 s = refused 74 (other-74 s) some
 
     module _ (s : length table ≡ 16) where
@@ -140,14 +140,14 @@ module _ (table : List Retained) (last delivery : ℕ) (sending : Sending) (rece
       abbrev hits : Bool
       hits = isAcknowledgement delivery (headerOf received) && has (matching received) table
 
-      misses : hits ≡ false → Leaves (answers 0 last)
+      misses : hits ≡ false → Leaves (numberAlone 0 last)
       unfolding acknowledge tableAcknowledged outputAcknowledged
       misses h = (simp (other-0, a, h), simp (other-0, h), simp (other-0, a))
 
-      pub heard-other : isAcknowledgement delivery (headerOf received) ≡ false → Leaves (answers 0 last)
+      pub heard-other : isAcknowledgement delivery (headerOf received) ≡ false → Leaves (numberAlone 0 last)
       heard-other k = misses (ap (λ (b : Bool). b && has (matching received) table) k)
 
-      pub unmatched : Nowhere (matching received) table → Leaves (answers 0 last)
+      pub unmatched : Nowhere (matching received) table → Leaves (numberAlone 0 last)
       unmatched f = misses (no-match (isAcknowledgement delivery (headerOf received)) (has (matching received) table) (has-nowhere (matching received) table f))
 
       frees : (place : ℕ) → first (matching received) table ≡ place → hits ≡ true

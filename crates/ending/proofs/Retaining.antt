@@ -8,14 +8,14 @@ use borrow.Author.Tests.{eq-eqb, ne-eqb, lt-ltb, le-ltb}
 use Rattle.octets.specs.Numbers.{_gives_, _orElse_}
 use Rattle.retained.specs.declared.Retained.{Retained}
 use Rattle.retained.specs.Records.{isRetainable, unfit, isFree, isNamed, namesOf, retainedRecord}
-use Rattle.retained.specs.Table.{first, has, recordAt, answers, did, kept, retainNumber, retain, tableRetained}
+use Rattle.retained.specs.Table.{first, has, recordAt, numberAlone, did, kept, retainNumber, retain, tableRetained}
 use Rattle.ending.specs.First.{FirstAt, Nowhere}
 use Rattle.ending.proofs.First.{has-at, has-nowhere}
 use Rattle.ending.proofs.Lowest.{first-at, has-first, some}
 
 module _ (table : List Retained) (last now : ℕ) (bytes : List ℕ) where
   abbrev Refuses : ℕ → Type 0
-  Refuses n = (retain table last now bytes ≡ answers n last) × (tableRetained table last now bytes ≡ table)
+  Refuses n = (retain table last now bytes ≡ numberAlone n last) × (tableRetained table last now bytes ≡ table)
 
   retain-refused : (n : ℕ) → retainNumber table last now bytes ≡ n → (n ≡ 0 → ⊥) → Refuses n
   unfolding retain tableRetained

@@ -14,9 +14,9 @@ use Rattle.octets.proofs.Tests.{both}
 use Rattle.retained.specs.declared.Names.{Names}
 use Rattle.retained.specs.declared.Retained.{Retained}
 use Rattle.retained.specs.Records.{recordLimit, isUsed, isDue, pduOf, namesOf, sentRecord, freedRecord}
-use Rattle.retained.specs.Table.{tableSize, has, recordAt, due, isSpent, stepped, answers, did, sent, failed, stepNumber, step, tableStepped}
-use Rattle.ending.specs.History.{Settings, StepAt, World, noneDue, next, history}
-use Rattle.ending.specs.Ending.{steps, Settling}
+use Rattle.retained.specs.Table.{tableSize, has, recordAt, due, isSpent, stepped, numberAlone, did, sent, failed, stepNumber, retryStep, tableStepped}
+use Rattle.ending.specs.History.{Settings, StepAt, World, noneDue, worldAfter, history}
+use Rattle.ending.specs.Ending.{stepsAt, Settling}
 use Rattle.ending.proofs.First.{by-cases, has-hit, has-none}
 use Rattle.ending.proofs.Facts.{freed-free, due-used}
 
@@ -87,13 +87,13 @@ module _ (s : Settings) (now : ℕ) (room : recordLimit ≤ s .room) where
     abbrev n : ℕ
     n = stepNumber table last now (s .delay) (s .tries) (s .room)
 
-    step-last : step table last now (s .delay) (s .tries) (s .room) .last ≡ now
-    unfolding step
+    step-last : retryStep table last now (s .delay) (s .tries) (s .room) .last ≡ now
+    unfolding retryStep
     step-last = simp (eq-eqb n 0 (passes table last l t)) (by (has dueAt table) (isSpent (recordAt table (due table now (s .delay)) .count) (s .tries)))
       where
         by : (a b : Bool) → cond a (cond b (did failed now (due table now (s .delay)) (namesOf (pduOf (recordAt table (due table now (s .delay))))) 0)
             (did sent now (due table now (s .delay)) (namesOf (pduOf (recordAt table (due table now (s .delay)))))
-            (recordAt table (due table now (s .delay)) .length))) (answers 0 now) .last ≡ now
+            (recordAt table (due table now (s .delay)) .length))) (numberAlone 0 now) .last ≡ now
         by true true = refl
         by true false = refl
         by false b = refl
@@ -107,8 +107,8 @@ module _ (s : Settings) (now : ℕ) (room : recordLimit ≤ s .room) where
     unfolding tableStepped
     step-rests e = simp (eq-eqb n 0 (passes table last l t), e)
 
-    step-none : has dueAt table ≡ false → noneDue (step table last now (s .delay) (s .tries) (s .room)) ≡ true
-    unfolding step
+    step-none : has dueAt table ≡ false → noneDue (retryStep table last now (s .delay) (s .tries) (s .room)) ≡ true
+    unfolding retryStep
     step-none e = simp (eq-eqb n 0 (passes table last l t), e)
 
   -- a weight that a record has only where it is due, and that falls with its step
@@ -129,25 +129,25 @@ module _ (s : Settings) (now : ℕ) (room : recordLimit ≤ s .room) where
       whole : length (w .table) ≡ tableSize
       time : w .last ≤ now
 
-    rests : (k : ℕ) (w : World) → length (w .table) ≡ tableSize → w .last ≤ now → total weight (w .table) ≤ k → Rests (history s names (steps now k) w)
-    unfolding history next
+    rests : (k : ℕ) (w : World) → length (w .table) ≡ tableSize → w .last ≤ now → total weight (w .table) ≤ k → Rests (history s names (stepsAt now k) w)
+    unfolding history worldAfter
     rests zero w l t h = record { none = by (by-cases (has dueAt (w .table))); whole = l; time = t }
       where
         by : (has dueAt (w .table) ≡ true) ⊎ (has dueAt (w .table) ≡ false) → has dueAt (w .table) ≡ false
         by (inr e) = e
         by (inl e) = absurd (omega (arith, lighter (w .table) e))
-    rests (suc k) w l t h = by (by-cases (has dueAt (w .table))) (rests k (next s names (StepAt now) w))
+    rests (suc k) w l t h = by (by-cases (has dueAt (w .table))) (rests k (worldAfter s names (StepAt now) w))
       where
         after : List Retained
         after = tableStepped (w .table) (w .last) now (s .delay) (s .tries) (s .room)
 
-        ends : step (w .table) (w .last) now (s .delay) (s .tries) (s .room) .last ≤ now
+        ends : retryStep (w .table) (w .last) now (s .delay) (s .tries) (s .room) .last ≤ now
         ends = subst (λ (x : ℕ). x ≤ now) (sym (step-last (w .table) (w .last) l t)) (le-refl now)
 
         by : (has dueAt (w .table) ≡ true) ⊎ (has dueAt (w .table) ≡ false)
-            → (length after ≡ tableSize → step (w .table) (w .last) now (s .delay) (s .tries) (s .room) .last ≤ now → total weight after ≤ k
-            → Rests (history s names (steps now k) (next s names (StepAt now) w)))
-            → Rests (history s names (steps now k) (next s names (StepAt now) w))
+            → (length after ≡ tableSize → retryStep (w .table) (w .last) now (s .delay) (s .tries) (s .room) .last ≤ now → total weight after ≤ k
+            → Rests (history s names (stepsAt now k) (worldAfter s names (StepAt now) w)))
+            → Rests (history s names (stepsAt now k) (worldAfter s names (StepAt now) w))
         by (inl e) go =
             let q = step-due (w .table) (w .last) l t e in
             go (ap length q ∙ length-set (w .table) _ _ ∙ l) ends (subst (λ (x : List Retained). total weight x ≤ k) (sym q)
@@ -158,8 +158,8 @@ module _ (s : Settings) (now : ℕ) (room : recordLimit ≤ s .room) where
             (omega (arith, total-none weight (w .table) (λ p z. m .light (recordAt (w .table) p) (has-none dueAt (w .table) e p z)))))
 
     settles : (k : ℕ) (w : World) → length (w .table) ≡ tableSize → w .last ≤ now → total weight (w .table) ≤ k
-        → noneDue (step (history s names (steps now k) w .table) (history s names (steps now k) w .last) now (s .delay) (s .tries) (s .room)) ≡ true
-    settles k w l t h = let r = rests k w l t h in step-none (history s names (steps now k) w .table) (history s names (steps now k) w .last)
+        → noneDue (retryStep (history s names (stepsAt now k) w .table) (history s names (stepsAt now k) w .last) now (s .delay) (s .tries) (s .room)) ≡ true
+    settles k w l t h = let r = rests k w l t h in step-none (history s names (stepsAt now k) w .table) (history s names (stepsAt now k) w .last)
         (r .whole) (r .time) (r .none)
 
   -- above delay 0 each record that is due weighs 1
@@ -212,8 +212,8 @@ pub settling : Settling
 settling s names w now l t room = by (eqb (s .delay) 0) refl
   where
     by : (b : Bool) → eqb (s .delay) 0 ≡ b
-        → noneDue (step (history s names (steps now (cond b (tableSize * (s .tries + 1)) tableSize)) w .table)
-        (history s names (steps now (cond b (tableSize * (s .tries + 1)) tableSize)) w .last) now (s .delay) (s .tries) (s .room)) ≡ true
+        → noneDue (retryStep (history s names (stepsAt now (cond b (tableSize * (s .tries + 1)) tableSize)) w .table)
+        (history s names (stepsAt now (cond b (tableSize * (s .tries + 1)) tableSize)) w .last) now (s .delay) (s .tries) (s .room)) ≡ true
     by true e = settles s now room names (often s now room) (often-weighs s now room) (tableSize * (s .tries + 1)) w l t
         (subst (λ (k : ℕ). total (often s now room) (w .table) ≤ k * (s .tries + 1)) l
         (total-most (often s now room) (s .tries + 1) (often-most s now room) (w .table)))

@@ -10,7 +10,7 @@ use Rattle.retained.specs.declared.Retained.{Retained}
 use Rattle.retained.specs.Records.{recordLimit, isUsed, isNamed}
 use Rattle.retained.specs.Table.{tableSize, recordAt, has}
 use mathlib.Core.Logic.{_⊎_}
-use Rattle.ending.specs.History.{NotYet, Lost, Arrived, isWaiting, Settings, Operation, StepAt, World, answer, noneDue, history, start}
+use Rattle.ending.specs.History.{NotYet, Lost, Arrived, isWaiting, Settings, Operation, StepAt, World, outcomeOf, noneDue, history, start}
 
 -- a table of 16 records, all of them free
 pub record FreeTable (table : List Retained) : Type 0 where
@@ -39,11 +39,11 @@ abbrev pub enough : Settings → ℕ
 enough s = cond (eqb (s .delay) 0) (tableSize * (s .tries + 1)) tableSize
 
 -- so many steps at a time
-abbrev pub steps : ℕ → ℕ → List Operation
-steps now zero = []
-steps now (suc k) = StepAt now ∷ steps now k
+abbrev pub stepsAt : ℕ → ℕ → List Operation
+stepsAt now zero = []
+stepsAt now (suc k) = StepAt now ∷ stepsAt now k
 
 abbrev pub Settling : Type 0
 Settling =
     (s : Settings) (names : Names) (w : World) (now : ℕ) → length (w .table) ≡ tableSize → w .last ≤ now → recordLimit ≤ s .room
-    → let after = history s names (steps now (enough s)) w in noneDue (answer s (after .table) (after .last) (StepAt now)) ≡ true
+    → let after = history s names (stepsAt now (enough s)) w in noneDue (outcomeOf s (after .table) (after .last) (StepAt now)) ≡ true

@@ -7,7 +7,7 @@ use Rattle.retained.specs.declared.Names.{Names}
 use Rattle.retained.specs.declared.Retained.{Retained}
 use Rattle.retained.specs.declared.Outcome.{Outcome}
 use Rattle.retained.specs.Records.{sameNames}
-use Rattle.retained.specs.Table.{nothing, kept, sent, failed, freed, retain, tableRetained, step, tableStepped}
+use Rattle.retained.specs.Table.{nothing, kept, sent, failed, freed, retain, tableRetained, retryStep, tableStepped}
 use Rattle.answering.specs.declared.Sending.{Sending}
 use Rattle.answering.specs.Delivered.{acknowledge, tableAcknowledged}
 
@@ -24,10 +24,10 @@ pub data Operation : Type 0 where
   StepAt : (now : ℕ) → Operation
 
 -- what it answers, and the table after it
-abbrev pub answer : Settings → List Retained → ℕ → Operation → Outcome
-answer s table last (RetainAt now bytes) = retain table last now bytes
-answer s table last (HearPdu delivery sending room received) = acknowledge table last delivery sending room received
-answer s table last (StepAt now) = step table last now (s .delay) (s .tries) (s .room)
+abbrev pub outcomeOf : Settings → List Retained → ℕ → Operation → Outcome
+outcomeOf s table last (RetainAt now bytes) = retain table last now bytes
+outcomeOf s table last (HearPdu delivery sending room received) = acknowledge table last delivery sending room received
+outcomeOf s table last (StepAt now) = retryStep table last now (s .delay) (s .tries) (s .room)
 
 abbrev pub tableAfter : Settings → List Retained → ℕ → Operation → List Retained
 tableAfter s table last (RetainAt now bytes) = tableRetained table last now bytes
@@ -82,17 +82,17 @@ pub record World : Type 0 where
   pub last : ℕ
   pub life : Life
 
-unfoldable pub next : Settings → Names → Operation → World → World
-next s names op w =
+unfoldable pub worldAfter : Settings → Names → Operation → World → World
+worldAfter s names op w =
     record {
       table = tableAfter s (w .table) (w .last) op;
-      last = answer s (w .table) (w .last) op .last;
-      life = watch (s .delay) names op (answer s (w .table) (w .last) op) (w .life);
+      last = outcomeOf s (w .table) (w .last) op .last;
+      life = watch (s .delay) names op (outcomeOf s (w .table) (w .last) op) (w .life);
     }
 
 unfoldable pub history : Settings → Names → List Operation → World → World
 history s names [] w = w
-history s names (op ∷ ops) w = history s names ops (next s names op w)
+history s names (op ∷ ops) w = history s names ops (worldAfter s names op w)
 
 -- where a history begins: with any last accepted time
 abbrev pub start : List Retained → ℕ → World

@@ -5,7 +5,7 @@ use retained::Outcome;
 use retained::Retained;
 ghost use mathlib.Core.Path.{_≡_};
 ghost use lib.ListN.{length};
-ghost use Rattle.retained.specs.Table.{retain, tableRetained, step, tableStepped, outputStepped};
+ghost use Rattle.retained.specs.Table.{retain, tableRetained, retryStep, tableStepped, outputStepped};
 ghost use Rattle.answering.specs.Delivered.{acknowledge, tableAcknowledged, outputAcknowledged};
 
 // Retains a PDU in the first free record of the table, with the time and count 0, and writes nothing. Refusals: 74, 73, 75, 72, 71, 70, in that order.
@@ -32,7 +32,7 @@ pub extern "C" fn mant_retry(
     tries: u64,
     output: &mut [u8],
 ) -> Outcome
-    ensures { λ r. ⌜ (r ≡ step (now (table .entry)) last time delay tries (length (now (output .entry))))
+    ensures { λ r. ⌜ (r ≡ retryStep (now (table .entry)) last time delay tries (length (now (output .entry))))
         × (now (table .exit) ≡ tableStepped (now (table .entry)) last time delay tries (length (now (output .entry))))
         × (now (output .exit) ≡ outputStepped (now (table .entry)) last time delay tries (now (output .entry))) ⌝ }
 {

@@ -13,9 +13,9 @@ use Rattle.lists.specs.Lists.{lowAboveHigh, faultOf, firstFault, holds}
 use Rattle.decision.specs.Decision.{echoFault, passFault, dropFault, deliveryFault, repeatFault}
 use Rattle.node.specs.Answers.{listOrReadingFault, stopFault, deliveryNumber}
 use Rattle.retained.specs.Records.{isRetainable, unfit, isUsed, namesOf, isNamed, isDue, retainedRecord, freedRecord}
-use Rattle.retained.specs.Table.{first, retainNumber, retain, tableRetained, stepNumber, step, tableStepped}
+use Rattle.retained.specs.Table.{first, retainNumber, retain, tableRetained, stepNumber, retryStep, tableStepped}
 use Rattle.answering.specs.Delivered.{acknowledgement, acknowledgeNumber, acknowledge, tableAcknowledged}
-use Rattle.ending.specs.History.{RetainAt, HearPdu, StepAt, Waiting, Lost, Arrived, watch, next, history, start}
+use Rattle.ending.specs.History.{RetainAt, HearPdu, StepAt, Waiting, Lost, Arrived, watch, worldAfter, history, start}
 use Rattle.ending.proofs.Facts.{freed-free, is-due, retained-pdu}
 use Rattle.ending.proofs.Lowest.{first-or-none}
 use Rattle.ending.proofs.Retaining.{retain-74, retain-73, retain-75, retain-72, retain-71, retain-70, retain-kept, is-fit}
@@ -65,20 +65,20 @@ module _ where
   lost-there : history twoTries commandNames
       (RetainAt 10 command ∷ StepAt 14 ∷ StepAt 15 ∷ StepAt 15 ∷ StepAt 20 ∷ StepAt 20 ∷ StepAt 25 ∷ StepAt 25 ∷ []) (start empty 0) .life
       ≡ record { fate = Lost; sent = 2; moments = 3; mark = 25 }
-  unfolding history next watch retain retainNumber tableRetained step stepNumber tableStepped first unfit isRetainable exactlyOne isUsed namesOf isNamed
-      isDue readOf headerOf placed _gives_ _orElse_
+  unfolding history worldAfter watch retain retainNumber tableRetained retryStep stepNumber tableStepped first unfit isRetainable exactlyOne isUsed namesOf
+      isNamed isDue readOf headerOf placed _gives_ _orElse_
   lost-there = refl
 
   waiting-there : history twoTries commandNames (RetainAt 10 command ∷ StepAt 14 ∷ StepAt 15 ∷ StepAt 15 ∷ StepAt 20 ∷ StepAt 20 ∷ []) (start empty 0) .life
       ≡ record { fate = Waiting; sent = 2; moments = 2; mark = 20 }
-  unfolding history next watch retain retainNumber tableRetained step stepNumber tableStepped first unfit isRetainable exactlyOne isUsed namesOf isNamed
-      isDue readOf headerOf placed _gives_ _orElse_
+  unfolding history worldAfter watch retain retainNumber tableRetained retryStep stepNumber tableStepped first unfit isRetainable exactlyOne isUsed namesOf
+      isNamed isDue readOf headerOf placed _gives_ _orElse_
   waiting-there = refl
 
   arrived-there : history twoTries commandNames (RetainAt 10 command ∷ StepAt 15 ∷ HearPdu 0 sendingMost 0 reply ∷ StepAt 20 ∷ []) (start empty 0) .life
       ≡ record { fate = Arrived; sent = 1; moments = 1; mark = 20 }
-  unfolding history next watch retain retainNumber tableRetained step stepNumber tableStepped acknowledge acknowledgeNumber tableAcknowledged first unfit
-      isRetainable exactlyOne isUsed namesOf isNamed isDue readOf headerOf placed _gives_ _orElse_
+  unfolding history worldAfter watch retain retainNumber tableRetained retryStep stepNumber tableStepped acknowledge acknowledgeNumber tableAcknowledged first
+      unfit isRetainable exactlyOne isUsed namesOf isNamed isDue readOf headerOf placed _gives_ _orElse_
   arrived-there = refl
 
 pub reliable-messages : ReliableMessages

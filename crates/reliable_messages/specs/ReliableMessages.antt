@@ -21,8 +21,8 @@ use Rattle.retained.specs.declared.Retained.{Retained}
 use Rattle.retained.specs.declared.Outcome.{Outcome}
 use Rattle.retained.specs.Records.{isRetainable, unfit, pduOf, isUsed, isFree, namesOf, exchanged, isNamed, isDue}
 use Rattle.retained.specs.Records.{retainedRecord, sentRecord, freedRecord}
-use Rattle.retained.specs.Table.{recordAt, noNames, answers, did, kept, sent, failed, freed}
-use Rattle.retained.specs.Table.{retain, tableRetained, step, tableStepped, outputStepped}
+use Rattle.retained.specs.Table.{recordAt, noNames, numberAlone, did, kept, sent, failed, freed}
+use Rattle.retained.specs.Table.{retain, tableRetained, retryStep, tableStepped, outputStepped}
 use Rattle.answering.specs.declared.Sending.{Sending}
 use Rattle.answering.specs.Delivered.{isAnswered, isAcknowledgement, ackHeader, acknowledgement, answered}
 use Rattle.answering.specs.Delivered.{acknowledge, tableAcknowledged, outputAcknowledged}
@@ -39,7 +39,7 @@ Keeps table last now bytes outcome after = (retain table last now bytes ≡ outc
 
 abbrev pub Tries : List Retained → ℕ → ℕ → ℕ → ℕ → List ℕ → Outcome → List Retained → List ℕ → Type 0
 Tries table last now delay tries output outcome after left =
-    (step table last now delay tries (length output) ≡ outcome) × (tableStepped table last now delay tries (length output) ≡ after)
+    (retryStep table last now delay tries (length output) ≡ outcome) × (tableStepped table last now delay tries (length output) ≡ after)
     × (outputStepped table last now delay tries output ≡ left)
 
 abbrev pub Handles : List Retained → ℕ → ℕ → Sending → List ℕ → List ℕ → Outcome → List Retained → List ℕ → Type 0
@@ -157,7 +157,7 @@ pub record ReliableMessages : Type 0 where
   pub noted : (now : ℕ) (bytes : List ℕ) → (retainedRecord now bytes .«sent_at» ≡ now) × (retainedRecord now bytes .count ≡ 0)
   pub noted-again : (now : ℕ) (r : Retained) → (sentRecord now r .«sent_at» ≡ now) × (sentRecord now r .count ≡ r .count + 1)
   -- what an answer says: of a refusal, or where nothing was done; and of what was done, its number, record, names and bytes written
-  pub refusal-says : (n last : ℕ) → let a = answers n last in
+  pub refusal-says : (n last : ℕ) → let a = numberAlone n last in
       (a .number ≡ n) × (a .last ≡ last) × (a .deed ≡ 0) × (a .place ≡ 0) × (a .names ≡ noNames) × (a .length ≡ 0)
   pub deed-says : (deed last place : ℕ) (names : Names) (written : ℕ) → let a = did deed last place names written in
       (a .number ≡ 0) × (a .last ≡ last) × (a .deed ≡ deed) × (a .place ≡ place) × (a .names ≡ names) × (a .length ≡ written)
@@ -166,34 +166,34 @@ pub record ReliableMessages : Type 0 where
   pub first-or-none : (test : Retained → Bool) (table : List Retained) → ((place : ℕ) × FirstAt test table place) ⊎ Nowhere test table
   -- retaining, of any table: 74, 73, 75, 72, 71, 70 in that order, each leaving table and time; else the first free record holds it
   pub retain-74 : (table : List Retained) (last now : ℕ) (bytes : List ℕ) → (length table ≡ 16 → ⊥)
-      → Keeps table last now bytes (answers 74 last) table
+      → Keeps table last now bytes (numberAlone 74 last) table
   pub retain-73 : (table : List Retained) (last now : ℕ) (bytes : List ℕ) → length table ≡ 16 → now < last
-      → Keeps table last now bytes (answers 73 last) table
+      → Keeps table last now bytes (numberAlone 73 last) table
   pub retain-75 : (table : List Retained) (last now : ℕ) (bytes : List ℕ) → length table ≡ 16 → last ≤ now → isRetainable bytes ≡ false
-      → Keeps table last now bytes (answers 75 last) table
+      → Keeps table last now bytes (numberAlone 75 last) table
   pub retain-72 : (table : List Retained) (last now : ℕ) (bytes : List ℕ) → length table ≡ 16 → last ≤ now → isRetainable bytes ≡ true
-      → 256 < length bytes → Keeps table last now bytes (answers 72 last) table
+      → 256 < length bytes → Keeps table last now bytes (numberAlone 72 last) table
   pub retain-71 : (table : List Retained) (last now : ℕ) (bytes : List ℕ) → length table ≡ 16 → last ≤ now → isRetainable bytes ≡ true
       → length bytes ≤ 256 → (place : ℕ) → place < length table → isNamed (namesOf bytes) (recordAt table place) ≡ true
-      → Keeps table last now bytes (answers 71 last) table
+      → Keeps table last now bytes (numberAlone 71 last) table
   pub retain-70 : (table : List Retained) (last now : ℕ) (bytes : List ℕ) → length table ≡ 16 → last ≤ now → isRetainable bytes ≡ true
-      → length bytes ≤ 256 → Nowhere (isNamed (namesOf bytes)) table → Nowhere isFree table → Keeps table last now bytes (answers 70 last) table
+      → length bytes ≤ 256 → Nowhere (isNamed (namesOf bytes)) table → Nowhere isFree table → Keeps table last now bytes (numberAlone 70 last) table
   pub retained : (table : List Retained) (last now : ℕ) (bytes : List ℕ) → length table ≡ 16 → last ≤ now → isRetainable bytes ≡ true
       → length bytes ≤ 256 → Nowhere (isNamed (namesOf bytes)) table → (place : ℕ) → FirstAt isFree table place
       → Keeps table last now bytes (did kept now place (namesOf bytes) 0) (set table place (retainedRecord now bytes))
   -- a step, of any table: 74, then 73; none due, and the time is accepted; the first that is due dropped, refused with 77, or sent again
   pub step-74 : (table : List Retained) (last now delay tries : ℕ) (output : List ℕ) → (length table ≡ 16 → ⊥)
-      → Tries table last now delay tries output (answers 74 last) table output
+      → Tries table last now delay tries output (numberAlone 74 last) table output
   pub step-73 : (table : List Retained) (last now delay tries : ℕ) (output : List ℕ) → length table ≡ 16 → now < last
-      → Tries table last now delay tries output (answers 73 last) table output
+      → Tries table last now delay tries output (numberAlone 73 last) table output
   pub none-due : (table : List Retained) (last now delay tries : ℕ) (output : List ℕ) → length table ≡ 16 → last ≤ now
-      → Nowhere (isDue now delay) table → Tries table last now delay tries output (answers 0 now) table output
+      → Nowhere (isDue now delay) table → Tries table last now delay tries output (numberAlone 0 now) table output
   pub dropped : (table : List Retained) (last now delay tries : ℕ) (output : List ℕ) → length table ≡ 16 → last ≤ now
       → (place : ℕ) → FirstAt (isDue now delay) table place → tries ≤ recordAt table place .count
       → Tries table last now delay tries output (did failed now place (namesOf (pduOf (recordAt table place))) 0) (set table place freedRecord) output
   pub step-77 : (table : List Retained) (last now delay tries : ℕ) (output : List ℕ) → length table ≡ 16 → last ≤ now
       → (place : ℕ) → FirstAt (isDue now delay) table place → recordAt table place .count < tries → length output < recordAt table place .length
-      → Tries table last now delay tries output (answers 77 last) table output
+      → Tries table last now delay tries output (numberAlone 77 last) table output
   pub sent-again : (table : List Retained) (last now delay tries : ℕ) (output : List ℕ) → length table ≡ 16 → last ≤ now
       → (place : ℕ) → FirstAt (isDue now delay) table place → recordAt table place .count < tries → recordAt table place .length ≤ length output
       → let r = recordAt table place in
@@ -206,17 +206,17 @@ pub record ReliableMessages : Type 0 where
       → isAnswered delivery (headerOf received) ≡ true
   pub hear-10 : (table : List Retained) (last delivery : ℕ) (sending : Sending) (received output : List ℕ)
       → isAnswered delivery (headerOf received) ≡ true → 7 < sending .«hop_limit»
-      → Handles table last delivery sending received output (answers 10 last) table output
+      → Handles table last delivery sending received output (numberAlone 10 last) table output
   pub hear-11 : (table : List Retained) (last delivery : ℕ) (sending : Sending) (received output : List ℕ)
       → isAnswered delivery (headerOf received) ≡ true → sending .«hop_limit» ≤ 7 → 15 < sending .port
-      → Handles table last delivery sending received output (answers 11 last) table output
+      → Handles table last delivery sending received output (numberAlone 11 last) table output
   pub hear-74 : (table : List Retained) (last delivery : ℕ) (sending : Sending) (received output : List ℕ)
       → isAnswered delivery (headerOf received) ≡ true → sending .«hop_limit» ≤ 7 → sending .port ≤ 15 → (length table ≡ 16 → ⊥)
-      → Handles table last delivery sending received output (answers 74 last) table output
+      → Handles table last delivery sending received output (numberAlone 74 last) table output
   pub hear-77 : (table : List Retained) (last delivery : ℕ) (sending : Sending) (received output : List ℕ)
       → isAnswered delivery (headerOf received) ≡ true → sending .«hop_limit» ≤ 7 → sending .port ≤ 15 → length table ≡ 16
       → length output < pduLength (ackHeader sending (namesOf received))
-      → Handles table last delivery sending received output (answers 77 last) table output
+      → Handles table last delivery sending received output (numberAlone 77 last) table output
   pub acknowledges : (table : List Retained) (last delivery : ℕ) (sending : Sending) (received output : List ℕ)
       → isAnswered delivery (headerOf received) ≡ true → sending .«hop_limit» ≤ 7 → sending .port ≤ 15 → length table ≡ 16
       → pduLength (ackHeader sending (namesOf received)) ≤ length output
@@ -229,16 +229,16 @@ pub record ReliableMessages : Type 0 where
       → isAcknowledgement delivery (headerOf received) ≡ true
   pub other-74 : (table : List Retained) (last delivery : ℕ) (sending : Sending) (received output : List ℕ)
       → isAnswered delivery (headerOf received) ≡ false → (length table ≡ 16 → ⊥)
-      → Handles table last delivery sending received output (answers 74 last) table output
+      → Handles table last delivery sending received output (numberAlone 74 last) table output
   pub frees : (table : List Retained) (last delivery : ℕ) (sending : Sending) (received output : List ℕ) → length table ≡ 16
       → isAcknowledgement delivery (headerOf received) ≡ true → (place : ℕ) → FirstAt (isNamed (exchanged (namesOf received))) table place
       → Handles table last delivery sending received output (did freed last place (exchanged (namesOf received)) 0) (set table place freedRecord) output
   pub matches-nothing : (table : List Retained) (last delivery : ℕ) (sending : Sending) (received output : List ℕ)
       → isAnswered delivery (headerOf received) ≡ false → length table ≡ 16 → Nowhere (isNamed (exchanged (namesOf received))) table
-      → Handles table last delivery sending received output (answers 0 last) table output
+      → Handles table last delivery sending received output (numberAlone 0 last) table output
   pub ignores : (table : List Retained) (last delivery : ℕ) (sending : Sending) (received output : List ℕ)
       → isAnswered delivery (headerOf received) ≡ false → length table ≡ 16 → isAcknowledgement delivery (headerOf received) ≡ false
-      → Handles table last delivery sending received output (answers 0 last) table output
+      → Handles table last delivery sending received output (numberAlone 0 last) table output
   -- IV. WORKED CASES
   -- 16 steps with a delay, and with none 16 for each sending and the drop
   pub enough-is : (enough twoTries ≡ 16) × (enough (record { delay = 0; tries = 2; room = 256 }) ≡ 48)

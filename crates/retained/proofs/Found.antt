@@ -13,7 +13,7 @@ use Rattle.retained.specs.declared.Retained.{Retained}
 use Rattle.retained.specs.declared.Seek.{Seek}
 use Rattle.retained.specs.declared.Seen.{Seen}
 use Rattle.retained.specs.declared.Names.{Names}
-use Rattle.retained.specs.Searching.{notes, seenOf, lookOf, scanOf, begun, foundIn}
+use Rattle.retained.specs.Searching.{notes, seenOf, lookOf, scanOf, seekBegun, foundIn}
 
 -- one place, and what is seen of one record, over the records from place i on
 noteAll : (Retained → Bool) → ℕ → List Retained → ℕ → ℕ → ℕ
@@ -77,10 +77,10 @@ whole : (test : Retained → Bool) (table : List Retained) → noteAll test 0 ta
 whole test table = note-first test table 0 (length table) (omega arith) ∙ omega arith
 
 pub scan-found : (table : List Retained) (names : Names) (time delay : ℕ)
-    → scanOf 0 table (begun names time delay (length table)) ≡ foundIn table names time delay
+    → scanOf 0 table (seekBegun names time delay (length table)) ≡ foundIn table names time delay
 unfolding scanned
 scan-found table names time delay =
-    scan-is table 0 (begun names time delay (length table))
+    scan-is table 0 (seekBegun names time delay (length table))
     ∙ simp (
       whole isFree table,
       whole (isNamed names) table,

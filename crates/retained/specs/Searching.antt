@@ -39,8 +39,8 @@ scanOf i [] s = s
 scanOf i (r ∷ rs) s = scanOf (suc i) rs (lookOf s r i)
 
 -- a search that has found nothing yet, over so many records
-abbrev pub begun : Names → ℕ → ℕ → ℕ → Seek
-begun names time delay count =
+abbrev pub seekBegun : Names → ℕ → ℕ → ℕ → Seek
+seekBegun names time delay count =
     record {
       names = names;
       time = time;

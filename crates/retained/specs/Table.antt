@@ -55,8 +55,8 @@ abbrev pub noNames : Names
 noNames = record { source = 0; destination = 0; «pdu_id» = 0 }
 
 -- the answer with a refusal, or where nothing was done: the number, the last accepted time
-abbrev pub answers : ℕ → ℕ → Outcome
-answers number last = record { number = number; last = last; deed = nothing; place = 0; names = noNames; length = 0 }
+abbrev pub numberAlone : ℕ → ℕ → Outcome
+numberAlone number last = record { number = number; last = last; deed = nothing; place = 0; names = noNames; length = 0 }
 
 -- the answer where something was done to the record at a place, with the PDU's names
 abbrev pub did : ℕ → ℕ → ℕ → Names → ℕ → Outcome
@@ -75,7 +75,7 @@ retainNumber table last now bytes =
 unfoldable pub retain : List Retained → ℕ → ℕ → List ℕ → Outcome
 retain table last now bytes =
     cond (eqb (retainNumber table last now bytes) 0) (did kept now (first isFree table) (namesOf bytes) 0)
-    (answers (retainNumber table last now bytes) last)
+    (numberAlone (retainNumber table last now bytes) last)
 
 unfoldable pub tableRetained : List Retained → ℕ → ℕ → List ℕ → List Retained
 tableRetained table last now bytes =
@@ -104,16 +104,16 @@ stepNumber table last now delay tries room =
     orElse (has (isDue now delay) table && lacksRoom (dueRecord table now delay) tries room) gives 77
 
 -- what is said of the record at a place
-abbrev pub told : Retained → ℕ → ℕ → ℕ → Outcome
-told record′ place now tries =
+abbrev pub dueOutcome : Retained → ℕ → ℕ → ℕ → Outcome
+dueOutcome record′ place now tries =
     cond (isSpent (record′ .count) tries) (did failed now place (namesOf (pduOf record′)) 0) (did sent now place (namesOf (pduOf record′)) (record′ .length))
 
 -- where none is due the time is accepted all the same
-unfoldable pub step : List Retained → ℕ → ℕ → ℕ → ℕ → ℕ → Outcome
-step table last now delay tries room =
+unfoldable pub retryStep : List Retained → ℕ → ℕ → ℕ → ℕ → ℕ → Outcome
+retryStep table last now delay tries room =
     cond (eqb (stepNumber table last now delay tries room) 0)
-    (cond (has (isDue now delay) table) (told (dueRecord table now delay) (due table now delay) now tries) (answers 0 now))
-    (answers (stepNumber table last now delay tries room) last)
+    (cond (has (isDue now delay) table) (dueOutcome (dueRecord table now delay) (due table now delay) now tries) (numberAlone 0 now))
+    (numberAlone (stepNumber table last now delay tries room) last)
 
 -- the record that a step leaves at that place
 abbrev pub stepped : Retained → ℕ → ℕ → Retained
@@ -128,4 +128,4 @@ tableStepped table last now delay tries room =
 -- the output changes only where a record is sent again
 unfoldable pub outputStepped : List Retained → ℕ → ℕ → ℕ → ℕ → List ℕ → List ℕ
 outputStepped table last now delay tries output =
-    cond (eqb (step table last now delay tries (length output) .deed) sent) (over (pduOf (dueRecord table now delay)) output) output
+    cond (eqb (retryStep table last now delay tries (length output) .deed) sent) (over (pduOf (dueRecord table now delay)) output) output

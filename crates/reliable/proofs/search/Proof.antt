@@ -33,7 +33,7 @@ use denote.Triple.Spec.{tripleOf}
 use denote.Triple.Table.{cited}
 use denote.Triple.Clauses.{ensured, lasts}
 use denote.Triple.Walked.{says, Stays, stay-dropped, walkOf, Walks, ends-at, walked}
-use Rattle.retained.specs.Searching.{begun, scanOf}
+use Rattle.retained.specs.Searching.{seekBegun, scanOf}
 use Rattle.retained.specs.declared.Retained.{Retained}
 use Rattle.retained.specs.declared.Seek.{Seek}
 use Rattle.deciding.specs.Deciding.{decideOf, effectOn}
@@ -126,7 +126,7 @@ module _ {M : Type 1} (𝓤 : URA M) (H : Heap 𝓤) (A : Atoms 𝓤) (W : Given
       own-q ! a ga $ fjoin ! $ nothing ! $ join ! $ framed ! $ done !
 
   abbrev Begins : Seek → Type 0
-  Begins t = t ≡ begun (a .names) (a .time) (a .delay) n
+  Begins t = t ≡ seekBegun (a .names) (a .time) (a .delay) n
 
   begin-said : (t : Seek) → ent 𝓤 (ensured 𝓤 H A begin.ended (begin.clauses 𝓤 H A mem run) tt (a, (n, tt)) tt t) (fact 𝓤 (Begins t))
   begin-said t = exE 𝓤 _ (λ ws. snd∗ 𝓤 (sem 𝓤 H A (lasts begin.ended tt (a, (n, tt)) ws)) (fact 𝓤 (Begins t)))

@@ -36,7 +36,7 @@ use denote.Triple.Spec.{tripleOf}
 use denote.Triple.Table.{cited}
 use denote.Triple.Clauses.{ensured, lasts}
 use denote.Triple.Walked.{says, Stays, gave-slice, stay-dropped, walkOf, Walks, ends-at, walked, goes-gave-slice}
-use Rattle.retained.specs.Table.{step as stepOf, tableStepped, outputStepped}
+use Rattle.retained.specs.Table.{retryStep, tableStepped, outputStepped}
 use Rattle.deciding.specs.Deciding.{effectOn, askStep}
 use Rattle.retained.specs.declared.Retained.{Retained}
 use Rattle.deciding.specs.declared.Ask.{Ask}
@@ -110,7 +110,7 @@ module _ {M : Type 1} (𝓤 : URA M) (H : Heap 𝓤) (A : Atoms 𝓤) (W : Given
   Tokens = ‵ (flft κ q) ⊛ (‵ (flft κ′ q′) ⊛ ‵ ftrue)
 
   abbrev Stepped : Outcome → List Retained → List ℕ → Type 0
-  Stepped r zs ws = (r ≡ stepOf ys last time delay tries (length bs)) × (zs ≡ tableStepped ys last time delay tries (length bs))
+  Stepped r zs ws = (r ≡ retryStep ys last time delay tries (length bs)) × (zs ≡ tableStepped ys last time delay tries (length bs))
       × (ws ≡ outputStepped ys last time delay tries bs)
 
   -- that the four numbers fit
