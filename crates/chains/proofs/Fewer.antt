@@ -9,17 +9,17 @@ use native.Mathlib.Decide.{ℕ-discrete}
 use borrow.Author.Tests.{eqb-true, eqb-false}
 use lib.Dec.{eqb}
 use Rattle.chains.specs.Chains.{Shortest}
-use Rattle.chains.specs.Lengths.{places}
+use Rattle.chains.specs.Lengths.{placesOfNodes}
 use Rattle.chains.proofs.Steps.{chain-last, chain-known, shortest-before, shortest-one}
 
-pub in-places : (n to : ℕ) → to < n → List·Memᴰ to (places n)
-unfolding places
+pub in-places : (n to : ℕ) → to < n → List·Memᴰ to (placesOfNodes n)
+unfolding placesOfNodes
 in-places zero to h = absurd (omega arith)
 in-places (suc n) to h =
     by-cases (ℕ-discrete to n) (λ e. List·Memᴰ·head e) (λ ne. List·Memᴰ·tail (in-places n to (omega (arith, ne))))
 
-pub below-places : (n to : ℕ) → List·Memᴰ to (places n) → to < n
-unfolding places
+pub below-places : (n to : ℕ) → List·Memᴰ to (placesOfNodes n) → to < n
+unfolding placesOfNodes
 below-places zero to m = absurd (List·Memᴰ·not-nil m)
 below-places (suc n) to m =
     ⊎-elim (λ e. omega (arith, e)) (λ k. omega (arith, below-places n to k)) (List·Memᴰ·cases-cons m)
@@ -60,15 +60,15 @@ pigeonhole (suc n) (suc m) f below differ =
 
 module _ (hears : ℕ → ℕ → Bool) (n from : ℕ) (begins : from < n) where
   abbrev Length : ℕ → ℕ → Type 0
-  Length to k = Shortest hears (places n) from to k
+  Length to k = Shortest hears (placesOfNodes n) from to k
 
   -- the node so many hearings before the last
   before : (k to : ℕ) → Length to k → (i : ℕ) → (v : ℕ) × ((m : ℕ) → m + i ≡ k → Length v m)
   before k to s zero = (to, λ m e. subst (Length to) (omega (arith, e)) s)
   before zero to s (suc i) = (to, λ m e. absurd (omega (arith, e)))
   before (suc k) to s (suc i) =
-      let via = chain-last hears (places n) from k (s .chain) .via in
-      let (v, is) = before k via (shortest-before hears (places n) from k s) i in
+      let via = chain-last hears (placesOfNodes n) from k (s .chain) .via in
+      let (v, is) = before k via (shortest-before hears (placesOfNodes n) from k s) i in
       (v, λ m e. is m (omega (arith, e)))
 
   pub shortest-below : (k to : ℕ) → Length to k → k < n
@@ -76,9 +76,9 @@ module _ (hears : ℕ → ℕ → Bool) (n from : ℕ) (begins : from < n) where
       let node : ℕ → ℕ = λ i. before k to s i .0 in
       let is : (i : ℕ) → i ≤ k → Length (node i) (k - i) = λ i h. before k to s i .1 (k - i) (omega arith) in
       pigeonhole n (suc k) node
-      (λ i h. below-places n (node i) (chain-known hears (places n) from (k - i) (in-places n from begins) (is i (omega arith) .chain)))
+      (λ i h. below-places n (node i) (chain-known hears (placesOfNodes n) from (k - i) (in-places n from begins) (is i (omega arith) .chain)))
       (λ i j h h′ e.
       let here = is i (omega arith) in
       let there = subst (λ (v : ℕ). Length v (k - j)) (sym e) (is j (omega arith)) in
-      let same = shortest-one hears (places n) from (k - i) (k - j) here there in
+      let same = shortest-one hears (placesOfNodes n) from (k - i) (k - j) here there in
       omega (arith, same, h, h′))

@@ -7,7 +7,7 @@ use borrow.Author.Tests.{lt-ltb, le-ltb, le-leb, lt-leb}
 use lib.Dec.{leb}
 use lib.ListN.{length}
 use Rattle.chains.specs.Lengths.{nodeLimit, noChain, served, Found}
-use Rattle.chains.specs.Rounds.{begun, afterRound}
+use Rattle.chains.specs.Rounds.{beforeRounds, afterRound}
 use Rattle.chains.proofs.Rounds.{Known, known-first, known-after, all-told}
 
 module _ (pairs : List ℕ) (from : ℕ) (before : List ℕ) where
@@ -24,7 +24,7 @@ module _ (pairs : List ℕ) (from : ℕ) (before : List ℕ) where
   pub not-a-node : n ≤ from → Found pairs from before false before
   not-a-node past = refused (rw (le-ltb from n past) (and-false (leb n nodeLimit)))
 
-  pub begun-known : (lengths : List ℕ) → from < n → lengths ≡ begun n from → Known pairs n from 0 lengths
+  pub begun-known : (lengths : List ℕ) → from < n → lengths ≡ beforeRounds n from → Known pairs n from 0 lengths
   begun-known lengths begins is = subst (Known pairs n from 0) (sym is) (known-first pairs n from begins)
 
   pub round-known : (k : ℕ) (lengths next : List ℕ) → from < n → k + 1 < noChain → next ≡ afterRound k pairs lengths → Known pairs n from k lengths

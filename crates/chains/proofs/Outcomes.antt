@@ -8,7 +8,7 @@ use native.Mathlib.Omega.{arith}
 use lib.ListN.{length}
 use lib.Seq.{ext-getD}
 use Rattle.octets.specs.Octets.{at}
-use Rattle.chains.specs.Lengths.{heard, places, Tells, Found}
+use Rattle.chains.specs.Lengths.{isHeard, placesOfNodes, Tells, Found}
 use Rattle.chains.proofs.Steps.{shortest-one}
 
 module _ (pairs : List ℕ) (from : ℕ) where
@@ -17,7 +17,7 @@ module _ (pairs : List ℕ) (from : ℕ) where
       ⊎-elim {C = v ≡ w}
       (λ s.
       ⊎-elim {C = v ≡ w}
-      (λ s′. shortest-one (heard pairs) (places n) from v w (s .1) (s′ .1))
+      (λ s′. shortest-one (isHeard pairs) (placesOfNodes n) from v w (s .1) (s′ .1))
       (λ none. absurd (none .1 v (s .1 .chain)))
       u)
       (λ none.

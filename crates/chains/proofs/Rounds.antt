@@ -13,8 +13,8 @@ use lib.Seq.{getD-set-same, getD-set-other}
 use Rattle.octets.specs.Octets.{at}
 use Rattle.octets.proofs.Tests.{both}
 use Rattle.chains.specs.Chains.{Chain, Shortest, Beyond}
-use Rattle.chains.specs.Lengths.{heard, places, noChain, Tells}
-use Rattle.chains.specs.Rounds.{begun, isTold, noted, afterRound}
+use Rattle.chains.specs.Lengths.{isHeard, placesOfNodes, noChain, Tells}
+use Rattle.chains.specs.Rounds.{beforeRounds, isTold, noted, afterRound}
 use Rattle.chains.proofs.Steps.{chain-none, chain-is-none, chain-next, chain-last, chain-known}
 use Rattle.chains.proofs.Fewer.{in-places, below-places, shortest-below}
 
@@ -29,45 +29,45 @@ unfolding isTold
 is-told lengths place value below is = rw (lt-ltb place (length lengths) below) (eq-eqb (at lengths place) value is)
 
 -- a hearing that is not the first pair's is one of the rest
-later : (a b : ℕ) (rest : List ℕ) (via to : ℕ) → heard (a ∷ b ∷ rest) via to ≡ true → (a ≡ via → b ≡ to → ⊥) → heard rest via to ≡ true
-unfolding heard
+later : (a b : ℕ) (rest : List ℕ) (via to : ℕ) → isHeard (a ∷ b ∷ rest) via to ≡ true → (a ≡ via → b ≡ to → ⊥) → isHeard rest via to ≡ true
+unfolding isHeard
 later a b rest via to h differ = go (eqb a via) refl (eqb b to) refl h
   where
-    go : (p : Bool) → eqb a via ≡ p → (q : Bool) → eqb b to ≡ q → ((p && q) || heard rest via to) ≡ true → heard rest via to ≡ true
+    go : (p : Bool) → eqb a via ≡ p → (q : Bool) → eqb b to ≡ q → ((p && q) || isHeard rest via to) ≡ true → isHeard rest via to ≡ true
     go true p true q h = absurd (differ (eqb-true a via p) (eqb-true b to q))
     go true p false q h = h
     go false p q e h = h
 
-pub first-heard : (a b : ℕ) (rest : List ℕ) → heard (a ∷ b ∷ rest) a b ≡ true
-unfolding heard
+pub first-heard : (a b : ℕ) (rest : List ℕ) → isHeard (a ∷ b ∷ rest) a b ≡ true
+unfolding isHeard
 first-heard a b rest = rw (eq-eqb a a refl) (rw (eq-eqb b b refl) refl)
 
-pub rest-heard : (a b : ℕ) (rest : List ℕ) (via to : ℕ) → heard rest via to ≡ true → heard (a ∷ b ∷ rest) via to ≡ true
-unfolding heard
+pub rest-heard : (a b : ℕ) (rest : List ℕ) (via to : ℕ) → isHeard rest via to ≡ true → isHeard (a ∷ b ∷ rest) via to ≡ true
+unfolding isHeard
 rest-heard a b rest via to h = rw h (or-true (eqb a via && eqb b to))
 
 module _ (pairs : List ℕ) (n from : ℕ) where
   abbrev hears : ℕ → ℕ → Bool
-  hears = heard pairs
+  hears = isHeard pairs
 
   abbrev Reached : ℕ → ℕ → Type 0
-  Reached to k = Shortest hears (places n) from to k
+  Reached to k = Shortest hears (placesOfNodes n) from to k
 
   -- after round k - 1: the lengths up to k are told
   pub record Known (k : ℕ) (lengths : List ℕ) : Type 0 where
     pub size : length lengths ≡ n
     pub each : (to : ℕ) → to < n
-        → ((at lengths to ≤ k) × Reached to (at lengths to)) ⊎ ((at lengths to ≡ noChain) × Beyond hears (places n) from to k)
+        → ((at lengths to ≤ k) × Reached to (at lengths to)) ⊎ ((at lengths to ≡ noChain) × Beyond hears (placesOfNodes n) from to k)
 
   -- a node that is not told yet hears one at the end of a chain of k hearings only by the rest of the pairs
   abbrev Waiting : ℕ → List ℕ → ℕ → Type 0
-  Waiting k rest to = (via : ℕ) → Chain hears (places n) from via k → hears via to ≡ true → heard rest via to ≡ true
+  Waiting k rest to = (via : ℕ) → Chain hears (placesOfNodes n) from via k → hears via to ≡ true → isHeard rest via to ≡ true
 
   -- within round k, with the rest of the pairs to come
   record During (k : ℕ) (rest lengths : List ℕ) : Type 0 where
     pub size : length lengths ≡ n
     pub told : (to : ℕ) → to < n → at lengths to ≢ noChain → (at lengths to ≤ k + 1) × Reached to (at lengths to)
-    pub untold : (to : ℕ) → to < n → at lengths to ≡ noChain → Beyond hears (places n) from to k × Waiting k rest to
+    pub untold : (to : ℕ) → to < n → at lengths to ≡ noChain → Beyond hears (placesOfNodes n) from to k × Waiting k rest to
 
   during-first : (k : ℕ) (lengths : List ℕ) → k < noChain → Known k lengths → During k pairs lengths
   during-first k lengths few known =
@@ -79,7 +79,7 @@ module _ (pairs : List ℕ) (n from : ℕ) where
             (λ t. absurd (ne (t .0)))
             (known .each to below);
         untold = λ to below e. (
-          ⊎-elim {C = Beyond hears (places n) from to k}
+          ⊎-elim {C = Beyond hears (placesOfNodes n) from to k}
               (λ t. let small : at lengths to ≤ k = t .0 in absurd (omega (arith, small, e)))
               (λ t. t .1)
               (known .each to below),
@@ -89,7 +89,7 @@ module _ (pairs : List ℕ) (n from : ℕ) where
 
   -- the end of a round: who still waits has no chain of k + 1 hearings
   known-next : (k : ℕ) (lengths : List ℕ) → During k [] lengths → Known (k + 1) lengths
-  unfolding heard
+  unfolding isHeard
   known-next k lengths d =
       record {
         size = d .size;
@@ -101,35 +101,35 @@ module _ (pairs : List ℕ) (n from : ℕ) where
             (λ ne. inl (d .told to below ne));
       }
     where
-      still : (to : ℕ) → Beyond hears (places n) from to k → Waiting k [] to → Beyond hears (places n) from to (k + 1)
+      still : (to : ℕ) → Beyond hears (placesOfNodes n) from to k → Waiting k [] to → Beyond hears (placesOfNodes n) from to (k + 1)
       still to beyond waiting zero few c = beyond 0 (omega arith) c
       still to beyond waiting (suc j) few c =
           by-cases (ℕ-discrete j k)
           (λ e.
-          let l = chain-last hears (places n) from j c in
-          let c′ = subst (Chain hears (places n) from (l .via)) e (l .before) in
+          let l = chain-last hears (placesOfNodes n) from j c in
+          let c′ = subst (Chain hears (placesOfNodes n) from (l .via)) e (l .before) in
           false≢true (waiting (l .via) c′ (l .heard)))
           (λ ne. beyond (suc j) (omega (arith, ne, few)) c)
 
   -- one hearing that is noted: the node's shortest chain goes through its sender
   noted-shortest : (k a b : ℕ) (lengths : List ℕ) → a < n → b < n → k < noChain → at lengths a ≡ k
       → ((to : ℕ) → to < n → at lengths to ≢ noChain → (at lengths to ≤ k + 1) × Reached to (at lengths to))
-      → Beyond hears (places n) from b k → hears a b ≡ true → Reached b (k + 1)
+      → Beyond hears (placesOfNodes n) from b k → hears a b ≡ true → Reached b (k + 1)
   noted-shortest k a b lengths a-in b-in few is told beyond h =
       let differs : at lengths a ≢ noChain = λ e. omega (arith, is, e, few) in
       let sender = subst (Reached a) is (told a a-in differs .1) in
       subst (Reached b) (omega arith)
       (record {
-        chain = chain-next hears (places n) from k (sender .chain) (in-places n b b-in) h;
+        chain = chain-next hears (placesOfNodes n) from k (sender .chain) (in-places n b b-in) h;
         none-shorter = λ j below c. beyond j (omega (arith, below)) c;
       })
 
   -- one that is not: where the node is not told, its sender has no chain of k hearings
   not-noted : from < n → (k a b : ℕ) {rest : List ℕ} (lengths : List ℕ) → (a < n → at lengths a ≢ k)
-      → During k rest lengths → b < n → at lengths b ≡ noChain → hears a b ≡ true → ¬ Chain hears (places n) from a k
+      → During k rest lengths → b < n → at lengths b ≡ noChain → hears a b ≡ true → ¬ Chain hears (placesOfNodes n) from a k
   not-noted begins k a b lengths ne d b-in e h c =
-      let beyond : Beyond hears (places n) from b k = d .untold b b-in e .0 in
-      let a-in : a < n = below-places n a (chain-known hears (places n) from k (in-places n from begins) c) in
+      let beyond : Beyond hears (placesOfNodes n) from b k = d .untold b b-in e .0 in
+      let a-in : a < n = below-places n a (chain-known hears (placesOfNodes n) from k (in-places n from begins) c) in
       by-cases (ℕ-discrete (at lengths a) noChain)
       (λ none. d .untold a a-in none .0 k (omega arith) c)
       (λ some.
@@ -138,9 +138,9 @@ module _ (pairs : List ℕ) (n from : ℕ) where
       (λ above. s .none-shorter k above c)
       (λ not-above.
       beyond (suc (at lengths a)) (omega (arith, not-above, ne a-in))
-      (chain-next hears (places n) from (at lengths a) (s .chain) (in-places n b b-in) h)))
+      (chain-next hears (placesOfNodes n) from (at lengths a) (s .chain) (in-places n b b-in) h)))
 
-  unchanged : (k a b : ℕ) (rest lengths : List ℕ) → (b < n → at lengths b ≡ noChain → ¬ Chain hears (places n) from a k)
+  unchanged : (k a b : ℕ) (rest lengths : List ℕ) → (b < n → at lengths b ≡ noChain → ¬ Chain hears (placesOfNodes n) from a k)
       → During k (a ∷ b ∷ rest) lengths → During k rest lengths
   unchanged k a b rest lengths settled d =
       record {
@@ -153,7 +153,7 @@ module _ (pairs : List ℕ) (n from : ℕ) where
                   later a b rest via to (waiting via c h)
                   (λ a-is b-is.
                   settled (subst (λ (x : ℕ). x < n) (sym b-is) below) (ap (at lengths) b-is ∙ e)
-                  (subst (λ (x : ℕ). Chain hears (places n) from x k) (sym a-is) c)),
+                  (subst (λ (x : ℕ). Chain hears (placesOfNodes n) from x k) (sym a-is) c)),
             );
       }
 
@@ -202,9 +202,9 @@ module _ (pairs : List ℕ) (n from : ℕ) where
           not-noted begins k a b lengths (λ a-in a-is. false≢true (sym p ∙ is-told lengths a k (omega (arith, a-in, d .size)) a-is)) d b-in b-is h)
           d
 
-  round : from < n → (k : ℕ) (rest lengths : List ℕ) → k + 1 < noChain → ((s t : ℕ) → heard rest s t ≡ true → hears s t ≡ true)
+  round : from < n → (k : ℕ) (rest lengths : List ℕ) → k + 1 < noChain → ((s t : ℕ) → isHeard rest s t ≡ true → hears s t ≡ true)
       → During k rest lengths → During k [] (afterRound k rest lengths)
-  unfolding afterRound heard
+  unfolding afterRound isHeard
   round begins k [] lengths few part d = d
   round begins k (x ∷ []) lengths few part d = record { size = d .size; told = d .told; untold = d .untold }
   round begins k (a ∷ b ∷ rest) lengths few part d =
@@ -215,8 +215,8 @@ module _ (pairs : List ℕ) (n from : ℕ) where
   known-after begins k lengths few known =
       known-next k (afterRound k pairs lengths) (round begins k pairs lengths few (λ s t h. h) (during-first k lengths (omega (arith, few)) known))
 
-  pub known-first : from < n → Known 0 (begun n from)
-  unfolding begun
+  pub known-first : from < n → Known 0 (beforeRounds n from)
+  unfolding beforeRounds
   known-first begins =
       let none = replicate n noChain in
       let from-at : from < length none = omega (arith, begins, length-replicate n noChain) in
@@ -231,14 +231,14 @@ module _ (pairs : List ℕ) (n from : ℕ) where
             (λ other.
             inr (
               getD-set-other none from to 0 0 other ∙ getD-replicate n to noChain 0 below,
-              λ j few c. other (chain-is-none hears (places n) from (subst (Chain hears (places n) from to) (omega (arith, few)) c)),
+              λ j few c. other (chain-is-none hears (placesOfNodes n) from (subst (Chain hears (placesOfNodes n) from to) (omega (arith, few)) c)),
             ));
       }
     where
       own : (to : ℕ) → to ≡ from → Reached to 0
       own to same =
           subst (λ (x : ℕ). Reached x 0) (sym same)
-          (record { chain = chain-none hears (places n) from; none-shorter = λ j below c. omega (arith, below) })
+          (record { chain = chain-none hears (placesOfNodes n) from; none-shorter = λ j below c. omega (arith, below) })
 
   -- after as many rounds as there are nodes, less one, all is told
   pub all-told : from < n → (k : ℕ) (lengths : List ℕ) → n ≤ noChain → n ≤ k + 1 → Known k lengths → (to : ℕ) → to < n → Tells pairs n from to (at lengths to)
@@ -248,15 +248,15 @@ module _ (pairs : List ℕ) (n from : ℕ) where
       (λ t. inr (t .0, λ j c. never (t .1) j j (omega arith) c))
       (known .each to below)
     where
-      never : Beyond hears (places n) from to k → (m j : ℕ) → j ≤ m → ¬ Chain hears (places n) from to j
+      never : Beyond hears (placesOfNodes n) from to k → (m j : ℕ) → j ≤ m → ¬ Chain hears (placesOfNodes n) from to j
       never beyond zero j small c = beyond j (omega (arith, small)) c
       never beyond (suc m) j small c =
           by-cases (decLt m j)
           (λ top. long beyond m j (omega (arith, top, small)) (λ i less. never beyond m i less) c)
           (λ less. never beyond m j (omega (arith, less)) c)
         where
-          long : Beyond hears (places n) from to k → (m j : ℕ) → j ≡ suc m → ((i : ℕ) → i ≤ m → ¬ Chain hears (places n) from to i)
-              → ¬ Chain hears (places n) from to j
+          long : Beyond hears (placesOfNodes n) from to k → (m j : ℕ) → j ≡ suc m → ((i : ℕ) → i ≤ m → ¬ Chain hears (placesOfNodes n) from to i)
+              → ¬ Chain hears (placesOfNodes n) from to j
           long beyond m j is none c =
               let s : Reached to j = record { chain = c; none-shorter = λ i less. none i (omega (arith, less, is)) } in
               let short = shortest-below hears n from begins j to s in

@@ -10,15 +10,15 @@ use Rattle.octets.specs.Octets.{at}
 use Rattle.chains.specs.Chains.{Shortest, Unreached}
 
 -- who hears whom, in pairs: a sender's place, then the place of a node that hears it; a byte left over says nothing
-unfoldable pub heard : List ℕ → ℕ → ℕ → Bool
-heard [] sender node = false
-heard (last ∷ []) sender node = false
-heard (first ∷ second ∷ pairs) sender node = (eqb first sender && eqb second node) || heard pairs sender node
+unfoldable pub isHeard : List ℕ → ℕ → ℕ → Bool
+isHeard [] sender node = false
+isHeard (last ∷ []) sender node = false
+isHeard (first ∷ second ∷ pairs) sender node = (eqb first sender && eqb second node) || isHeard pairs sender node
 
 -- the places of n nodes
-unfoldable pub places : ℕ → List ℕ
-places zero = []
-places (suc n) = n ∷ places n
+unfoldable pub placesOfNodes : ℕ → List ℕ
+placesOfNodes zero = []
+placesOfNodes (suc n) = n ∷ placesOfNodes n
 
 -- the number of nodes that is served at most; a shortest chain among them is shorter than this, which stands for 'no chain'
 abbrev pub nodeLimit : ℕ
@@ -30,7 +30,7 @@ noChain = 255
 -- what is told of a node: the length of its shortest chain from the originator, or that there is none
 abbrev pub Tells : List ℕ → ℕ → ℕ → ℕ → ℕ → Type 0
 Tells pairs n from to value =
-    ((value < noChain) × Shortest (heard pairs) (places n) from to value) ⊎ ((value ≡ noChain) × Unreached (heard pairs) (places n) from to)
+    ((value < noChain) × Shortest (isHeard pairs) (placesOfNodes n) from to value) ⊎ ((value ≡ noChain) × Unreached (isHeard pairs) (placesOfNodes n) from to)
 
 -- at most 255 nodes, the originator one of them
 abbrev pub served : ℕ → ℕ → Bool

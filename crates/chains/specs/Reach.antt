@@ -27,5 +27,5 @@ leastFrom values h zero = Unreachable
 leastFrom values h (suc more) = cond (eqb (missed h values) 0) (HopLimit h) (leastFrom values (h + 1) more)
 
 -- the least hop limit of 0 to 6 that reaches all nodes
-unfoldable pub least : List ℕ → Least
-least values = leastFrom values 0 7
+unfoldable pub leastHop : List ℕ → Least
+leastHop values = leastFrom values 0 7

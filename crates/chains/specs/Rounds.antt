@@ -8,8 +8,8 @@ use Rattle.octets.specs.Octets.{at}
 use Rattle.chains.specs.Lengths.{noChain}
 
 -- before the first round: the originator's chain of no hearings, and none of any other node
-unfoldable pub begun : ℕ → ℕ → List ℕ
-begun n from = set (replicate n noChain) from 0
+unfoldable pub beforeRounds : ℕ → ℕ → List ℕ
+beforeRounds n from = set (replicate n noChain) from 0
 
 -- whether a place is that of a node of which that value is told
 unfoldable pub isTold : List ℕ → ℕ → ℕ → Bool

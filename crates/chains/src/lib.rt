@@ -3,8 +3,8 @@ ghost use mathlib.Core.Path.{_≡_};
 ghost use Prim.Native.Nat.{_<_};
 ghost use lib.ListN.{length, replicate};
 ghost use Rattle.chains.specs.Lengths.{noChain, Found};
-ghost use Rattle.chains.specs.Reach.{isDelivered, isMissed, missed, least};
-ghost use Rattle.chains.specs.Rounds.{begun, isTold, noted, afterRound};
+ghost use Rattle.chains.specs.Reach.{isDelivered, isMissed, missed, leastHop};
+ghost use Rattle.chains.specs.Rounds.{beforeRounds, isTold, noted, afterRound};
 use octets::byte_value;
 use octets::flag;
 
@@ -46,7 +46,7 @@ fn narrow(count: usize) -> u8
 
 fn begin(lengths: &mut [u8], from: usize)
     requires { ⌜ from < length (now lengths) ⌝ }
-    ensures { λ _. ⌜ now (lengths .exit) ≡ begun (length (now (lengths .entry))) from ⌝ }
+    ensures { λ _. ⌜ now (lengths .exit) ≡ beforeRounds (length (now (lengths .entry))) from ⌝ }
 {
     clear(lengths);
     lengths[from] = 0;
@@ -141,7 +141,7 @@ fn is_missed(hop_limit: u8, length: u8) -> bool
 
 // The least hop limit of 0 to 6 at which no node is out of reach. Document 02, W-208.
 pub fn least_hop_limit(lengths: &[u8]) -> Least
-    ensures { λ r. ⌜ r ≡ least (now (lengths .entry)) ⌝ }
+    ensures { λ r. ⌜ r ≡ leastHop (now (lengths .entry)) ⌝ }
 {
     let mut hop_limit: u8 = 0;
     while hop_limit < 7 {

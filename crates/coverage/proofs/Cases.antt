@@ -27,8 +27,8 @@ use Rattle.flood.proofs.Lists.{nodup-more}
 use Rattle.flood.proofs.Others.{others-are}
 use Rattle.coverage.specs.Hearing.{Taken, ByNoOther}
 use Rattle.coverage.specs.Delivery.{Planned, Delivered}
-use Rattle.coverage.specs.Cases.{report, reading, repeater, tell, told, answers, next, lineAddresses, lineReceptions, lineAir, lineTold, written}
-use Rattle.coverage.specs.Cases.{twoWays, twoWaysAddresses, longerFirst}
+use Rattle.coverage.specs.Cases.{reportAsked, reading, repeater, tell, toldAlong, toldOfEach, nextInLine, lineAddresses, lineReceptions, lineAir}
+use Rattle.coverage.specs.Cases.{lineTold, written, twoWays, twoWaysAddresses, longerFirst}
 use Rattle.coverage.proofs.Checked.{absent, distinct, all, all-pass, below, below-pass, happens, areTaken, checked}
 use Rattle.coverage.proofs.Covered.{by-shortest, reach}
 use Rattle.coverage.proofs.Schedule.{within}
@@ -49,13 +49,13 @@ differ (a ∷ later) e =
     let (new, rest) = both _ _ e in
     nodup-more (not-in-path a later (not-true (inPath a later) new)) (differ later rest)
 
-report-length : (hop : ℕ) → length (fresh (report hop) reading) ≡ 8
+report-length : (hop : ℕ) → length (fresh (reportAsked hop) reading) ≡ 8
 unfolding fresh freshHeader encode headerBytes pathBytes
 report-length hop = refl
 
 -- what the theorem asks of the message and of the nodes
 planned : (addresses : List ℕ) → differing addresses ≡ true → all (λ a. ltb a 65536) addresses ≡ true → (hop : ℕ) → hop ≤ 6
-    → Planned (map repeater addresses) (report hop) reading 100
+    → Planned (map repeater addresses) (reportAsked hop) reading 100
 planned addresses apart fit hop few =
     record {
       originated = asked-taken hop (omega arith);
@@ -69,7 +69,7 @@ planned addresses apart fit hop few =
     open-all : (n : Repeater) → List·Memᴰ n (map repeater addresses) → Open (n .node)
     open-all n m = let (a, a-in, e) = Memᴰ·of-map repeater addresses m in subst (λ (x : Repeater). Open (x .node)) e (plain-open true a)
 
-    roomy : (n : Repeater) → List·Memᴰ n (map repeater addresses) → length (fresh (report hop) reading) + 2 * hop ≤ n .room
+    roomy : (n : Repeater) → List·Memᴰ n (map repeater addresses) → length (fresh (reportAsked hop) reading) + 2 * hop ≤ n .room
     roomy n m =
         let (a, a-in, e) = Memᴰ·of-map repeater addresses m in
         let hundred : n .room ≡ 100 = ap (λ (x : Repeater). x .room) (sym e) in
@@ -87,26 +87,26 @@ each-hop P a b c d e f g (suc (suc (suc (suc (suc (suc zero)))))) few = g
 each-hop P a b c d e f g (suc (suc (suc (suc (suc (suc (suc hop))))))) few = absurd (omega arith)
 
 -- THE LINE
-pub line-planned : (hop : ℕ) → hop ≤ 6 → Planned (map repeater lineAddresses) (report hop) reading 100
+pub line-planned : (hop : ℕ) → hop ≤ 6 → Planned (map repeater lineAddresses) (reportAsked hop) reading 100
 unfolding differing inPath all
 line-planned = planned lineAddresses refl refl
 
-pub line-air : (hop : ℕ) → hop ≤ 6 → onTheAir (map repeater lineAddresses) (fresh (report hop) reading) (lineReceptions hop) ≡ lineAir hop
+pub line-air : (hop : ℕ) → hop ≤ 6 → onTheAir (map repeater lineAddresses) (fresh (reportAsked hop) reading) (lineReceptions hop) ≡ lineAir hop
 unfolding flood answer sends fresh freshHeader encode headerBytes pathBytes repeated repeatNumber stopFault listOrReadingFault firstFault faultOf
     lowAboveHigh readOf headerOf dropFault echoFault passFault repeatFault addressesAt inPath _gives_ _orElse_
 line-air =
-    each-hop (λ hop. onTheAir (map repeater lineAddresses) (fresh (report hop) reading) (lineReceptions hop) ≡ lineAir hop) refl refl refl refl refl refl
+    each-hop (λ hop. onTheAir (map repeater lineAddresses) (fresh (reportAsked hop) reading) (lineReceptions hop) ≡ lineAir hop) refl refl refl refl refl refl
     refl
 
-pub line-told : (hop : ℕ) → hop ≤ 6 → answers (map repeater lineAddresses) hop (lineReceptions hop) ≡ lineTold hop
-unfolding told tell answerOf deliveryNumber taken deliveryFault flood answer sends fresh freshHeader encode headerBytes pathBytes repeated repeatNumber
+pub line-told : (hop : ℕ) → hop ≤ 6 → toldOfEach (map repeater lineAddresses) hop (lineReceptions hop) ≡ lineTold hop
+unfolding toldAlong tell answerOf deliveryNumber taken deliveryFault flood answer sends fresh freshHeader encode headerBytes pathBytes repeated repeatNumber
     stopFault listOrReadingFault firstFault faultOf lowAboveHigh readOf headerOf dropFault echoFault passFault repeatFault addressesAt inPath
     _gives_ _orElse_
 line-told =
-    each-hop (λ hop. answers (map repeater lineAddresses) hop (lineReceptions hop) ≡ lineTold hop) refl refl refl refl refl refl refl
+    each-hop (λ hop. toldOfEach (map repeater lineAddresses) hop (lineReceptions hop) ≡ lineTold hop) refl refl refl refl refl refl refl
 
 abbrev LineChecked : ℕ → Type 0
-LineChecked hop = areTaken (map repeater lineAddresses) next (fresh (report hop) reading) (lineReceptions hop) (lineAir hop) ≡ true
+LineChecked hop = areTaken (map repeater lineAddresses) nextInLine (fresh (reportAsked hop) reading) (lineReceptions hop) (lineAir hop) ≡ true
 
 line-checked : (hop : ℕ) → hop ≤ 6 → LineChecked hop
 unfolding areTaken distinct absent all below happens within lastOr written flood answer sends fresh freshHeader encode headerBytes pathBytes repeated
@@ -114,39 +114,40 @@ unfolding areTaken distinct absent all below happens within lastOr written flood
     _gives_ _orElse_
 line-checked = each-hop LineChecked refl refl refl refl refl refl refl
 
-pub line-taken : (hop : ℕ) → hop ≤ 6 → Taken next (map repeater lineAddresses) (fresh (report hop) reading) (lineReceptions hop)
-    × ByNoOther next (map repeater lineAddresses) (fresh (report hop) reading) (lineReceptions hop)
+pub line-taken : (hop : ℕ) → hop ≤ 6 → Taken nextInLine (map repeater lineAddresses) (fresh (reportAsked hop) reading) (lineReceptions hop)
+    × ByNoOther nextInLine (map repeater lineAddresses) (fresh (reportAsked hop) reading) (lineReceptions hop)
 line-taken hop few =
-    checked (map repeater lineAddresses) next (fresh (report hop) reading) (lineReceptions hop) (lineAir hop) (line-air hop few) (line-checked hop few)
+    checked (map repeater lineAddresses) nextInLine (fresh (reportAsked hop) reading) (lineReceptions hop) (lineAir hop)
+    (line-air hop few) (line-checked hop few)
 
 -- TWO WAYS, the longer played first
-pub two-ways-planned : Planned (map repeater twoWaysAddresses) (report 6) reading 100
+pub two-ways-planned : Planned (map repeater twoWaysAddresses) (reportAsked 6) reading 100
 unfolding differing inPath all
 two-ways-planned = planned twoWaysAddresses refl refl 6 (omega arith)
 
-pub two-ways-told : answers (map repeater twoWaysAddresses) 6 longerFirst
+pub two-ways-told : toldOfEach (map repeater twoWaysAddresses) 6 longerFirst
     ≡ (1 ∷ 0 ∷ 0 ∷ reading) ∷ (1000 ∷ 42 ∷ 1 ∷ []) ∷ (2 ∷ 0 ∷ 1 ∷ reading) ∷ (9 ∷ 0 ∷ 2 ∷ reading) ∷ (4 ∷ 0 ∷ 0 ∷ reading) ∷ (9 ∷ 0 ∷ 1 ∷ reading)
     ∷ (9 ∷ 30 ∷ 3 ∷ []) ∷ (9 ∷ 30 ∷ 2 ∷ []) ∷ []
-unfolding told tell answerOf deliveryNumber taken deliveryFault flood answer sends fresh freshHeader encode headerBytes pathBytes repeated repeatNumber
+unfolding toldAlong tell answerOf deliveryNumber taken deliveryFault flood answer sends fresh freshHeader encode headerBytes pathBytes repeated repeatNumber
     stopFault listOrReadingFault firstFault faultOf lowAboveHigh readOf headerOf dropFault echoFault passFault repeatFault addressesAt inPath
     _gives_ _orElse_
 two-ways-told = refl
 
-two-ways-checked : areTaken (map repeater twoWaysAddresses) twoWays (fresh (report 6) reading) longerFirst
-    (onTheAir (map repeater twoWaysAddresses) (fresh (report 6) reading) longerFirst) ≡ true
+two-ways-checked : areTaken (map repeater twoWaysAddresses) twoWays (fresh (reportAsked 6) reading) longerFirst
+    (onTheAir (map repeater twoWaysAddresses) (fresh (reportAsked 6) reading) longerFirst) ≡ true
 unfolding areTaken distinct absent all below happens within lastOr written flood answer sends fresh freshHeader encode headerBytes pathBytes repeated
     repeatNumber stopFault listOrReadingFault firstFault faultOf lowAboveHigh readOf headerOf dropFault echoFault passFault repeatFault addressesAt inPath
     _gives_ _orElse_
 two-ways-checked = refl
 
-pub two-ways-taken : Taken twoWays (map repeater twoWaysAddresses) (fresh (report 6) reading) longerFirst
-    × ByNoOther twoWays (map repeater twoWaysAddresses) (fresh (report 6) reading) longerFirst
+pub two-ways-taken : Taken twoWays (map repeater twoWaysAddresses) (fresh (reportAsked 6) reading) longerFirst
+    × ByNoOther twoWays (map repeater twoWaysAddresses) (fresh (reportAsked 6) reading) longerFirst
 two-ways-taken =
-    checked (map repeater twoWaysAddresses) twoWays (fresh (report 6) reading) longerFirst
-    (onTheAir (map repeater twoWaysAddresses) (fresh (report 6) reading) longerFirst) refl two-ways-checked
+    checked (map repeater twoWaysAddresses) twoWays (fresh (reportAsked 6) reading) longerFirst
+    (onTheAir (map repeater twoWaysAddresses) (fresh (reportAsked 6) reading) longerFirst) refl two-ways-checked
 
 -- chains
-pub line-ends : map (ends next lineAddresses 1000) (0 ∷ 1 ∷ 2 ∷ 3 ∷ 4 ∷ 5 ∷ 6 ∷ 7 ∷ 8 ∷ [])
+pub line-ends : map (ends nextInLine lineAddresses 1000) (0 ∷ 1 ∷ 2 ∷ 3 ∷ 4 ∷ 5 ∷ 6 ∷ 7 ∷ 8 ∷ [])
     ≡ (1000 ∷ []) ∷ (1001 ∷ []) ∷ (1002 ∷ []) ∷ (1003 ∷ []) ∷ (1004 ∷ []) ∷ (1005 ∷ []) ∷ (1006 ∷ []) ∷ (1007 ∷ []) ∷ [] ∷ []
 unfolding ends hearers hearsOne
 line-ends = refl
@@ -167,11 +168,11 @@ module _ (hears : ℕ → ℕ → Bool) (addresses : List ℕ) (to : ℕ) where
       → Shortest hears addresses 1000 to k
   shortest-is k e c = record { chain = c; none-shorter = no-chain k e }
 
-line-shortest : Shortest next (map address (map repeater lineAddresses)) 1000 1003 3
+line-shortest : Shortest nextInLine (map address (map repeater lineAddresses)) 1000 1003 3
 unfolding below inPath ends hearers hearsOne
-line-shortest = shortest-is next lineAddresses 1003 3 refl (List·Memᴰ·head refl)
+line-shortest = shortest-is nextInLine lineAddresses 1003 3 refl (List·Memᴰ·head refl)
 
-line-none : below (λ j. not (inPath 1004 (ends next lineAddresses 1000 j))) 4 ≡ true
+line-none : below (λ j. not (inPath 1004 (ends nextInLine lineAddresses 1000 j))) 4 ≡ true
 unfolding below inPath ends hearers hearsOne
 line-none = refl
 
@@ -180,26 +181,27 @@ unfolding below inPath ends hearers hearsOne written
 two-ways-shortest = shortest-is twoWays twoWaysAddresses 9 2 refl (List·Memᴰ·tail (List·Memᴰ·tail (List·Memᴰ·head refl)))
 
 -- at hop limit 2 the third node of the line is delivered the payload, and the fourth nothing
-pub line-delivered : Delivered (map repeater lineAddresses) (fresh (report 2) reading) (lineReceptions 2) (repeater 1003) reading 2
+pub line-delivered : Delivered (map repeater lineAddresses) (fresh (reportAsked 2) reading) (lineReceptions 2) (repeater 1003) reading 2
 line-delivered =
-    by-shortest next (map repeater lineAddresses) (report 2) reading 100 (line-planned 2 (omega arith)) (lineReceptions 2) (line-taken 2 (omega arith) .0)
-    (repeater 1003) (List·Memᴰ·tail (List·Memᴰ·tail (List·Memᴰ·tail (List·Memᴰ·head refl)))) (λ (e : 1003 ≡ 1000). omega arith) 3 (omega arith)
-    line-shortest
+    by-shortest nextInLine (map repeater lineAddresses) (reportAsked 2) reading 100 (line-planned 2 (omega arith)) (lineReceptions 2)
+    (line-taken 2 (omega arith) .0) (repeater 1003) (List·Memᴰ·tail (List·Memᴰ·tail (List·Memᴰ·tail (List·Memᴰ·head refl))))
+    (λ (e : 1003 ≡ 1000). omega arith) 3 (omega arith) line-shortest
 
 pub line-beyond : (what : List ℕ) (count : ℕ)
-    → ¬ Delivered (map repeater lineAddresses) (fresh (report 2) reading) (lineReceptions 2) (repeater 1004) what count
+    → ¬ Delivered (map repeater lineAddresses) (fresh (reportAsked 2) reading) (lineReceptions 2) (repeater 1004) what count
 line-beyond =
-    reach next (map repeater lineAddresses) (report 2) reading 100 (line-planned 2 (omega arith)) (lineReceptions 2) (line-taken 2 (omega arith) .0) .beyond
-    (line-taken 2 (omega arith) .1) (repeater 1004) (λ j few. no-chain next lineAddresses 1004 4 line-none j (omega arith))
+    reach nextInLine (map repeater lineAddresses) (reportAsked 2) reading 100 (line-planned 2 (omega arith)) (lineReceptions 2)
+    (line-taken 2 (omega arith) .0) .beyond (line-taken 2 (omega arith) .1) (repeater 1004)
+    (λ j few. no-chain nextInLine lineAddresses 1004 4 line-none j (omega arith))
 
 -- 9 is delivered it with the shorter way's count, and the originator not at all
-pub two-ways-delivered : Delivered (map repeater twoWaysAddresses) (fresh (report 6) reading) longerFirst (repeater 9) reading 1
+pub two-ways-delivered : Delivered (map repeater twoWaysAddresses) (fresh (reportAsked 6) reading) longerFirst (repeater 9) reading 1
 two-ways-delivered =
-    by-shortest twoWays (map repeater twoWaysAddresses) (report 6) reading 100 two-ways-planned longerFirst (two-ways-taken .0)
+    by-shortest twoWays (map repeater twoWaysAddresses) (reportAsked 6) reading 100 two-ways-planned longerFirst (two-ways-taken .0)
     (repeater 9) (List·Memᴰ·tail (List·Memᴰ·tail (List·Memᴰ·tail (List·Memᴰ·tail (List·Memᴰ·head refl))))) (λ (e : 9 ≡ 1000). omega arith) 2 (omega arith)
     two-ways-shortest
 
 pub two-ways-originator : (what : List ℕ) (count : ℕ)
-    → ¬ Delivered (map repeater twoWaysAddresses) (fresh (report 6) reading) longerFirst (repeater 1000) what count
+    → ¬ Delivered (map repeater twoWaysAddresses) (fresh (reportAsked 6) reading) longerFirst (repeater 1000) what count
 two-ways-originator =
-    reach twoWays (map repeater twoWaysAddresses) (report 6) reading 100 two-ways-planned longerFirst (two-ways-taken .0) .originator (repeater 1000) refl
+    reach twoWays (map repeater twoWaysAddresses) (reportAsked 6) reading 100 two-ways-planned longerFirst (two-ways-taken .0) .originator (repeater 1000) refl

@@ -9,7 +9,7 @@ use native.Mathlib.Omega.{arith}
 use lib.ListN.{length, getElem?}
 use Rattle.octets.specs.Octets.{at}
 use Rattle.chains.specs.Chains.{Chain, Shortest, Unreached}
-use Rattle.chains.specs.Lengths.{places}
+use Rattle.chains.specs.Lengths.{placesOfNodes}
 use Rattle.chains.proofs.Fewer.{in-places, below-places}
 use Rattle.chains.proofs.Steps.{chain-none, chain-is-none, chain-next, chain-last, chain-known}
 use Rattle.flood.proofs.Lists.{at-mem, mem-at, same-place}
@@ -33,20 +33,20 @@ module _ (near hears : ℕ → ℕ → Bool) (addresses : List ℕ) (apart : Lis
   abbrev n : ℕ
   n = length addresses
 
-  to-addresses : (k to : ℕ) → to < n → Chain near (places n) from to k → Chain hears addresses (at addresses from) (at addresses to) k
+  to-addresses : (k to : ℕ) → to < n → Chain near (placesOfNodes n) from to k → Chain hears addresses (at addresses from) (at addresses to) k
   to-addresses zero to h c =
-      subst (λ (a : ℕ). Chain hears addresses (at addresses from) (at addresses a) 0) (sym (chain-is-none near (places n) from c))
+      subst (λ (a : ℕ). Chain hears addresses (at addresses from) (at addresses a) 0) (sym (chain-is-none near (placesOfNodes n) from c))
       (chain-none hears addresses (at addresses from))
   to-addresses (suc k) to h c =
-      let step = chain-last near (places n) from k c in
-      let inside = below-places n (step .via) (chain-known near (places n) from k (in-places n from begins) (step .before)) in
+      let step = chain-last near (placesOfNodes n) from k c in
+      let inside = below-places n (step .via) (chain-known near (placesOfNodes n) from k (in-places n from begins) (step .before)) in
       chain-next hears addresses (at addresses from) k (to-addresses k (step .via) inside (step .before)) (at-in addresses to h)
       (sym (same (step .via) to inside h) ∙ step .heard)
 
-  to-places : (k to : ℕ) → to < n → Chain hears addresses (at addresses from) (at addresses to) k → Chain near (places n) from to k
+  to-places : (k to : ℕ) → to < n → Chain hears addresses (at addresses from) (at addresses to) k → Chain near (placesOfNodes n) from to k
   to-places zero to h c =
       let e : to ≡ from = one to from h begins (chain-is-none hears addresses (at addresses from) c) in
-      subst (λ (a : ℕ). Chain near (places n) from a 0) (sym e) (chain-none near (places n) from)
+      subst (λ (a : ℕ). Chain near (placesOfNodes n) from a 0) (sym e) (chain-none near (placesOfNodes n) from)
     where
       one : (i j : ℕ) → i < n → j < n → at addresses i ≡ at addresses j → i ≡ j
       one i j hi hj e =
@@ -55,15 +55,15 @@ module _ (near hears : ℕ → ℕ → Bool) (addresses : List ℕ) (apart : Lis
       let step = chain-last hears addresses (at addresses from) k c in
       let (i, i-lt, is) = place-of addresses (chain-known hears addresses (at addresses from) k (at-in addresses from begins) (step .before)) in
       let before = subst (λ (a : ℕ). Chain hears addresses (at addresses from) a k) (sym is) (step .before) in
-      chain-next near (places n) from k (to-places k i i-lt before) (in-places n to h)
+      chain-next near (placesOfNodes n) from k (to-places k i i-lt before) (in-places n to h)
       (same i to i-lt h ∙ ap (λ (a : ℕ). hears a (at addresses to)) is ∙ step .heard)
 
   -- the shortest, and none
-  pub shortest-at : (k to : ℕ) → to < length addresses → Shortest near (places (length addresses)) from to k
+  pub shortest-at : (k to : ℕ) → to < length addresses → Shortest near (placesOfNodes (length addresses)) from to k
       → Shortest hears addresses (at addresses from) (at addresses to) k
   shortest-at k to h s =
       record { chain = to-addresses k to h (s .chain); none-shorter = λ j below c. s .none-shorter j below (to-places j to h c) }
 
-  pub unreached-at : (to : ℕ) → to < length addresses → Unreached near (places (length addresses)) from to
+  pub unreached-at : (to : ℕ) → to < length addresses → Unreached near (placesOfNodes (length addresses)) from to
       → Unreached hears addresses (at addresses from) (at addresses to)
   unreached-at to h none j c = none j (to-places j to h c)

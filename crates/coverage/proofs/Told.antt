@@ -13,7 +13,7 @@ use lib.ListN.{length, getElem?, length-map}
 use Rattle.octets.specs.Octets.{at}
 use Rattle.octets.proofs.Tests.{both}
 use Rattle.chains.specs.Chains.{Shortest, Unreached}
-use Rattle.chains.specs.Lengths.{heard, places, noChain, Tells, Found}
+use Rattle.chains.specs.Lengths.{isHeard, placesOfNodes, noChain, Tells, Found}
 use Rattle.chains.specs.Reach.{isDelivered}
 use Rattle.chains.proofs.Steps.{chain-none, chain-is-none, shortest-one}
 use Rattle.origin.specs.declared.Settings.{Settings}
@@ -59,7 +59,7 @@ module _ (hears : ℕ → ℕ → Bool) (nodes : List Repeater) (settings : Sett
   source-at : at addresses from ≡ settings .source
   source-at = Option·some-injective _ _ (sym (at-place addresses from begins) ∙ from-at)
 
-  same : (i j : ℕ) → i < length addresses → j < length addresses → heard pairs i j ≡ hears (at addresses i) (at addresses j)
+  same : (i j : ℕ) → i < length addresses → j < length addresses → isHeard pairs i j ≡ hears (at addresses i) (at addresses j)
   same i j hi hj = says i j (omega (arith, long)) (omega (arith, long))
 
   -- one node
@@ -70,18 +70,18 @@ module _ (hears : ℕ → ℕ → Bool) (nodes : List Repeater) (settings : Sett
     address-at : at addresses place ≡ address n
     address-at = Option·some-injective _ _ (sym (at-place addresses place inside) ∙ at-map address nodes place n-at)
 
-    shortest : Shortest (heard pairs) (places (length addresses)) from place value
+    shortest : Shortest (isHeard pairs) (placesOfNodes (length addresses)) from place value
         → Shortest hears addresses (settings .source) (address n) value
     shortest s =
         subst (λ (a : ℕ). Shortest hears addresses (settings .source) a value) address-at
         (subst (λ (a : ℕ). Shortest hears addresses a (at addresses place) value) source-at
-        (shortest-at (heard pairs) hears addresses (plan .network .addresses-differ) same from begins value place inside s))
+        (shortest-at (isHeard pairs) hears addresses (plan .network .addresses-differ) same from begins value place inside s))
 
-    unreached : Unreached (heard pairs) (places (length addresses)) from place → Unreached hears addresses (settings .source) (address n)
+    unreached : Unreached (isHeard pairs) (placesOfNodes (length addresses)) from place → Unreached hears addresses (settings .source) (address n)
     unreached none =
         subst (λ (a : ℕ). Unreached hears addresses (settings .source) a) address-at
         (subst (λ (a : ℕ). Unreached hears addresses a (at addresses place)) source-at
-        (unreached-at (heard pairs) hears addresses (plan .network .addresses-differ) same from begins place inside none))
+        (unreached-at (isHeard pairs) hears addresses (plan .network .addresses-differ) same from begins place inside none))
 
     abbrev reaches : Reach hears nodes settings payload receptions
     reaches = reach hears nodes settings payload room plan receptions taken

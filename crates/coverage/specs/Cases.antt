@@ -17,8 +17,8 @@ use Rattle.flood.specs.Air.{Repeater, address, onTheAir}
 use Rattle.flood.specs.Flood.{Reception}
 
 -- a report of source 1000 for everyone, with the path bit, of that hop limit, and its one byte of payload
-abbrev pub report : ℕ → asked.Settings
-report hop =
+abbrev pub reportAsked : ℕ → asked.Settings
+reportAsked hop =
     record {
       edition = 12;
       source = 1000;
@@ -62,16 +62,16 @@ tell (some n) (some received) =
     let answer = answerOf (n .node) (n .room) received in
     address n ∷ answer .delivery ∷ headerOf received .«path_count» ∷ take (answer .«delivered_length») (drop (answer .«delivered_place») received)
 
-unfoldable pub told : List Repeater → List (List ℕ) → List Reception → List (List ℕ)
-told nodes air [] = []
-told nodes air (r ∷ later) = tell (getElem? nodes (r .node)) (getElem? air (r .transmission)) ∷ told nodes air later
+unfoldable pub toldAlong : List Repeater → List (List ℕ) → List Reception → List (List ℕ)
+toldAlong nodes air [] = []
+toldAlong nodes air (r ∷ later) = tell (getElem? nodes (r .node)) (getElem? air (r .transmission)) ∷ toldAlong nodes air later
 
-abbrev pub answers : List Repeater → ℕ → List Reception → List (List ℕ)
-answers nodes hop receptions = told nodes (onTheAir nodes (fresh (report hop) reading) receptions) receptions
+abbrev pub toldOfEach : List Repeater → ℕ → List Reception → List (List ℕ)
+toldOfEach nodes hop receptions = toldAlong nodes (onTheAir nodes (fresh (reportAsked hop) reading) receptions) receptions
 
 -- The line: the originator 1000, then 1001 to 1007, each of which hears the one before it and no other.
-abbrev pub next : ℕ → ℕ → Bool
-next sender node = eqb node (sender + 1)
+abbrev pub nextInLine : ℕ → ℕ → Bool
+nextInLine sender node = eqb node (sender + 1)
 
 abbrev pub lineAddresses : List ℕ
 lineAddresses = 1000 ∷ 1001 ∷ 1002 ∷ 1003 ∷ 1004 ∷ 1005 ∷ 1006 ∷ 1007 ∷ []

@@ -6,7 +6,7 @@ use mathlib.Core.Path.{_≡_}
 use Prim.Native.Nat.{ℕ, _-_, _<_}
 use lib.ListN.{length, getElem?}
 use Rattle.octets.specs.Octets.{at}
-use Rattle.chains.specs.Lengths.{heard}
+use Rattle.chains.specs.Lengths.{isHeard}
 use Rattle.chains.specs.Reach.{isDelivered}
 use Rattle.origin.specs.declared.Settings as asked
 use Rattle.origin.specs.Origination.{fresh}
@@ -17,7 +17,7 @@ use Rattle.coverage.specs.Delivery.{Delivered}
 -- the pairs of places say who hears whom among the nodes
 abbrev pub Says : List ℕ → (ℕ → ℕ → Bool) → List Repeater → Type 0
 Says pairs hears nodes =
-    (i j : ℕ) → i < length nodes → j < length nodes → heard pairs i j ≡ hears (at (map address nodes) i) (at (map address nodes) j)
+    (i j : ℕ) → i < length nodes → j < length nodes → isHeard pairs i j ≡ hears (at (map address nodes) i) (at (map address nodes) j)
 
 -- by the lengths, a byte for each node, a node is delivered the payload, and with which path count, or is not
 pub record Told (nodes : List Repeater) (settings : asked.Settings) (payload : List ℕ) (receptions : List Reception) (lengths : List ℕ) : Type 0 where

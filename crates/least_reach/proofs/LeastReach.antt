@@ -13,7 +13,7 @@ use Rattle.editions.specs.Editions.{known}
 use Rattle.hearing.specs.Hearing.{answerUnder, HearsUnder}
 use Rattle.hearing.proofs.Known.{known-answer}
 use Rattle.flood.specs.Air.{Repeater, address, sends}
-use Rattle.chains.specs.Lengths.{heard}
+use Rattle.chains.specs.Lengths.{isHeard}
 use Rattle.coverage.specs.Delivery.{Delivers}
 use Rattle.coverage.proofs.Cases as cases
 use Rattle.coverage.proofs.Covered.{reach, schedule}
@@ -54,7 +54,7 @@ unfolding sends answerOf
 sent editionOf n received named = rw named refl
 
 pub least-reach : LeastReach
-unfolding heard
+unfolding isHeard
 least-reach =
     record {
       reach = reach;

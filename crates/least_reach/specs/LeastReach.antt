@@ -7,7 +7,7 @@ use mathlib.Core.Path.{_≡_}
 use lib.Dec.{eqb}
 use lib.ListN.{length, take, drop, getElem?}
 use Rattle.chains.specs.Chains.{ends}
-use Rattle.chains.specs.Lengths.{heard, Found}
+use Rattle.chains.specs.Lengths.{isHeard, Found}
 use Rattle.origin.specs.declared.Settings as asked
 use Rattle.origin.specs.Origination.{fresh}
 use Rattle.node.specs.declared.Answer.{Answer}
@@ -20,8 +20,8 @@ use Rattle.coverage.specs.Hearing.{Taken, ByNoOther}
 use Rattle.coverage.specs.Delivery.{Planned, Delivers, Delivered}
 use Rattle.coverage.specs.Reach.{Reach}
 use Rattle.coverage.specs.Told.{Says, Told}
-use Rattle.coverage.specs.Cases.{report, reading, repeater, answers, next, lineAddresses, lineReceptions, lineAir, lineTold, twoWays, twoWaysAddresses}
-use Rattle.coverage.specs.Cases.{longerFirst}
+use Rattle.coverage.specs.Cases.{reportAsked, reading, repeater, toldOfEach, nextInLine, lineAddresses, lineReceptions, lineAir, lineTold}
+use Rattle.coverage.specs.Cases.{twoWays, twoWaysAddresses, longerFirst}
 
 pub record LeastReach : Type 0 where
   -- I. WHAT 02 ASKS
@@ -41,7 +41,7 @@ pub record LeastReach : Type 0 where
       → (before lengths : List ℕ) → length before ≡ length nodes → Found pairs from before true lengths
       → Told nodes settings payload receptions lengths
   -- a pair is a sender's place, and then the place of a node that hears it
-  pub pair : (heard (1 ∷ 2 ∷ []) 1 2 ≡ true) × (heard (1 ∷ 2 ∷ []) 2 1 ≡ false)
+  pub pair : (isHeard (1 ∷ 2 ∷ []) 1 2 ≡ true) × (isHeard (1 ∷ 2 ∷ []) 2 1 ≡ false)
   -- the nodes have edition 1.1 or 1.2 each, as their addresses say (W-209). A node of the model delivers what its function `hear` answers under its
   -- edition: number 0, and the payload at the answer's place, and no other; and it sends where that answer's repeat number is 0
   pub answered : (editionOf : ℕ → ℕ) (n : Repeater) (received output left payload : List ℕ) (answer : Answer)
@@ -58,28 +58,28 @@ pub record LeastReach : Type 0 where
   -- IV. WORKED CASES
   -- a line of eight nodes, one-way, hop limits 0 to 6: the run is such as is asked, what goes out, who is delivered it and with what count. Hop limit h
   -- reaches h + 1 hearings and no further, which are h + 1 nodes here
-  pub line-planned : (hop : ℕ) → hop ≤ 6 → Planned (map repeater lineAddresses) (report hop) reading 100
-  pub line-taken : (hop : ℕ) → hop ≤ 6 → Taken next (map repeater lineAddresses) (fresh (report hop) reading) (lineReceptions hop)
-      × ByNoOther next (map repeater lineAddresses) (fresh (report hop) reading) (lineReceptions hop)
-  pub line-air : (hop : ℕ) → hop ≤ 6 → onTheAir (map repeater lineAddresses) (fresh (report hop) reading) (lineReceptions hop) ≡ lineAir hop
-  pub line-told : (hop : ℕ) → hop ≤ 6 → answers (map repeater lineAddresses) hop (lineReceptions hop) ≡ lineTold hop
-  pub line-ends : map (ends next lineAddresses 1000) (0 ∷ 1 ∷ 2 ∷ 3 ∷ 4 ∷ 5 ∷ 6 ∷ 7 ∷ 8 ∷ [])
+  pub line-planned : (hop : ℕ) → hop ≤ 6 → Planned (map repeater lineAddresses) (reportAsked hop) reading 100
+  pub line-taken : (hop : ℕ) → hop ≤ 6 → Taken nextInLine (map repeater lineAddresses) (fresh (reportAsked hop) reading) (lineReceptions hop)
+      × ByNoOther nextInLine (map repeater lineAddresses) (fresh (reportAsked hop) reading) (lineReceptions hop)
+  pub line-air : (hop : ℕ) → hop ≤ 6 → onTheAir (map repeater lineAddresses) (fresh (reportAsked hop) reading) (lineReceptions hop) ≡ lineAir hop
+  pub line-told : (hop : ℕ) → hop ≤ 6 → toldOfEach (map repeater lineAddresses) hop (lineReceptions hop) ≡ lineTold hop
+  pub line-ends : map (ends nextInLine lineAddresses 1000) (0 ∷ 1 ∷ 2 ∷ 3 ∷ 4 ∷ 5 ∷ 6 ∷ 7 ∷ 8 ∷ [])
       ≡ (1000 ∷ []) ∷ (1001 ∷ []) ∷ (1002 ∷ []) ∷ (1003 ∷ []) ∷ (1004 ∷ []) ∷ (1005 ∷ []) ∷ (1006 ∷ []) ∷ (1007 ∷ []) ∷ [] ∷ []
   -- so at hop limit 2 the third node after the originator is delivered the payload, and the fourth nothing
-  pub line-delivered : Delivered (map repeater lineAddresses) (fresh (report 2) reading) (lineReceptions 2) (repeater 1003) reading 2
+  pub line-delivered : Delivered (map repeater lineAddresses) (fresh (reportAsked 2) reading) (lineReceptions 2) (repeater 1003) reading 2
   pub line-beyond : (what : List ℕ) (count : ℕ)
-      → ¬ Delivered (map repeater lineAddresses) (fresh (report 2) reading) (lineReceptions 2) (repeater 1004) what count
+      → ¬ Delivered (map repeater lineAddresses) (fresh (reportAsked 2) reading) (lineReceptions 2) (repeater 1004) what count
   -- two ways of different length, the longer played first: 9 is delivered the payload with path count 2, and then with 1, one less than its shortest
   -- chain; the originator, which hears 1, answers 42, and 9 its own repeats 30
-  pub two-ways-planned : Planned (map repeater twoWaysAddresses) (report 6) reading 100
-  pub two-ways-taken : Taken twoWays (map repeater twoWaysAddresses) (fresh (report 6) reading) longerFirst
-      × ByNoOther twoWays (map repeater twoWaysAddresses) (fresh (report 6) reading) longerFirst
-  pub two-ways-told : answers (map repeater twoWaysAddresses) 6 longerFirst
+  pub two-ways-planned : Planned (map repeater twoWaysAddresses) (reportAsked 6) reading 100
+  pub two-ways-taken : Taken twoWays (map repeater twoWaysAddresses) (fresh (reportAsked 6) reading) longerFirst
+      × ByNoOther twoWays (map repeater twoWaysAddresses) (fresh (reportAsked 6) reading) longerFirst
+  pub two-ways-told : toldOfEach (map repeater twoWaysAddresses) 6 longerFirst
       ≡ (1 ∷ 0 ∷ 0 ∷ reading) ∷ (1000 ∷ 42 ∷ 1 ∷ []) ∷ (2 ∷ 0 ∷ 1 ∷ reading) ∷ (9 ∷ 0 ∷ 2 ∷ reading) ∷ (4 ∷ 0 ∷ 0 ∷ reading) ∷ (9 ∷ 0 ∷ 1 ∷ reading)
       ∷ (9 ∷ 30 ∷ 3 ∷ []) ∷ (9 ∷ 30 ∷ 2 ∷ []) ∷ []
   pub two-ways-ends : map (ends twoWays twoWaysAddresses 1000) (0 ∷ 1 ∷ 2 ∷ 3 ∷ [])
       ≡ (1000 ∷ []) ∷ (1 ∷ 4 ∷ []) ∷ (1000 ∷ 2 ∷ 9 ∷ []) ∷ (1 ∷ 4 ∷ 9 ∷ []) ∷ []
   -- so 9 is delivered it with the shorter way's count, and the originator nothing
-  pub two-ways-delivered : Delivered (map repeater twoWaysAddresses) (fresh (report 6) reading) longerFirst (repeater 9) reading 1
+  pub two-ways-delivered : Delivered (map repeater twoWaysAddresses) (fresh (reportAsked 6) reading) longerFirst (repeater 9) reading 1
   pub two-ways-originator : (what : List ℕ) (count : ℕ)
-      → ¬ Delivered (map repeater twoWaysAddresses) (fresh (report 6) reading) longerFirst (repeater 1000) what count
+      → ¬ Delivered (map repeater twoWaysAddresses) (fresh (reportAsked 6) reading) longerFirst (repeater 1000) what count

@@ -1,4 +1,4 @@
-use Rattle.chains.specs.Rounds.{begun}
+use Rattle.chains.specs.Rounds.{beforeRounds}
 use lib.ListN.{set}
 use Prim.Native.Nat.{ℕ}
 use mathlib.Core.List.{List}
@@ -17,7 +17,7 @@ same-length : tie.Need-same-length
 same-length c = search needs
 
 returns : tie.Need-returns
-unfolding begun
+unfolding beforeRounds
 returns c =
     let a = c .before .before .before .before .before .args in
     ap (λ (l : List ℕ). set l (a .from) 0) (c .before .before .clear .ensures)

@@ -1,7 +1,7 @@
 use denote.Ref.{now}
 use Prim.Native.Nat.{_+_, _-_, _≤_}
 use mathlib.Core.Path.{_≡_, refl, sym, _∙_}
-use Rattle.chains.specs.Reach.{least, leastFrom}
+use Rattle.chains.specs.Reach.{leastHop, leastFrom}
 use Rattle.chains.proofs.Reaching.{not-yet, now-all, never}
 use native.Mathlib.Omega.{arith}
 use borrow.Author.Needs.{needs}
@@ -9,13 +9,13 @@ use Rattle.chains.proofs.least_hop_limit.Statement.{statement}
 use Rattle.chains.proofs.least_hop_limit.Tie as tie
 
 abbrev Inv-loop : tie.InvT-loop
-Inv-loop lengths hop-limit₀ hop-limit = (hop-limit ≤ 7) × (least lengths ≡ leastFrom lengths hop-limit (7 - hop-limit))
+Inv-loop lengths hop-limit₀ hop-limit = (hop-limit ≤ 7) × (leastHop lengths ≡ leastFrom lengths hop-limit (7 - hop-limit))
 
 abbrev μ-loop : tie.MeasureT-loop
 μ-loop lengths hop-limit₀ hop-limit = 7 - hop-limit
 
 loop-holds : tie.Need-loop-holds Inv-loop μ-loop
-unfolding least
+unfolding leastHop
 loop-holds c = (omega arith, refl)
 
 missed-requires : tie.Need-missed-requires Inv-loop μ-loop
