@@ -15,7 +15,7 @@ use Rattle.octets.specs.Octets.{at}
 use Rattle.field.specs.Field.{_⊕_, subByte}
 use Rattle.rounds.specs.Rounds.{listed, word}
 use Rattle.rounds.proofs.Equal.{ap₄}
-use Rattle.aes.specs.Cipher.{plus, rotWord, subWord, rcon, power, temp, nextWord, expansion}
+use Rattle.aes.specs.Cipher.{plus, rotWord, subWord, rcon, power, temp, nextKeyWord, expansion}
 
 entry : (n i : ℕ) (f : ℕ → ℕ) (k : ℕ) → k < n → at (listed n i f) k ≡ f (i + k)
 entry zero i f k h = absurd (not-suc-le-zero h)
@@ -61,11 +61,11 @@ copied-front n l rest e p =
 
 module _ (key : List ℕ) (sixteen : length key ≡ 16) where
   length-expansion : (n : ℕ) → length (expansion key n) ≡ 16 + 4 * n
-  unfolding expansion nextWord
+  unfolding expansion nextKeyWord
   length-expansion zero = sixteen
   length-expansion (suc n) =
       let w = expansion key n in
-      let l : length (w ++ nextWord w (4 + n)) ≡ length w + 4 = length-append w (nextWord w (4 + n)) in
+      let l : length (w ++ nextKeyWord w (4 + n)) ≡ length w + 4 = length-append w (nextKeyWord w (4 + n)) in
       l ∙ omega (arith, length-expansion n)
 
   -- a byte does not change as more words follow
@@ -75,7 +75,7 @@ module _ (key : List ℕ) (sixteen : length key ≡ 16) where
   later n (suc d) i h =
       let w = expansion key (n + d) in
       ap (λ (k : ℕ). at (expansion key k) i) (add-suc n d)
-      ∙ List·getD-append w (nextWord w (4 + (n + d))) 0 i (omega (arith, length-expansion (n + d))) ∙ later n d i h
+      ∙ List·getD-append w (nextKeyWord w (4 + (n + d))) 0 i (omega (arith, length-expansion (n + d))) ∙ later n d i h
 
   early : (n i j : ℕ) → n ≤ 40 → i < 16 + 4 * n → i ≡ j → at (expansion key n) i ≡ at (expansion key 40) j
   early n i j g h e =
@@ -87,7 +87,7 @@ module _ (key : List ℕ) (sixteen : length key ≡ 16) where
   begins zero = take-all 16 key (omega arith)
   begins (suc n) =
       let w = expansion key n in
-      take-append-le 16 w (nextWord w (4 + n)) (omega (arith, length-expansion n)) ∙ begins n
+      take-append-le 16 w (nextKeyWord w (4 + n)) (omega (arith, length-expansion n)) ∙ begins n
 
   -- 5.2, byte by byte
   byte :
@@ -95,7 +95,7 @@ module _ (key : List ℕ) (sixteen : length key ≡ 16) where
       → let w = expansion key 40 in
       let i = p - p % 4 in
       at w p ≡ at w (p - 16) ⊕ at (temp (p / 4) (at w (i - 4) ∷ at w (i - 3) ∷ at w (i - 2) ∷ at w (i - 1) ∷ [])) (p % 4)
-  unfolding expansion nextWord
+  unfolding expansion nextKeyWord
   byte p g h =
       let n = p / 4 - 4 in
       let w = expansion key n in
@@ -111,7 +111,7 @@ module _ (key : List ℕ) (sixteen : length key ≡ 16) where
       (early n (suc (suc (4 * (4 + n - 1)))) (i - 2) (omega arith) (omega arith) (omega arith))
       (early n (suc (suc (suc (4 * (4 + n - 1))))) (i - 1) (omega arith) (omega arith) (omega arith)) in
       sym (early (suc n) p p (omega arith) (omega arith) refl)
-      ∙ ap (at (w ++ nextWord w (4 + n))) e ∙ getD-append-add w (nextWord w (4 + n)) (p % 4) 0
+      ∙ ap (at (w ++ nextKeyWord w (4 + n))) e ∙ getD-append-add w (nextKeyWord w (4 + n)) (p % 4) 0
       ∙ entry 4 0 (λ k. at (word w (4 + n - 4)) k ⊕ at (temp (4 + n) (word w (4 + n - 1))) k) (p % 4) (omega arith)
       ∙ ap (λ (k : ℕ). at (word w (4 + n - 4)) k ⊕ at (temp (4 + n) (word w (4 + n - 1))) k) (zero-add (p % 4))
       ∙ ap₂ (λ (x y : ℕ). x ⊕ y)

@@ -48,13 +48,13 @@ unfoldable pub temp : ℕ → List ℕ → List ℕ
 temp i v = cond (eqb (i % 4) 0) (plus (subWord (rotWord v)) (rcon (i / 4))) v
 
 -- 5.2: word i, given those before it
-unfoldable pub nextWord : List ℕ → ℕ → List ℕ
-nextWord w i = plus (word w (i - 4)) (temp i (word w (i - 1)))
+unfoldable pub nextKeyWord : List ℕ → ℕ → List ℕ
+nextKeyWord w i = plus (word w (i - 4)) (temp i (word w (i - 1)))
 
 -- 5.2: the key's four words and n more
 unfoldable pub expansion : List ℕ → ℕ → List ℕ
 expansion key zero = key
-expansion key (suc n) = let w = expansion key n in w ++ nextWord w (4 + n)
+expansion key (suc n) = let w = expansion key n in w ++ nextKeyWord w (4 + n)
 
 -- 5.2: all 44 words
 unfoldable pub keyExpansion : List ℕ → List ℕ

@@ -13,12 +13,12 @@ use lib.ListN.{length, take, set, length-append, length-set, List·getD-append}
 use lib.Seq.{take-suc-set, take-all, getD-at, getD-set-same, getD-set-other}
 use Rattle.octets.specs.Octets.{at}
 use Rattle.compression.specs.declared.Five.{Five}
-use Rattle.compression.specs.Compression.{_⊕_, rotl, wordAt, words, nextWord, schedule, step, steps}
+use Rattle.compression.specs.Compression.{_⊕_, rotl, blockWord, words, nextScheduleWord, schedule, hashStep, hashSteps}
 use Rattle.compression.proofs.Equal.{ap₄}
 
 -- one more word of the block in its place
 pub laid :
-    (block w : List ℕ) (t v : ℕ) → t < length w → take t w ≡ words block t → v ≡ wordAt block t → take (t + 1) (set w t v) ≡ words block (t + 1)
+    (block w : List ℕ) (t v : ℕ) → t < length w → take t w ≡ words block t → v ≡ blockWord block t → take (t + 1) (set w t v) ≡ words block (t + 1)
 unfolding words
 laid block w t v h p q =
     ap (λ (k : ℕ). take k (set w t v)) (add-one t) ∙ take-suc-set w t v h ∙ ap₂ (λ (l : List ℕ) (x : ℕ). l ++ (x ∷ [])) p q
@@ -32,7 +32,7 @@ all-laid block w t l g h p =
 length-words : (block : List ℕ) (n : ℕ) → length (words block n) ≡ n
 unfolding words
 length-words block zero = refl
-length-words block (suc n) = length-append (words block n) (wordAt block n ∷ []) ∙ add-one (length (words block n)) ∙ ap suc (length-words block n)
+length-words block (suc n) = length-append (words block n) (blockWord block n ∷ []) ∙ add-one (length (words block n)) ∙ ap suc (length-words block n)
 
 -- the sixteen words m of a block
 module _ (m : List ℕ) (sixteen : length m ≡ 16) where
@@ -41,7 +41,7 @@ module _ (m : List ℕ) (sixteen : length m ≡ 16) where
   length-schedule zero = sixteen
   length-schedule (suc n) =
       let w = schedule m n in
-      length-append w (nextWord w n ∷ []) ∙ add-one (length w) ∙ ap suc (length-schedule n) ∙ sym (add-suc 16 n)
+      length-append w (nextScheduleWord w n ∷ []) ∙ add-one (length w) ∙ ap suc (length-schedule n) ∙ sym (add-suc 16 n)
 
   -- a word of the schedule does not change as more follow
   later : (n d i : ℕ) → i < 16 + n → at (schedule m (n + d)) i ≡ at (schedule m n) i
@@ -50,7 +50,7 @@ module _ (m : List ℕ) (sixteen : length m ≡ 16) where
   later n (suc d) i h =
       let w = schedule m (n + d) in
       ap (λ (k : ℕ). at (schedule m k) i) (add-suc n d)
-      ∙ List·getD-append w (nextWord w (n + d) ∷ []) 0 i (omega (arith, length-schedule (n + d))) ∙ later n d i h
+      ∙ List·getD-append w (nextScheduleWord w (n + d) ∷ []) 0 i (omega (arith, length-schedule (n + d))) ∙ later n d i h
 
   -- word t, of the first that are made and of all
   word-made : (t : ℕ) → t < 80 → at (schedule m t) t ≡ at (schedule m 64) t
@@ -81,12 +81,12 @@ unfolding schedule
 turned-on m w t v j l f q k h =
     let s = schedule m t in
     let o = length-schedule m j t in
-    let x : nextWord s t ≡ v =
+    let x : nextScheduleWord s t ≡ v =
     sym
     (q
     ∙ ap₄ (λ (a b c d : ℕ). rotl 1 (a ⊕ b ⊕ c ⊕ d)) (f 13 (lit< tt)) (f 8 (lit< tt)) (f 2 (lit< tt))
     (ap (λ (i : ℕ). at w (i % 16)) (sym (add-zero t)) ∙ f 0 (lit< tt) ∙ ap (at s) (add-zero t))) in
-    let r : at (schedule m (t + 1)) (t + 1 + k) ≡ at (s ++ (nextWord s t ∷ [])) (t + 1 + k) =
+    let r : at (schedule m (t + 1)) (t + 1 + k) ≡ at (s ++ (nextScheduleWord s t ∷ [])) (t + 1 + k) =
     ap (λ (n : ℕ). at (schedule m n) (t + 1 + k)) (add-one t) in
     by-cases (decLt k 15)
     (λ g.
@@ -94,12 +94,12 @@ turned-on m w t v j l f q k h =
     let i : t + 1 + k < length s = omega (arith, o, g) in
     let n : (t + 1 + k) % 16 ≢ t % 16 = λ z. omega (arith, g, z) in
     getD-set-other w (t % 16) ((t + 1 + k) % 16) v 0 n ∙ ap (λ (j : ℕ). at w (j % 16)) e ∙ f (k + 1) (omega (arith, g)) ∙ ap (at s) (sym e)
-    ∙ sym (r ∙ List·getD-append s (nextWord s t ∷ []) 0 (t + 1 + k) i))
+    ∙ sym (r ∙ List·getD-append s (nextScheduleWord s t ∷ []) 0 (t + 1 + k) i))
     (λ g.
     let e : (t + 1 + k) % 16 ≡ t % 16 = omega (arith, h, g) in
     let i : length s ≡ t + 1 + k = omega (arith, o, h, g) in
     let n : t % 16 < length w = omega (arith, l) in
-    ap (at (set w (t % 16) v)) e ∙ getD-set-same w (t % 16) v 0 n ∙ sym (r ∙ getD-at s (nextWord s t) [] 0 (t + 1 + k) i ∙ x))
+    ap (at (set w (t % 16) v)) e ∙ getD-set-same w (t % 16) v 0 n ∙ sym (r ∙ getD-at s (nextScheduleWord s t) [] 0 (t + 1 + k) i ∙ x))
 
 -- after t steps: the words from the t-th on, and the five variables
 pub record Ran (h : Five) (m w : List ℕ) (s : Five) (t : ℕ) : Type 0 where
@@ -107,20 +107,20 @@ pub record Ran (h : Five) (m w : List ℕ) (s : Five) (t : ℕ) : Type 0 where
   pub sixteen : length m ≡ 16
   pub sized : length w ≡ 16
   pub turned : Turned m w t
-  pub reached : s ≡ steps (schedule m 64) t h
+  pub reached : s ≡ hashSteps (schedule m 64) t h
 
 pub ran-begun : (h : Five) (block m : List ℕ) → m ≡ words block 16 → Ran h m m h 0
-unfolding steps
+unfolding hashSteps
 ran-begun h block m p =
     let l : length m ≡ 16 = ap length p ∙ length-words block 16 in
     record { within = omega arith; sixteen = l; sized = l; turned = turned-begun m; reached = refl }
 
 module _ (h : Five) (m w : List ℕ) (s : Five) (t : ℕ) (ran : Ran h m w s t) where
   pub ran-on :
-      {s′ : Five} {v : ℕ} → t < 80 → s′ ≡ step t (at w (t % 16)) s
+      {s′ : Five} {v : ℕ} → t < 80 → s′ ≡ hashStep t (at w (t % 16)) s
       → v ≡ rotl 1 (at w ((t + 13) % 16) ⊕ at w ((t + 8) % 16) ⊕ at w ((t + 2) % 16) ⊕ at w (t % 16))
       → Ran h m (set w (t % 16) v) s′ (t + 1)
-  unfolding steps
+  unfolding hashSteps
   ran-on {s′} {v} l p q =
       let e : at w (t % 16) ≡ at (schedule m 64) t =
       ap (λ (i : ℕ). at w (i % 16)) (sym (add-zero t)) ∙ ran .turned 0 (lit< tt) ∙ ap (at (schedule m t)) (add-zero t)
@@ -130,10 +130,10 @@ module _ (h : Five) (m w : List ℕ) (s : Five) (t : ℕ) (ran : Ran h m w s t) 
         sixteen = ran .sixteen;
         sized = length-set w (t % 16) v ∙ ran .sized;
         turned = turned-on m w t v (ran .sixteen) (ran .sized) (ran .turned) q;
-        reached = p ∙ ap₂ (step t) e (ran .reached) ∙ ap (λ (n : ℕ). steps (schedule m 64) n h) (sym (add-one t));
+        reached = p ∙ ap₂ (hashStep t) e (ran .reached) ∙ ap (λ (n : ℕ). hashSteps (schedule m 64) n h) (sym (add-one t));
       }
 
-  pub ran-all : 80 ≤ t → s ≡ steps (schedule m 64) 80 h
+  pub ran-all : 80 ≤ t → s ≡ hashSteps (schedule m 64) 80 h
   ran-all l =
       let e : t ≡ 80 = omega (arith, ran .within) in
-      ran .reached ∙ ap (λ (n : ℕ). steps (schedule m 64) n h) e
+      ran .reached ∙ ap (λ (n : ℕ). hashSteps (schedule m 64) n h) e

@@ -38,26 +38,26 @@ unfoldable pub constant : ℕ → ℕ
 constant t = cond (ltb t 20) 0x5a827999 (cond (ltb t 40) 0x6ed9eba1 (cond (ltb t 60) 0x8f1bbcdc 0xca62c1d6))
 
 -- 5.2.1: word i of a block
-unfoldable pub wordAt : List ℕ → ℕ → ℕ
-wordAt block i = at block (4 * i) * 2 ^ 24 + at block (4 * i + 1) * 2 ^ 16 + at block (4 * i + 2) * 2 ^ 8 + at block (4 * i + 3)
+unfoldable pub blockWord : List ℕ → ℕ → ℕ
+blockWord block i = at block (4 * i) * 2 ^ 24 + at block (4 * i + 1) * 2 ^ 16 + at block (4 * i + 2) * 2 ^ 8 + at block (4 * i + 3)
 
 -- 5.2.1: the first n words of a block
 unfoldable pub words : List ℕ → ℕ → List ℕ
 words block zero = []
-words block (suc n) = words block n ++ (wordAt block n ∷ [])
+words block (suc n) = words block n ++ (blockWord block n ∷ [])
 
 -- 6.1.2, step 1: the word after n more than the sixteen of the block
-abbrev pub nextWord : List ℕ → ℕ → ℕ
-nextWord w n = rotl 1 (at w (n + 13) ⊕ at w (n + 8) ⊕ at w (n + 2) ⊕ at w n)
+abbrev pub nextScheduleWord : List ℕ → ℕ → ℕ
+nextScheduleWord w n = rotl 1 (at w (n + 13) ⊕ at w (n + 8) ⊕ at w (n + 2) ⊕ at w n)
 
 -- 6.1.2, step 1: the sixteen words m of a block, and n more
 unfoldable pub schedule : List ℕ → ℕ → List ℕ
 schedule m zero = m
-schedule m (suc n) = let w = schedule m n in w ++ (nextWord w n ∷ [])
+schedule m (suc n) = let w = schedule m n in w ++ (nextScheduleWord w n ∷ [])
 
 -- 6.1.2, step 3: step t, with the word w, on the five variables
-unfoldable pub step : ℕ → ℕ → Five → Five
-step t w s =
+unfoldable pub hashStep : ℕ → ℕ → Five → Five
+hashStep t w s =
     record {
       a = (rotl 5 (s .a) + mixing t (s .b) (s .c) (s .d) + s .e + constant t + w) % 2 ^ 32;
       b = s .a;
@@ -67,9 +67,9 @@ step t w s =
     }
 
 -- 6.1.2, step 3: the first n steps
-unfoldable pub steps : List ℕ → ℕ → Five → Five
-steps w zero s = s
-steps w (suc n) s = step n (at w n) (steps w n s)
+unfoldable pub hashSteps : List ℕ → ℕ → Five → Five
+hashSteps w zero s = s
+hashSteps w (suc n) s = hashStep n (at w n) (hashSteps w n s)
 
 -- 6.1.2, step 4: five words added to five
 abbrev pub summed : Five → Five → Five
@@ -84,4 +84,4 @@ summed h s =
 
 -- 6.1.2: the hash value after one more block
 unfoldable pub compressed : Five → List ℕ → Five
-compressed h block = summed h (steps (schedule (words block 16) 64) 80 h)
+compressed h block = summed h (hashSteps (schedule (words block 16) 64) 80 h)

@@ -1,7 +1,7 @@
 // One block of SHA-1 (FIPS 180-4): the hash value after it.
 ghost use mathlib.Core.Path.{_≡_};
 ghost use Prim.Native.Nat.{_+_, _*_, _%_, _^_};
-ghost use Rattle.compression.specs.Compression.{rotl, mixing, constant, words, step, summed, compressed};
+ghost use Rattle.compression.specs.Compression.{rotl, mixing, constant, words, hashStep, summed, compressed};
 use std::num::wrapping_add_u32;
 
 // A word turned left by 1, by 5 and by 30 bits. FIPS 180-4, 2.2.2.
@@ -73,7 +73,7 @@ pub struct Five {
 
 // One step on the five variables. FIPS 180-4, 6.1.2, step 3.
 fn one_step(t: usize, w: u32, s: Five) -> Five
-    ensures { λ r. ⌜ r ≡ step t w s ⌝ }
+    ensures { λ r. ⌜ r ≡ hashStep t w s ⌝ }
 {
     Five {
         a: sum(rotl5(s.a), mix(t, s.b, s.c, s.d), s.e, constant_of(t), w),

@@ -12,13 +12,13 @@ use Rattle.pdu.specs.Sizes.{pduLength}
 use Rattle.pdu.specs.Reading.{readOf, readingNumber}
 use Rattle.pdu.specs.Parts.{pathIn, payloadIn}
 use Rattle.writing.specs.Writing.{onlyIf, headerBytes}
-use Rattle.sources.specs.Sources.{Accepted, capacity, recordIn, isHeld, lastNumber, numberFault, sourceFault, accepted}
-use Rattle.message.specs.Protection.{numberBytes, hashedHeader, hashBytes, nonceOf}
+use Rattle.sources.specs.Sources.{Accepted, capacity, recordIn, isHeld, lastNumber, numberFault, sourceFault, withAccepted}
+use Rattle.message.specs.Protection.{messageNumberBytes, hashedHeader, hashBytes, nonceOf}
 use Rattle.message.specs.Sealable.{sealNumber}
 use Rattle.sealing.specs.Sealing.{sealedHeader, sealedPdu, sealWritten, sealOutput}
 use Rattle.genuine.specs.Genuine.{sourceOf, messageNumber, plainLength}
 use Rattle.opening.specs.Opening.{deciphered, plainPayload, genuine, keylessFault, openNumber, openWritten, openOutput, memoryAfterOpening}
-use Rattle.protection.specs.Histories.{Repeat, heard, AllRepeat, Opening, memoryAfter, memoryAfterAll}
+use Rattle.protection.specs.Histories.{Repeat, heardAtLast, AllRepeat, Opening, memoryAfterOne, memoryAfterAll}
 
 -- a header with its hop limit 0
 abbrev pub hopless : Header → Header
@@ -94,13 +94,13 @@ pub record EncryptedPayloads : Type 0 where
       (openNumber key memory sealed space ≡ 0) × (plainPayload key sealed ≡ payloadIn (headerOf bytes) bytes)
   -- against the same record a PDU opens alike before repeats and after them: any number of repeats, by any nodes
   pub after-repeats : (key memory bytes : List ℕ) (room : ℕ) (repeats : List Repeat) → AllBytes bytes → AllRepeat repeats bytes
-      → (openNumber key memory (heard repeats bytes) room ≡ openNumber key memory bytes room)
-      × (plainPayload key (heard repeats bytes) ≡ plainPayload key bytes)
-      × (memoryAfterOpening key memory (heard repeats bytes) room ≡ memoryAfterOpening key memory bytes room)
+      → (openNumber key memory (heardAtLast repeats bytes) room ≡ openNumber key memory bytes room)
+      × (plainPayload key (heardAtLast repeats bytes) ≡ plainPayload key bytes)
+      × (memoryAfterOpening key memory (heardAtLast repeats bytes) room ≡ memoryAfterOpening key memory bytes room)
   -- no replay: over any openings from any memory, what is accepted from a source later has a greater number
   pub no-replay : (memory : List ℕ) (first : Opening) (between : List Opening) (second : Opening)
       → openNumber (first .key) memory (first .bytes) (first .room) ≡ 0 → sourceOf (first .bytes) ≡ sourceOf (second .bytes)
-      → openNumber (second .key) (memoryAfterAll (memoryAfter memory first) between) (second .bytes) (second .room) ≡ 0
+      → openNumber (second .key) (memoryAfterAll (memoryAfterOne memory first) between) (second .bytes) (second .room) ≡ 0
       → messageNumber (first .bytes) < messageNumber (second .bytes)
   -- what enters the hash: of any PDU that reads, its header up to the path count, with the hop limit 0
   pub hashed-all : (bytes : List ℕ) → AllBytes bytes → readingNumber (readOf bytes) ≡ 0
@@ -196,19 +196,19 @@ pub record EncryptedPayloads : Type 0 where
   pub open-answer : (key memory bytes : List ℕ) (room : ℕ) → openWritten key memory bytes room .number ≡ openNumber key memory bytes room
   -- with 0 the number is noted in the record
   pub noted : (key memory bytes : List ℕ) (room : ℕ) → openNumber key memory bytes room ≡ 0
-      → recordIn (memoryAfterOpening key memory bytes room) ≡ accepted (sourceOf bytes) (messageNumber bytes) (recordIn memory)
+      → recordIn (memoryAfterOpening key memory bytes room) ≡ withAccepted (sourceOf bytes) (messageNumber bytes) (recordIn memory)
   -- in a record so made the source is held with that number, and every other source as before
   pub last-noted : (source number : ℕ) (held : List Accepted)
-      → (isHeld source (accepted source number held) ≡ true) × (lastNumber source (accepted source number held) ≡ number)
+      → (isHeld source (withAccepted source number held) ≡ true) × (lastNumber source (withAccepted source number held) ≡ number)
   pub others-stay : (other source number : ℕ) (held : List Accepted) → (source ≡ other → ⊥)
-      → (isHeld other (accepted source number held) ≡ isHeld other held)
-      × (isHeld other held ≡ true → lastNumber other (accepted source number held) ≡ lastNumber other held)
+      → (isHeld other (withAccepted source number held) ≡ isHeld other held)
+      × (isHeld other held ≡ true → lastNumber other (withAccepted source number held) ≡ lastNumber other held)
   -- IV. WORKED CASES
   -- of document 002's header, and of one with PDU ID, ACK and added header; the nonce and the number's bytes
   pub hashed : (hashedHeader header002 ≡ hashed002)
       × (hashedHeader reliable ≡ 0x0B ∷ 0x09 ∷ 0x80 ∷ 0x07 ∷ 0x03 ∷ 0xE8 ∷ 0x06 ∷ 0x40 ∷ 0x55 ∷ [])
   pub nonce : nonceOf 1000 850 ≡ 0x03 ∷ 0xE8 ∷ 0x00 ∷ 0x03 ∷ 0x52 ∷ []
-  pub number-bytes : (numberBytes 850 ≡ 0x00 ∷ 0x03 ∷ 0x52 ∷ []) × (numberBytes 16777215 ≡ 0xFF ∷ 0xFF ∷ 0xFF ∷ [])
+  pub number-bytes : (messageNumberBytes 850 ≡ 0x00 ∷ 0x03 ∷ 0x52 ∷ []) × (messageNumberBytes 16777215 ≡ 0xFF ∷ 0xFF ∷ 0xFF ∷ [])
   -- document 002's example, whole: sealed, and 83 for its last byte changed (computed in `crates/worked/proofs/Sealed.antt`)
   pub example : sealedPdu key002 850 plain002 ≡ endingIn 0x50
   pub example-changed : openNumber key002 (0 ∷ 0 ∷ 0 ∷ []) (endingIn 0x51) 11 ≡ 83

@@ -20,14 +20,14 @@ unfoldable pub xtime : ℕ → ℕ
 xtime b = b * 2 % 256 ⊕ bit b 7 * 0x1b
 
 -- the product of a, of n bits, and b (4.2): the sum of those multiples of b by a power of x whose bit of a is set
-unfoldable pub product : ℕ → ℕ → ℕ → ℕ
-product zero a b = 0
-product (suc n) a b = cond (eqb (a % 2) 1) b 0 ⊕ product n (a / 2) (xtime b)
+unfoldable pub fieldProduct : ℕ → ℕ → ℕ → ℕ
+fieldProduct zero a b = 0
+fieldProduct (suc n) a b = cond (eqb (a % 2) 1) b 0 ⊕ fieldProduct n (a / 2) (xtime b)
 
 infixl 70 _•_
 -- the product of two elements
 unfoldable pub _•_ : ℕ → ℕ → ℕ
-a • b = product 8 a b
+a • b = fieldProduct 8 a b
 
 -- b to the power 2 ^ (n + 1) - 2
 unfoldable pub raised : ℕ → ℕ → ℕ

@@ -15,12 +15,12 @@ use Rattle.octets.specs.Octets.{at, over}
 use Rattle.counter.specs.Counter.{stream, added}
 use Rattle.compression.specs.declared.Five.{Five}
 use Rattle.sha1.specs.declared.Running.{Running}
-use Rattle.sha1.specs.Sha1.{fourBytes, begun, fed, finalHash, sha1}
+use Rattle.sha1.specs.Sha1.{fourBytes, hashBegun, fed, finalHash, sha1}
 use Rattle.sha1.proofs.Feeding.{fed-append, finished-fed}
 use Rattle.pdu.specs.declared.Header.{Header}
 use Rattle.pdu.specs.Header.{headerOf}
 use Rattle.pdu.specs.Parts.{payloadIn}
-use Rattle.message.specs.Protection.{numberIn, numberBytes, addedLength, hashedHeader, hashBytes, nonceOf}
+use Rattle.message.specs.Protection.{numberIn, messageNumberBytes, addedLength, hashedHeader, hashBytes, nonceOf}
 use Rattle.message.proofs.Hashing.{first-word}
 use Rattle.genuine.specs.Genuine.{sourceOf, messageNumber, plainLength, decipheredUnder, plainUnder, sameFour, genuineUnder}
 use Rattle.genuine.proofs.Deciphering.{take-added, drop-added}
@@ -71,9 +71,9 @@ word-compared word block a b c d small ea eb ec ed =
     compared word a b c d small (ea .1) (eb .1) (ec .1) (ed .1) ∙ rw (← ea .0, ← eb .0, ← ec .0, ← ed .0) refl
 
 -- the first word of the hash value of header, number and plain payload
-pub expected-is : (bytes plain : List ℕ) (number : ℕ) (r0 r1 : Running) (hash : Five) → r0 ≡ fed begun (hashedHeader bytes ++ numberBytes number)
-    → r1 ≡ fed r0 plain → hash ≡ finalHash r1 → hash .a ≡ finalHash (fed begun (hashedHeader bytes ++ numberBytes number ++ plain)) .a
-expected-is bytes plain number r0 r1 hash e0 e1 eh = rw (eh, e1, e0, fed-append begun (hashedHeader bytes ++ numberBytes number) plain) refl
+pub expected-is : (bytes plain : List ℕ) (number : ℕ) (r0 r1 : Running) (hash : Five) → r0 ≡ fed hashBegun (hashedHeader bytes ++ messageNumberBytes number)
+    → r1 ≡ fed r0 plain → hash ≡ finalHash r1 → hash .a ≡ finalHash (fed hashBegun (hashedHeader bytes ++ messageNumberBytes number ++ plain)) .a
+expected-is bytes plain number r0 r1 hash e0 e1 eh = rw (eh, e1, e0, fed-append hashBegun (hashedHeader bytes ++ messageNumberBytes number) plain) refl
 
 -- up to four bytes of a list, and zeros behind them
 first-four : (expected l : List ℕ) → sameFour expected (over (take 4 l) (replicate 16 0)) ≡ sameFour expected l
@@ -124,16 +124,16 @@ module _ (w bytes : List ℕ) (header : Header) (sealed nonce : List ℕ) (numbe
       ∙ ap₂ (λ (n : ℕ) (l : List ℕ). drop n l) size-is deciphered-is)
 
   hash-is : (part : List ℕ) (hash : ℕ) → part ≡ take size behind
-      → hash ≡ finalHash (fed begun (hashedHeader bytes ++ numberBytes number ++ added s 0 part)) .a
+      → hash ≡ finalHash (fed hashBegun (hashedHeader bytes ++ messageNumberBytes number ++ added s 0 part)) .a
       → fourBytes hash ≡ hashBytes bytes (messageNumber bytes) (plainUnder w bytes)
   unfolding hashBytes
   hash-is part hash e eh =
-      let message = hashedHeader bytes ++ numberBytes number ++ added s 0 part in
-      ap fourBytes eh ∙ first-word (fed begun message) (finalHash (fed begun message)) refl ∙ ap (take 4) (finished-fed message)
-      ∙ ap₂ (λ (n : ℕ) (l : List ℕ). take 4 (sha1 (hashedHeader bytes ++ numberBytes n ++ l))) number-is (plain-is part e)
+      let message = hashedHeader bytes ++ messageNumberBytes number ++ added s 0 part in
+      ap fourBytes eh ∙ first-word (fed hashBegun message) (finalHash (fed hashBegun message)) refl ∙ ap (take 4) (finished-fed message)
+      ∙ ap₂ (λ (n : ℕ) (l : List ℕ). take 4 (sha1 (hashedHeader bytes ++ messageNumberBytes n ++ l))) number-is (plain-is part e)
 
   pub genuine-is : (first last sent : List ℕ) (hash : ℕ) (g : Bool) → first ≡ take size behind
-      → hash ≡ finalHash (fed begun (hashedHeader bytes ++ numberBytes number ++ added s 0 first)) .a
+      → hash ≡ finalHash (fed hashBegun (hashedHeader bytes ++ messageNumberBytes number ++ added s 0 first)) .a
       → last ≡ take 4 (drop (size + 3) sealed) → sent ≡ over (added s size last) (replicate 16 0) → g ≡ sameFour (fourBytes hash) sent
       → g ≡ genuineUnder w bytes
   unfolding genuineUnder

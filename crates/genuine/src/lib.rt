@@ -6,8 +6,8 @@ ghost use Prim.Native.Nat.{_≤_, _<_};
 ghost use lib.ListN.{length, replicate};
 ghost use Rattle.octets.specs.Octets.{over};
 ghost use Rattle.counter.specs.Counter.{stream, added};
-ghost use Rattle.sha1.specs.Sha1.{fourBytes, begun, fed, finalHash};
-ghost use Rattle.message.specs.Protection.{numberBytes, hashedHeader};
+ghost use Rattle.sha1.specs.Sha1.{fourBytes, hashBegun, fed, finalHash};
+ghost use Rattle.message.specs.Protection.{messageNumberBytes, hashedHeader};
 ghost use Rattle.genuine.specs.Genuine.{sameFour, genuineUnder};
 
 fn wide(byte: u8) -> u32
@@ -47,7 +47,7 @@ fn feed_opened(running: Running, keys: &[u8; 176], nonce: [u8; 5], enciphered: &
 // The first word of the hash value over header, number and plain payload: the hash's most significant 4 bytes as one number. Document 000, 3.5.3.
 fn expected(keys: &[u8; 176], nonce: [u8; 5], number: u32, pdu: &[u8], enciphered: &[u8]) -> u32
     requires { ⌜ length (now enciphered) ≤ 65535 ⌝ }
-    ensures { λ r. ⌜ r ≡ finalHash (fed begun (hashedHeader (now (pdu .entry)) ++ numberBytes number
+    ensures { λ r. ⌜ r ≡ finalHash (fed hashBegun (hashedHeader (now (pdu .entry)) ++ messageNumberBytes number
         ++ added (stream (now (keys .entry)) nonce) 0 (now (enciphered .entry)))) .a ⌝ }
 {
     let begun = message::begin_hash(pdu, number);

@@ -10,8 +10,8 @@ use Rattle.sha1.specs.Sha1.{sha1}
 abbrev pub numberLimit : ℕ
 numberLimit = 16777215
 
-abbrev pub numberBytes : ℕ → List ℕ
-numberBytes number = number / 65536 % 256 ∷ number / 256 % 256 ∷ number % 256 ∷ []
+abbrev pub messageNumberBytes : ℕ → List ℕ
+messageNumberBytes number = number / 65536 % 256 ∷ number / 256 % 256 ∷ number % 256 ∷ []
 
 -- the number that bytes begin with
 abbrev pub numberIn : List ℕ → ℕ
@@ -32,8 +32,8 @@ hashedHeader header =
 
 -- the hash's most significant 4 bytes: of the header so, the number's bytes and the plain payload
 unfoldable pub hashBytes : List ℕ → ℕ → List ℕ → List ℕ
-hashBytes header number plain = take 4 (sha1 (hashedHeader header ++ numberBytes number ++ plain))
+hashBytes header number plain = take 4 (sha1 (hashedHeader header ++ messageNumberBytes number ++ plain))
 
 -- what every counter block of a message begins with: its source and its number
 abbrev pub nonceOf : ℕ → ℕ → List ℕ
-nonceOf source number = wordBytes source ++ numberBytes number
+nonceOf source number = wordBytes source ++ messageNumberBytes number

@@ -6,10 +6,10 @@ ghost use mathlib.Core.Path.{_≡_};
 ghost use mathlib.Core.List.{_++_};
 ghost use Prim.Native.Nat.{_-_, _<_, _≤_};
 ghost use lib.ListN.{take};
-ghost use Rattle.sha1.specs.Sha1.{begun, fed, finished};
+ghost use Rattle.sha1.specs.Sha1.{hashBegun, fed, finished};
 ghost use Rattle.pdu.specs.Header.{headerOf, pathCountPlace};
 ghost use Rattle.pdu.specs.Parts.{payloadIn};
-ghost use Rattle.message.specs.Protection.{numberBytes, numberIn, addedLength, maskedByte, hashedHeader, hashBytes, nonceOf};
+ghost use Rattle.message.specs.Protection.{messageNumberBytes, numberIn, addedLength, maskedByte, hashedHeader, hashBytes, nonceOf};
 ghost use Rattle.message.specs.Sealable.{sealNumber, refusedWith};
 
 // What C hands over as a key.
@@ -31,7 +31,7 @@ impl Key {
 
 // The three bytes of a message number, the most significant first. Document 000, 3.5.3.
 pub fn number_bytes(value: u32) -> [u8; 3]
-    ensures { λ r. ⌜ r ≡ numberBytes value ⌝ }
+    ensures { λ r. ⌜ r ≡ messageNumberBytes value ⌝ }
 {
     [
         (value / 65536 % 256) as u8,
@@ -86,7 +86,7 @@ fn masked(byte2: u8) -> u8
 // The hash begun: the header at the start of `bytes`, with its hop limit's bits 0 and without path count and path, and the number's bytes are fed.
 // A byte of bytes 0 to 3 that is not there counts as 0. Document 002, the table of a header's bytes.
 pub fn begin_hash(bytes: &[u8], number: u32) -> Running
-    ensures { λ r. ⌜ r ≡ fed begun (hashedHeader (now (bytes .entry)) ++ numberBytes number) ⌝ }
+    ensures { λ r. ⌜ r ≡ fed hashBegun (hashedHeader (now (bytes .entry)) ++ messageNumberBytes number) ⌝ }
 {
     let byte0 = octets::byte(bytes, 0);
     let first = [

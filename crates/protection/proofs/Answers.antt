@@ -21,7 +21,7 @@ use Rattle.pdu.specs.Parts.{pathIn, payloadIn}
 use Rattle.pdu.proofs.Inversion.{shown}
 use Rattle.writing.specs.Writing.{headerBytes, pathBytes, encode}
 use Rattle.writing.proofs.Encoding.{length-header, length-pathIn}
-use Rattle.message.specs.Protection.{numberBytes, hashBytes, nonceOf}
+use Rattle.message.specs.Protection.{messageNumberBytes, hashBytes, nonceOf}
 use Rattle.message.specs.Sealable.{sealNumber}
 use Rattle.message.proofs.Sealable.{sealable}
 use Rattle.sealing.specs.Sealing.{sealedHeader, sealedPayload, sealedPdu, sealWritten, sealOutput}
@@ -99,12 +99,12 @@ length-sealed key number bytes read =
     let enciphered = counterMode key (nonceOf (sealed .source) number) (plain ++ hash) in
     omega (
       arith,
-      length-append (headerBytes sealed ++ pathBytes path) (numberBytes number ++ enciphered),
+      length-append (headerBytes sealed ++ pathBytes path) (messageNumberBytes number ++ enciphered),
       length-append (headerBytes sealed) (pathBytes path),
       length-header sealed,
       start-sealed header,
       length-pathIn header bytes,
-      length-append (numberBytes number) enciphered,
+      length-append (messageNumberBytes number) enciphered,
       length-enciphered key (nonceOf (sealed .source) number) (plain ++ hash),
       length-append plain hash,
       length-hash (headerBytes sealed) number plain,

@@ -18,7 +18,7 @@ use Rattle.node.proofs.Heard.{repeats}
 use Rattle.message.specs.Protection.{numberIn, hashedHeader, hashBytes}
 use Rattle.genuine.specs.Genuine.{messageNumber, decipheredUnder, plainUnder, genuineUnder}
 use Rattle.opening.specs.Opening.{deciphered, plainPayload, genuine, keylessFault, openNumber, memoryAfterOpening}
-use Rattle.protection.specs.Histories.{Repeat, heardAfter, heard, RepeatedBy, AllRepeat}
+use Rattle.protection.specs.Histories.{Repeat, heardAfter, heardAtLast, RepeatedBy, AllRepeat}
 use Rattle.protection.proofs.Hashed.{hashedFields, hashed-shown}
 
 -- what opening sees of a PDU
@@ -122,8 +122,8 @@ module _ (repeat : Repeat) (received : List ℕ) (small : AllBytes received) (by
       }
 
 -- any number of repeats, by any nodes
-pub heard-alike : (steps : List Repeat) (sent : List ℕ) → AllBytes sent → AllRepeat steps sent → Alike (heard steps sent) sent
-unfolding heard AllRepeat
+pub heard-alike : (steps : List Repeat) (sent : List ℕ) → AllBytes sent → AllRepeat steps sent → Alike (heardAtLast steps sent) sent
+unfolding heardAtLast AllRepeat
 heard-alike [] sent small all = alike-self sent
 heard-alike (repeat ∷ later) sent small all =
     alike-then (heard-alike later (heardAfter repeat sent) (heard-small repeat sent small (all .0)) (all .1)) (repeat-alike repeat sent small (all .0))

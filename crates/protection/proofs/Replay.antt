@@ -8,12 +8,12 @@ use lib.Dec.{eqb}
 use borrow.Author.Tests.{eqb-true, eq-eqb}
 use Rattle.octets.specs.Numbers.{_gives_, _orElse_}
 use Rattle.octets.proofs.Numbering.{orElse-zero}
-use Rattle.sources.specs.Sources.{recordIn, numberFault, sourceFault, accepted}
+use Rattle.sources.specs.Sources.{recordIn, numberFault, sourceFault, withAccepted}
 use Rattle.sources.proofs.Noting.{nextNumber, record-accepted, taken-from, next-accepted, never-falls}
 use Rattle.genuine.specs.Genuine.{sourceOf, messageNumber}
 use Rattle.opening.specs.Opening.{keylessFault, openNumber, memoryAfterOpening}
 use Rattle.opening.proofs.Sealed.{is-sealed}
-use Rattle.protection.specs.Histories.{Opening, memoryAfter, memoryAfterAll}
+use Rattle.protection.specs.Histories.{Opening, memoryAfterOne, memoryAfterAll}
 
 -- what an opening that answered 0 has passed, and the record that it leaves
 module _ (key memory bytes : List ℕ) (room : ℕ) (zero : openNumber key memory bytes room ≡ 0) where
@@ -25,7 +25,7 @@ module _ (key memory bytes : List ℕ) (room : ℕ) (zero : openNumber key memor
   unfolding openNumber
   source-passed = orElse-zero _ _ (orElse-zero _ _ (orElse-zero _ _ zero .1) .1) .0
 
-  pub record-after : recordIn (memoryAfterOpening key memory bytes room) ≡ accepted (sourceOf bytes) (messageNumber bytes) (recordIn memory)
+  pub record-after : recordIn (memoryAfterOpening key memory bytes room) ≡ withAccepted (sourceOf bytes) (messageNumber bytes) (recordIn memory)
   unfolding memoryAfterOpening
   record-after = rw zero (record-accepted (sourceOf bytes) (messageNumber bytes) memory source-passed)
 
@@ -35,11 +35,11 @@ stays key memory bytes room e = rw e
 
 -- no opening lowers what a source's next number must reach
 pub keeps : (source : ℕ) (memory : List ℕ) (opening : Opening)
-    → nextNumber source (recordIn memory) ≤ nextNumber source (recordIn (memoryAfter memory opening))
+    → nextNumber source (recordIn memory) ≤ nextNumber source (recordIn (memoryAfterOne memory opening))
 keeps source memory opening = go (eqb (openNumber (opening .key) memory (opening .bytes) (opening .room)) 0) refl
   where
     go : (done : Bool) → eqb (openNumber (opening .key) memory (opening .bytes) (opening .room)) 0 ≡ done
-        → nextNumber source (recordIn memory) ≤ nextNumber source (recordIn (memoryAfter memory opening))
+        → nextNumber source (recordIn memory) ≤ nextNumber source (recordIn (memoryAfterOne memory opening))
     go true e =
         let zero = eqb-true (openNumber (opening .key) memory (opening .bytes) (opening .room)) 0 e in
         let number = messageNumber (opening .bytes) in
@@ -53,17 +53,17 @@ pub keeps-all : (source : ℕ) (memory : List ℕ) (later : List Opening)
 unfolding memoryAfterAll
 keeps-all source memory [] = omega arith
 keeps-all source memory (opening ∷ later) =
-    omega (arith, keeps source memory opening, keeps-all source (memoryAfter memory opening) later)
+    omega (arith, keeps source memory opening, keeps-all source (memoryAfterOne memory opening) later)
 
 pub no-replay : (memory : List ℕ) (first : Opening) (between : List Opening) (second : Opening)
     → openNumber (first .key) memory (first .bytes) (first .room) ≡ 0
     → sourceOf (first .bytes) ≡ sourceOf (second .bytes)
-    → openNumber (second .key) (memoryAfterAll (memoryAfter memory first) between) (second .bytes) (second .room) ≡ 0
+    → openNumber (second .key) (memoryAfterAll (memoryAfterOne memory first) between) (second .bytes) (second .room) ≡ 0
     → messageNumber (first .bytes) < messageNumber (second .bytes)
 no-replay memory first between second one same two =
     let source = sourceOf (first .bytes) in
     let number = messageNumber (first .bytes) in
-    let after = memoryAfter memory first in
+    let after = memoryAfterOne memory first in
     let last = memoryAfterAll after between in
     let noted : nextNumber source (recordIn after) ≡ suc number =
     ap (nextNumber source) (record-after (first .key) memory (first .bytes) (first .room) one) ∙ next-accepted source number (recordIn memory) in

@@ -27,7 +27,7 @@ use Rattle.writing.specs.Writing.{headerBytes, pathBytes, encode, WellFormed}
 use Rattle.writing.proofs.Back.{read-encode, path-encode, payload-encode}
 use Rattle.writing.proofs.Same.{shown-well-formed}
 use Rattle.sources.specs.Sources.{recordIn, numberFault, sourceFault}
-use Rattle.message.specs.Protection.{numberBytes, numberIn, hashedHeader, hashBytes, nonceOf}
+use Rattle.message.specs.Protection.{messageNumberBytes, numberIn, hashedHeader, hashBytes, nonceOf}
 use Rattle.message.specs.Sealable.{sealNumber}
 use Rattle.message.proofs.Sealable.{Sealable, sealable}
 use Rattle.sealing.specs.Sealing.{sealedHeader, sealedPayload, sealedPdu}
@@ -49,7 +49,7 @@ unfolding counterMode
 twice key nonce bytes = added-twice (stream (keyExpansion key) nonce) 0 bytes
 
 -- a number's three bytes
-number-back : (number : ℕ) (behind : List ℕ) → number ≤ 16777215 → numberIn (numberBytes number ++ behind) ≡ number
+number-back : (number : ℕ) (behind : List ℕ) → number ≤ 16777215 → numberIn (messageNumberBytes number ++ behind) ≡ number
 number-back number behind h = omega (arith, div-div-eq-div-mul number 256 256)
 
 pub same-self : (bytes : List ℕ) → sameFour bytes bytes ≡ true
@@ -157,7 +157,7 @@ module _ (key bytes behind : List ℕ) (number room : ℕ) (small : AllBytes byt
   hash-sent =
       let tail = pathBytes path ++ (payload ++ behind) in
       let split : sealedPdu key number bytes ++ behind ≡ headerBytes sealed ++ tail = simp append-assoc in
-      ap (λ (l : List ℕ). take 4 (sha1 (l ++ numberBytes number ++ plain))) (ap hashedHeader split ∙ hashed-header sealed tail (sealed-formed .known))
+      ap (λ (l : List ℕ). take 4 (sha1 (l ++ messageNumberBytes number ++ plain))) (ap hashedHeader split ∙ hashed-header sealed tail (sealed-formed .known))
 
   genuine-back : genuine key heard ≡ true
   unfolding genuine genuineUnder plainPayload deciphered

@@ -18,9 +18,9 @@ pub record Repeat : Type 0 where
 abbrev pub heardAfter : Repeat → List ℕ → List ℕ
 heardAfter repeat received = repeated (repeat .node .settings .own) received ++ repeat .behind
 
-unfoldable pub heard : List Repeat → List ℕ → List ℕ
-heard [] sent = sent
-heard (repeat ∷ later) sent = heard later (heardAfter repeat sent)
+unfoldable pub heardAtLast : List Repeat → List ℕ → List ℕ
+heardAtLast [] sent = sent
+heardAtLast (repeat ∷ later) sent = heardAtLast later (heardAfter repeat sent)
 
 -- a node that repeats what it heard: its number is 0; its address and the bytes behind are what their types hold
 pub record RepeatedBy (repeat : Repeat) (received : List ℕ) : Type 0 where
@@ -38,9 +38,9 @@ pub record Opening : Type 0 where
   pub bytes : List ℕ
   pub room : ℕ
 
-abbrev pub memoryAfter : List ℕ → Opening → List ℕ
-memoryAfter memory opening = memoryAfterOpening (opening .key) memory (opening .bytes) (opening .room)
+abbrev pub memoryAfterOne : List ℕ → Opening → List ℕ
+memoryAfterOne memory opening = memoryAfterOpening (opening .key) memory (opening .bytes) (opening .room)
 
 unfoldable pub memoryAfterAll : List ℕ → List Opening → List ℕ
 memoryAfterAll memory [] = memory
-memoryAfterAll memory (opening ∷ later) = memoryAfterAll (memoryAfter memory opening) later
+memoryAfterAll memory (opening ∷ later) = memoryAfterAll (memoryAfterOne memory opening) later

@@ -30,7 +30,7 @@ use Rattle.writing.specs.Writing.{headerBytes, pathBytes, encode, fieldFault, h
 use Rattle.writing.proofs.Encoding.{header-begins, length-header, length-pathIn}
 use Rattle.writing.proofs.Within.{within, all-within, shown-within}
 use Rattle.writing.proofs.Same.{written-same, shown-well-formed}
-use Rattle.message.specs.Protection.{numberBytes, hashedHeader, hashBytes, nonceOf}
+use Rattle.message.specs.Protection.{messageNumberBytes, hashedHeader, hashBytes, nonceOf}
 use Rattle.message.specs.Sealable.{sealedLength}
 use Rattle.sealing.specs.Sealing.{sealedHeader, sealedPayload, sealedPdu}
 
@@ -69,7 +69,7 @@ hashed-header header tail known =
 pub length-hash : (header : List ℕ) (number : ℕ) (plain : List ℕ) → length (hashBytes header number plain) ≡ 4
 unfolding hashBytes
 length-hash header number plain =
-    let message = hashedHeader header ++ numberBytes number ++ plain in
+    let message = hashedHeader header ++ messageNumberBytes number ++ plain in
     length-take-le 4 (sha1 message) (omega (arith, twenty message))
 
 pub length-enciphered : (key nonce bytes : List ℕ) → length (counterMode key nonce bytes) ≡ length bytes
@@ -158,7 +158,7 @@ module _ (bytes output : List ℕ) (header : Header) (small : AllBytes bytes) (r
       (omega (arith, all .ends, length-append (headerBytes s) path, length-header s, same-start, size), all .is)
 
   module _ (digits plain hash : List ℕ) (number n1 p2 p3 p4 : ℕ) (o1 o2 o3 o4 : List ℕ)
-      (e1 : (n1 ≡ headerLength header) × (o1 ≡ over head output)) (ed : digits ≡ numberBytes number)
+      (e1 : (n1 ≡ headerLength header) × (o1 ≡ over head output)) (ed : digits ≡ messageNumberBytes number)
       (e2 : (p2 ≡ placeAfter o1 n1 digits) × (o2 ≡ placed o1 n1 digits)) (ep : plain ≡ payloadIn header bytes)
       (e3 : (p3 ≡ placeAfter o2 p2 plain) × (o3 ≡ placed o2 p2 plain)) (is : header ≡ headerOf bytes)
       (eh : hash ≡ hashBytes o3 number (payloadIn (headerOf bytes) bytes))
@@ -214,7 +214,7 @@ module _ (bytes output : List ℕ) (header : Header) (small : AllBytes bytes) (r
         let split : all ++ rest ≡ s ++ tail = simp append-assoc in
         let front : hashedHeader o3 ≡ hashedHeader s =
         ap hashedHeader (b3 .is ∙ split) ∙ hashed-header (sealedHeader header) tail (within (sealedHeader header) sealed-within .protocol) in
-        eh ∙ ap₂ (λ (l : List ℕ) (h : Header). take 4 (sha1 (l ++ numberBytes number ++ payloadIn h bytes))) front (sym is)
+        eh ∙ ap₂ (λ (l : List ℕ) (h : Header). take 4 (sha1 (l ++ messageNumberBytes number ++ payloadIn h bytes))) front (sym is)
 
     pub laid : Laid bytes output header number p2 p4 o4
     unfolding encode sealedPayload sealedHeader sealedPdu
@@ -229,7 +229,7 @@ module _ (bytes output : List ℕ) (header : Header) (small : AllBytes bytes) (r
               let put = changed-over (head ++ digits) mid output o4 o5 p2 p4 (counterMode key nonce) (length-enciphered key nonce mid) (b2 .ends) long
               before e5 in
               let whole : head ++ digits ++ counterMode key nonce mid
-              ≡ head ++ (numberBytes number ++ counterMode key (nonceOf (header .source) number) (payloadIn header bytes
+              ≡ head ++ (messageNumberBytes number ++ counterMode key (nonceOf (header .source) number) (payloadIn header bytes
               ++ hashBytes (headerBytes (sealedHeader header)) number (payloadIn header bytes))) =
               append-assoc head digits (counterMode key nonce mid) ∙ rw (ed, en, hash-same, ep) in
               let sealed : over (encode (sealedHeader header) (pathIn header bytes) (sealedPayload key (sealedHeader header) number (payloadIn header bytes)))

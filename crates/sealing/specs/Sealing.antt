@@ -11,7 +11,7 @@ use Rattle.pdu.specs.declared.Written.{Written}
 use Rattle.pdu.specs.Header.{headerOf}
 use Rattle.pdu.specs.Parts.{pathIn, payloadIn}
 use Rattle.writing.specs.Writing.{headerBytes, encode}
-use Rattle.message.specs.Protection.{numberBytes, addedLength, hashBytes, nonceOf}
+use Rattle.message.specs.Protection.{messageNumberBytes, addedLength, hashBytes, nonceOf}
 use Rattle.message.specs.Sealable.{sealedLength, sealNumber}
 
 -- the header as it is sent: encrypted, without a time stamp request, and its payload 7 bytes longer
@@ -37,7 +37,7 @@ sealedHeader header =
 -- the payload as it is sent under that header: the number's bytes, then enciphered the plain payload and the hash's bytes
 unfoldable pub sealedPayload : List ℕ → Header → ℕ → List ℕ → List ℕ
 sealedPayload key header number plain =
-    numberBytes number ++ counterMode key (nonceOf (header .source) number) (plain ++ hashBytes (headerBytes header) number plain)
+    messageNumberBytes number ++ counterMode key (nonceOf (header .source) number) (plain ++ hashBytes (headerBytes header) number plain)
 
 -- the sealed PDU, for the PDU at the start of bytes
 unfoldable pub sealedPdu : List ℕ → ℕ → List ℕ → List ℕ

@@ -17,7 +17,7 @@ use Rattle.octets.specs.Octets.{at}
 use Rattle.compression.specs.declared.Five.{Five}
 use Rattle.compression.specs.Compression.{compressed}
 use Rattle.sha1.specs.declared.Running.{Running}
-use Rattle.sha1.specs.Sha1.{eightBytes, zeros, padding, padded, blockAt, hashed, digest, sha1, begun, fedByte, fed, finalHash, finished}
+use Rattle.sha1.specs.Sha1.{eightBytes, zeros, padding, padded, blockAt, hashed, digest, sha1, hashBegun, fedByte, fed, finalHash, finished}
 
 pub running :
     {h h′ : Five} {b b′ : List ℕ} {t t′ : ℕ} → h ≡ h′ → b ≡ b′ → t ≡ t′
@@ -68,7 +68,7 @@ pub record Came (m : List ℕ) (r : Running) : Type 0 where
   pub hashed-so : r .hash ≡ hashed m (length m / 64)
   pub begun-block : take (length m % 64) (r .block) ≡ drop (64 * (length m / 64)) m
 
-came-none : Came [] begun
+came-none : Came [] hashBegun
 unfolding hashed
 came-none = record { counted = refl; sized = refl; hashed-so = refl; begun-block = refl }
 
@@ -154,11 +154,11 @@ padding-counted n =
     ap₂ (λ (p x : ℕ). (0x80 ∷ replicate ((119 - p) % 64) 0) ++ eightBytes x) e f
 
 -- the digest of what came is the message's
-pub finished-fed : (m : List ℕ) → finished (fed begun m) ≡ sha1 m
+pub finished-fed : (m : List ℕ) → finished (fed hashBegun m) ≡ sha1 m
 unfolding finished finalHash sha1 padded
 finished-fed m =
-    let r = fed begun m in
-    let came : Came m r = came-on [] m begun came-none in
+    let r = fed hashBegun m in
+    let came : Came m r = came-on [] m hashBegun came-none in
     let p : padding (r .total) ≡ padding (length m) = ap padding (came .counted) ∙ padding-counted (length m) in
     ap (λ (l : List ℕ). digest (fed r l .hash)) p
     ∙ ap digest (came-on m (padding (length m)) r came .hashed-so)

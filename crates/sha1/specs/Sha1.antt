@@ -52,8 +52,8 @@ unfoldable pub sha1 : List ℕ → List ℕ
 sha1 m = let bytes = padded m in digest (hashed bytes (length bytes / 64))
 
 -- a message that comes part by part, before its first byte: the hash value, the block that is being filled, and how many bytes came, modulo 2 ^ 64
-abbrev pub begun : Running
-begun = record { hash = initial; block = replicate 64 0; total = 0 }
+abbrev pub hashBegun : Running
+hashBegun = record { hash = initial; block = replicate 64 0; total = 0 }
 
 -- one byte more: it goes into the block, and the block that it fills is hashed
 unfoldable pub fedByte : Running → ℕ → Running

@@ -1,7 +1,7 @@
 // SHA-1 (FIPS 180-4) of bytes that come part by part.
 ghost use mathlib.Core.Path.{_≡_};
 ghost use Prim.Native.Nat.{_*_, _%_, _^_};
-ghost use Rattle.sha1.specs.Sha1.{eightBytes, begun, fed, finalHash};
+ghost use Rattle.sha1.specs.Sha1.{eightBytes, hashBegun, fed, finalHash};
 use compression::Five;
 use std::num::wrapping_add_u64;
 
@@ -14,7 +14,7 @@ pub struct Running {
 
 // Before the first byte. FIPS 180-4, 5.3.1.
 pub fn begin() -> Running
-    ensures { λ r. ⌜ r ≡ begun ⌝ }
+    ensures { λ r. ⌜ r ≡ hashBegun ⌝ }
 {
     Running {
         hash: Five {

@@ -12,7 +12,7 @@ use borrow.Author.Tests.{ltb-true, leb-false, lt-ltb, le-ltb, le-leb, lt-leb, eq
 use Rattle.octets.specs.Numbers.{_gives_}
 use Rattle.octets.specs.Octets.{at}
 use Rattle.sources.specs.Sources.{Accepted, capacity, entryFrom, entriesFrom, recordIn, placeOf, isHeld, lastNumber}
-use Rattle.sources.specs.Sources.{numberFault, sourceFault, accepted, memoryAccepted}
+use Rattle.sources.specs.Sources.{numberFault, sourceFault, withAccepted, memoryAccepted}
 
 abbrev pub none : Accepted
 none = record { source = 0; number = 0 }
@@ -138,8 +138,8 @@ place-room source place fault memory e z is =
 
 -- how many are held once a number was accepted
 pub length-accepted : (source number : ℕ) (held : List Accepted)
-    → length (accepted source number held) ≡ placeOf source held + 1 + (length held - (placeOf source held + 1))
-unfolding accepted
+    → length (withAccepted source number held) ≡ placeOf source held + 1 + (length held - (placeOf source held + 1))
+unfolding withAccepted
 length-accepted source number held =
     let place = placeOf source held in
     let entry : Accepted = record { source = source; number = number } in

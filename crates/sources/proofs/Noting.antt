@@ -12,7 +12,7 @@ use Rattle.octets.specs.Numbers.{_gives_}
 use Rattle.octets.specs.Octets.{at}
 use Rattle.octets.proofs.Numbering.{gives-zero}
 use Rattle.sources.specs.Sources.{Accepted, capacity, entryFrom, entriesFrom, recordIn, placeOf, isHeld, lastNumber}
-use Rattle.sources.specs.Sources.{numberFault, sourceFault, accepted, memoryAccepted}
+use Rattle.sources.specs.Sources.{numberFault, sourceFault, withAccepted, memoryAccepted}
 use Rattle.sources.proofs.Laws.{none, length-record, place-fits, place-within, length-accepted}
 
 abbrev pub entry : ℕ → ℕ → Accepted
@@ -51,15 +51,15 @@ inside-words place words h = omega arith
 
 -- the memory left shows the record left
 pub record-accepted : (source number : ℕ) (memory : List ℕ) → sourceFault source memory ≡ 0
-    → recordIn (memoryAccepted source number memory) ≡ accepted source number (recordIn memory)
-unfolding memoryAccepted recordIn accepted
+    → recordIn (memoryAccepted source number memory) ≡ withAccepted source number (recordIn memory)
+unfolding memoryAccepted recordIn withAccepted
 record-accepted source number [] e = absurd (omega (arith, place-fits source [] e))
 record-accepted source number (first ∷ words) e =
     let memory = first ∷ words in
     let held = recordIn memory in
     let place = placeOf source held in
     let count = min first (capacity memory) in
-    let long = length (accepted source number held) in
+    let long = length (withAccepted source number held) in
     let fits = place-fits source memory e in
     let counted = length-record memory in
     let one : 2 * place + 1 ≡ suc (2 * place) = omega arith in
@@ -108,8 +108,8 @@ taken-from source number held e =
 
 -- and it is one more than that afterwards; another source's stays
 accepted-cons : (source number : ℕ) (x : Accepted) (later : List Accepted)
-    → accepted source number (x ∷ later) ≡ cond (eqb (x .source) source) (entry source number ∷ later) (x ∷ accepted source number later)
-unfolding accepted placeOf
+    → withAccepted source number (x ∷ later) ≡ cond (eqb (x .source) source) (entry source number ∷ later) (x ∷ withAccepted source number later)
+unfolding withAccepted placeOf
 accepted-cons source number x later = go (eqb (x .source) source)
   where
     go : (test : Bool)
@@ -120,26 +120,26 @@ accepted-cons source number x later = go (eqb (x .source) source)
     go true = refl
     go false = let more : suc (placeOf source later) + 1 ≡ suc (placeOf source later + 1) = omega arith in rw more
 
-pub next-accepted : (source number : ℕ) (held : List Accepted) → nextNumber source (accepted source number held) ≡ suc number
-unfolding nextNumber accepted placeOf
+pub next-accepted : (source number : ℕ) (held : List Accepted) → nextNumber source (withAccepted source number held) ≡ suc number
+unfolding nextNumber withAccepted placeOf
 next-accepted source number [] = rw (eq-eqb source source refl)
 next-accepted source number (x ∷ later) =
     ap (nextNumber source) (accepted-cons source number x later) ∙ go (eqb (x .source) source) refl (next-accepted source number later)
   where
-    go : (test : Bool) → eqb (x .source) source ≡ test → nextNumber source (accepted source number later) ≡ suc number
-        → nextNumber source (cond test (entry source number ∷ later) (x ∷ accepted source number later)) ≡ suc number
+    go : (test : Bool) → eqb (x .source) source ≡ test → nextNumber source (withAccepted source number later) ≡ suc number
+        → nextNumber source (cond test (entry source number ∷ later) (x ∷ withAccepted source number later)) ≡ suc number
     go true e ih = rw (eq-eqb source source refl)
     go false e ih = rw e ih
 
 pub next-other : (other source number : ℕ) (held : List Accepted) → (source ≡ other → ⊥)
-    → nextNumber other (accepted source number held) ≡ nextNumber other held
-unfolding nextNumber accepted placeOf
+    → nextNumber other (withAccepted source number held) ≡ nextNumber other held
+unfolding nextNumber withAccepted placeOf
 next-other other source number [] ne = rw (ne-eqb source other ne)
 next-other other source number (x ∷ later) ne =
     ap (nextNumber other) (accepted-cons source number x later) ∙ go (eqb (x .source) source) refl (next-other other source number later ne)
   where
-    go : (test : Bool) → eqb (x .source) source ≡ test → nextNumber other (accepted source number later) ≡ nextNumber other later
-        → nextNumber other (cond test (entry source number ∷ later) (x ∷ accepted source number later))
+    go : (test : Bool) → eqb (x .source) source ≡ test → nextNumber other (withAccepted source number later) ≡ nextNumber other later
+        → nextNumber other (cond test (entry source number ∷ later) (x ∷ withAccepted source number later))
         ≡ cond (eqb (x .source) other) (suc (x .number)) (nextNumber other later)
     go true e ih = rw (eqb-true (x .source) source e, ne-eqb source other ne)
     go false e ih = rw ih
@@ -152,28 +152,28 @@ same-next false true l1 l2 e = absurd (omega arith)
 same-next false false l1 l2 e = (refl, λ t. let z : _≡_ {A = ℕ} 0 1 = cc in absurd (omega arith))
 
 pub last-accepted : (source number : ℕ) (held : List Accepted)
-    → (isHeld source (accepted source number held) ≡ true) × (lastNumber source (accepted source number held) ≡ number)
+    → (isHeld source (withAccepted source number held) ≡ true) × (lastNumber source (withAccepted source number held) ≡ number)
 last-accepted source number held =
-    let after = accepted source number held in
+    let after = withAccepted source number held in
     let same = same-next (isHeld source after) true (lastNumber source after) number (sym (next-is source after) ∙ next-accepted source number held) in
     (same .0, same .1 refl)
 
 pub last-other : (other source number : ℕ) (held : List Accepted) → (source ≡ other → ⊥)
-    → (isHeld other (accepted source number held) ≡ isHeld other held)
-    × (isHeld other held ≡ true → lastNumber other (accepted source number held) ≡ lastNumber other held)
+    → (isHeld other (withAccepted source number held) ≡ isHeld other held)
+    × (isHeld other held ≡ true → lastNumber other (withAccepted source number held) ≡ lastNumber other held)
 last-other other source number held ne =
-    let after = accepted source number held in
+    let after = withAccepted source number held in
     same-next (isHeld other after) (isHeld other held) (lastNumber other after) (lastNumber other held)
     (sym (next-is other after) ∙ next-other other source number held ne ∙ next-is other held)
 
 -- no source's number falls
 pub never-falls : (other source number : ℕ) (held : List Accepted) → numberFault source number held ≡ 0
-    → nextNumber other held ≤ nextNumber other (accepted source number held)
+    → nextNumber other held ≤ nextNumber other (withAccepted source number held)
 never-falls other source number held e = go (eqb source other) refl
   where
-    go : (test : Bool) → eqb source other ≡ test → nextNumber other held ≤ nextNumber other (accepted source number held)
+    go : (test : Bool) → eqb source other ≡ test → nextNumber other held ≤ nextNumber other (withAccepted source number held)
     go true is =
         let same : source ≡ other = eqb-true source other is in
-        subst (λ (t : ℕ). nextNumber t held ≤ nextNumber t (accepted source number held)) same
+        subst (λ (t : ℕ). nextNumber t held ≤ nextNumber t (withAccepted source number held)) same
         (omega (arith, next-accepted source number held, taken-from source number held e))
     go false is = omega (arith, next-other other source number held (eqb-false source other is))

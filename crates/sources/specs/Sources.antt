@@ -52,14 +52,14 @@ unfoldable pub sourceFault : ℕ → List ℕ → ℕ
 sourceFault source memory = (not (isHeld source (recordIn memory)) && leb (capacity memory) (length (recordIn memory))) gives 84
 
 -- the record once a number was accepted: the source's entry has it, a new source's stands behind the others
-unfoldable pub accepted : ℕ → ℕ → List Accepted → List Accepted
-accepted source number held =
+unfoldable pub withAccepted : ℕ → ℕ → List Accepted → List Accepted
+withAccepted source number held =
     take (placeOf source held) held ++ (record { source = source; number = number } ∷ drop (placeOf source held + 1) held)
 
 -- its memory: how many sources are held, and the source's two words; every other word stays. With 84 all stay
 unfoldable pub memoryAccepted : ℕ → ℕ → List ℕ → List ℕ
 memoryAccepted source number memory =
     cond (eqb (sourceFault source memory) 0)
-    (set (set (set memory 0 (length (accepted source number (recordIn memory)))) (2 * placeOf source (recordIn memory) + 1) source)
+    (set (set (set memory 0 (length (withAccepted source number (recordIn memory)))) (2 * placeOf source (recordIn memory) + 1) source)
     (2 * placeOf source (recordIn memory) + 2) number)
     memory

@@ -6,7 +6,7 @@ use native.Mathlib.Omega.{arith}
 use Prim.Native.Nat.{ℕ, zero, suc, _<_}
 use lib.Dec.{T, eqb, eqb→eq}
 use lib.ListN.{replicate}
-use Rattle.field.specs.Field.{xtime, product, _•_, raised, inverse}
+use Rattle.field.specs.Field.{xtime, fieldProduct, _•_, raised, inverse}
 use Rattle.field.proofs.Table.{every, at}
 
 -- the element and its inverse multiply to 1; the x of the test is not looked at
@@ -15,7 +15,7 @@ undone zero x = true
 undone (suc b) x = eqb (suc b • inverse (suc b)) 1
 
 all-undone : T (every undone 0 (replicate 256 0))
-unfolding undone product _•_ xtime raised inverse
+unfolding undone fieldProduct _•_ xtime raised inverse
 all-undone = tt
 
 pub inverse-is : (b : ℕ) → 0 < b → b < 256 → b • inverse b ≡ 1
@@ -24,5 +24,5 @@ inverse-is zero p h = absurd (omega arith)
 inverse-is (suc b) p h = eqb→eq (suc b • inverse (suc b)) 1 (at undone (replicate 256 0) all-undone (suc b) h)
 
 pub inverse-zero : inverse 0 ≡ 0
-unfolding product _•_ xtime raised inverse
+unfolding fieldProduct _•_ xtime raised inverse
 inverse-zero = refl

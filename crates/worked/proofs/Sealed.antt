@@ -7,10 +7,10 @@ use Prim.Native.Nat.{ℕ, _%_}
 use lib.ListN.{take, drop}
 use Rattle.octets.specs.Numbers.{_gives_, _orElse_}
 use Rattle.octets.specs.Octets.{at}
-use Rattle.field.specs.Field.{xtime, product, _•_, raised, inverse, affineBit, gathered, affine, subByte}
+use Rattle.field.specs.Field.{xtime, fieldProduct, _•_, raised, inverse, affineBit, gathered, affine, subByte}
 use Rattle.rounds.specs.Rounds.{mixColumn, round, lastRound}
-use Rattle.aes.specs.Cipher.{roundKey, rounds, cipher, power, temp, nextWord, expansion, keyExpansion}
-use Rattle.compression.specs.Compression.{mixing, constant, wordAt, words, schedule, step, steps, compressed}
+use Rattle.aes.specs.Cipher.{roundKey, rounds, cipher, power, temp, nextKeyWord, expansion, keyExpansion}
+use Rattle.compression.specs.Compression.{mixing, constant, blockWord, words, schedule, hashStep, hashSteps, compressed}
 use Rattle.sha1.specs.Sha1.{padding, padded, hashed, sha1}
 use Rattle.counter.specs.Counter.{counterBlock, stream, added, counterMode}
 use Rattle.pdu.specs.Header.{headerOf}
@@ -51,7 +51,7 @@ abbrev hash : List ℕ
 hash = 0x72 ∷ 0x5d ∷ 0xb2 ∷ 0xb2 ∷ []
 
 digest : take 4 (sha1 ((0x03 ∷ 0x08 ∷ 0x00 ∷ 0x12 ∷ 0x03 ∷ 0xe8 ∷ 0x06 ∷ 0x40 ∷ 0x00 ∷ 0x03 ∷ 0x52 ∷ []) ++ payload)) ≡ hash
-unfolding mixing constant padding padded wordAt words schedule step steps compressed hashed sha1
+unfolding mixing constant padding padded blockWord words schedule hashStep hashSteps compressed hashed sha1
 digest = refl
 
 -- the first output block, and bytes with its own added
@@ -59,8 +59,8 @@ abbrev pad : List ℕ
 pad = 0x61 ∷ 0x47 ∷ 0xd7 ∷ 0x33 ∷ 0xb3 ∷ 0xe3 ∷ 0xdf ∷ 0x0d ∷ 0x60 ∷ 0x5e ∷ 0xe5 ∷ 0x68 ∷ 0x21 ∷ 0xd0 ∷ 0xe2 ∷ 0x70 ∷ []
 
 block : cipher (keyExpansion key) (counterBlock nonce 0) ≡ pad
-unfolding xtime product _•_ raised inverse affineBit gathered affine subByte mixColumn roundKey round rounds lastRound cipher
-    power temp nextWord expansion keyExpansion
+unfolding xtime fieldProduct _•_ raised inverse affineBit gathered affine subByte mixColumn roundKey round rounds lastRound cipher
+    power temp nextKeyWord expansion keyExpansion
 block = refl
 
 enciphered : counterMode key nonce (payload ++ hash) ≡ drop 12 sealed

@@ -3,7 +3,7 @@
 use mathlib.Core.Path.{ap, ap₂, _∙_}
 use mathlib.Core.List.{List}
 use Prim.Native.Nat.{ℕ, _-_}
-use Rattle.compression.specs.Compression.{schedule, steps, summed, compressed}
+use Rattle.compression.specs.Compression.{schedule, hashSteps, summed, compressed}
 use Rattle.compression.proofs.Words.{Ran, ran-begun, ran-on, ran-all}
 use borrow.Author.Needs.{needs}
 use Rattle.compression.proofs.compress.Statement.{statement}
@@ -31,7 +31,7 @@ returns c =
     c .add-all .ensures
     ∙ ap (summed h)
     (ran-all _ _ _ _ _ (b .loop .inv) (c .before .loop-test .left)
-    ∙ ap (λ (m : List ℕ). steps (schedule m 64) 80 h) (b .before .words-of .ensures))
+    ∙ ap (λ (m : List ℕ). hashSteps (schedule m 64) 80 h) (b .before .words-of .ensures))
 
 pub compress-spec : {M : Type 1} → statement M
 compress-spec =

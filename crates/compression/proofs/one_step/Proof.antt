@@ -2,7 +2,7 @@
 -- Assumes nothing.
 use mathlib.Core.Path.{refl, _∙_}
 use Prim.Native.Nat.{ℕ, _+_, _%_, _^_}
-use Rattle.compression.specs.Compression.{step}
+use Rattle.compression.specs.Compression.{hashStep}
 use Rattle.compression.proofs.Equal.{ap₄}
 use Rattle.compression.proofs.Equal.{five}
 use borrow.Author.Needs.{needs}
@@ -10,7 +10,7 @@ use Rattle.compression.proofs.one_step.Statement.{statement}
 use Rattle.compression.proofs.one_step.Tie as tie
 
 returns : tie.Need-returns
-unfolding step
+unfolding hashStep
 returns c =
     let b = c .before .before in
     let a = b .before .before .before .args in

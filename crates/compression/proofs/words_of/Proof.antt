@@ -4,7 +4,7 @@ use mathlib.Core.Path.{_≡_, refl}
 use Prim.Native.Nat.{_≤_, _-_}
 use native.Mathlib.Omega.{arith}
 use lib.ListN.{length, take, length-set}
-use Rattle.compression.specs.Compression.{wordAt, words}
+use Rattle.compression.specs.Compression.{blockWord, words}
 use Rattle.compression.proofs.Words.{laid, all-laid}
 use borrow.Author.Needs.{needs}
 use Rattle.compression.proofs.words_of.Statement.{statement}
@@ -21,7 +21,7 @@ unfolding words
 loop-holds c = (omega arith, search needs, refl)
 
 loop-again : tie.Need-loop-again Inv-loop μ-loop
-unfolding wordAt
+unfolding blockWord
 loop-again c =
     let b = c .before .before in
     let v = b .loop .inv in

@@ -2,7 +2,7 @@
 -- The table is read off the code: the value of local 0 once it is made. It stands in no file but the source.
 -- Assumes nothing.
 use borrow.Table.Row as Row
-use Rattle.field.specs.Field.{xtime, product, _•_, raised, inverse, affineBit, gathered, affine, subByte}
+use Rattle.field.specs.Field.{xtime, fieldProduct, _•_, raised, inverse, affineBit, gathered, affine, subByte}
 use Rattle.field.proofs.Table.{follows}
 use Rattle.field.proofs.Substitutes.{tabled}
 use Rattle.field.proofs.all_substitutes.Statement.{statement}
@@ -11,7 +11,7 @@ use Rattle.field.proofs.all_substitutes.Lts as lts
 use Rattle.field.proofs.all_substitutes.Reads as reads
 
 returns : tie.Need-returns
-unfolding follows xtime product _•_ raised inverse affineBit gathered affine subByte
+unfolding follows xtime fieldProduct _•_ raised inverse affineBit gathered affine subByte
 returns c = tabled _ 0 tt
 
 pub all-substitutes-spec : {M : Type 1} → statement M
