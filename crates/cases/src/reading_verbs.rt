@@ -41,7 +41,7 @@ fn reads(line: Line, input: &[u8]) -> bool {
     if line.verb == verb::READ {
         return tell(line, 0o2, 0, pdu::reading_number(pdu::read(input)) as u64);
     }
-    tell(line, 0o2, 0, job::reading_number(job::read(input)) as u64)
+    tell(line, 0o2, 0, job::job_number(job::read(input)) as u64)
 }
 
 fn views(line: Line, input: &[u8]) -> bool {

@@ -8,7 +8,7 @@ use borrow.Author.Tests.{lt-ltb, le-ltb}
 use Rattle.octets.specs.Octets.{at, wordAt}
 use Rattle.elements.specs.declared.Head.{Head}
 use Rattle.elements.specs.Elements.{numberAt, numberSize, typeAt, lengthAt, valuePlace, elementEnd}
-use Rattle.elements.specs.Finding.{headOf, headAt}
+use Rattle.elements.specs.Finding.{elementHead, headAt}
 
 module _ (bytes : List ℕ) (place first : ℕ) (is : first ≡ at bytes place) where
   pub size-short : first < 128 → 1 ≡ numberSize bytes place
@@ -46,13 +46,13 @@ pub head-is : (bytes : List ℕ) (place within : ℕ) (head : Head) → within �
     → head .«value_place» ≡ valuePlace bytes within → head .end ≡ elementEnd bytes within → head ≡ headAt bytes place
 unfolding headAt
 head-is bytes place within head w t v e =
-    let same : head ≡ headOf bytes within = λ i. record { «type_number» = t i; «value_place» = v i; end = e i } in
-    same ∙ ap (headOf bytes) w
+    let same : head ≡ elementHead bytes within = λ i. record { «type_number» = t i; «value_place» = v i; end = e i } in
+    same ∙ ap (elementHead bytes) w
 
 module _ (bytes : List ℕ) (place : ℕ) (head : Head) (h : place ≤ length bytes) (e : head ≡ headAt bytes place) where
-  head-there : head ≡ headOf bytes place
+  head-there : head ≡ elementHead bytes place
   unfolding headAt
-  head-there = let within : min place (length bytes) ≡ place = omega arith in e ∙ ap (headOf bytes) within
+  head-there = let within : min place (length bytes) ≡ place = omega arith in e ∙ ap (elementHead bytes) within
 
   pub head-type : head .«type_number» ≡ typeAt bytes place
   head-type = ap (λ (x : Head). x .«type_number») head-there

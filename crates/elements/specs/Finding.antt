@@ -12,12 +12,12 @@ use Rattle.elements.specs.declared.Pair.{Pair}
 use Rattle.elements.specs.Elements.{typeAt, valuePlace, elementEnd, elementsIn, ofType}
 
 -- what a reader is shown of the element that begins at a place
-abbrev pub headOf : List ℕ → ℕ → Head
-headOf bytes place = record { «type_number» = typeAt bytes place; «value_place» = valuePlace bytes place; end = elementEnd bytes place }
+abbrev pub elementHead : List ℕ → ℕ → Head
+elementHead bytes place = record { «type_number» = typeAt bytes place; «value_place» = valuePlace bytes place; end = elementEnd bytes place }
 
 -- a place past the end counts as the end
 unfoldable pub headAt : List ℕ → ℕ → Head
-headAt bytes place = headOf bytes (min place (length bytes))
+headAt bytes place = elementHead bytes (min place (length bytes))
 
 -- the place of one that is there exactly once
 abbrev pub onlyOne : List ℕ → Only

@@ -4,7 +4,7 @@ use mathlib.Core.List.{List, [], _∷_}
 use mathlib.Core.Path.{_≡_, refl}
 use Rattle.octets.specs.Numbers.{_gives_, _orElse_}
 use Rattle.job.specs.declared.Reading.the-variants.{Job}
-use Rattle.job.specs.Jobs.{headOf, rangesNumber, listNumber, batchNumber, listAt, batchAt, sectionsOf, jobOf}
+use Rattle.job.specs.Jobs.{jobHead, rangesNumber, listNumber, batchNumber, listAt, batchAt, sectionsOf, jobOf}
 
 example : List ℕ
 example =
@@ -23,5 +23,5 @@ example-read : jobOf example ≡
       «destination_reject» = record { place = 7; count = 0 };
       batch = record { place = 9; count = 26 };
     })
-unfolding example jobOf headOf sectionsOf listAt batchAt listNumber batchNumber rangesNumber _gives_ _orElse_
+unfolding example jobOf jobHead sectionsOf listAt batchAt listNumber batchNumber rangesNumber _gives_ _orElse_
 example-read = refl

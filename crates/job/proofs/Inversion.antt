@@ -18,7 +18,7 @@ use Rattle.job.specs.declared.Taken.the-variants as taken
 use Rattle.job.specs.declared.Job.{Job}
 use Rattle.job.specs.declared.Reading.{Reading}
 use Rattle.job.specs.declared.Reading.the-variants as reading
-use Rattle.job.specs.Jobs.{headOf, listAt, batchAt, andThen, listEnd, sectionsOf, afterHead, jobOf, jobLimit, listsIn}
+use Rattle.job.specs.Jobs.{jobHead, listAt, batchAt, thenSection, listEnd, sectionsOf, afterHead, jobOf, jobLimit, listsIn}
 use Rattle.job.proofs.Taking.{ListIn, list-in, list-short, list-right, batch-in, batch-place}
 
 -- what follows of own address and flags that were found
@@ -27,8 +27,8 @@ record HeadIn (bytes : List ℕ) (own flags : ℕ) : Type 0 where
   is-flags : flags ≡ at bytes 2
   known : flags ≤ 63
 
-head-in : (bytes : List ℕ) (own flags : ℕ) → headOf bytes ≡ head.Found own flags → HeadIn bytes own flags
-unfolding headOf
+head-in : (bytes : List ℕ) (own flags : ℕ) → jobHead bytes ≡ head.Found own flags → HeadIn bytes own flags
+unfolding jobHead
 head-in bytes own flags e = go (ltb (length bytes) 3) (ltb 63 (at bytes 2)) refl e
   where
     go : (short wrong : Bool) → ltb 63 (at bytes 2) ≡ wrong
@@ -62,7 +62,7 @@ record Went (section : Taken) (later : Section → Reading) (job : Job) : Type 0
   is : section ≡ taken.At it
   on : later it ≡ reading.Job job
 
-went : (section : Taken) (later : Section → Reading) (job : Job) → andThen section later ≡ reading.Job job → Went section later job
+went : (section : Taken) (later : Section → Reading) (job : Job) → thenSection section later ≡ reading.Job job → Went section later job
 went (taken.At section) later job e = record { it = section; is = refl; on = e }
 went (taken.Refused number) later job e = let z : _≡_ {A = ℕ} 0 1 = cc in absurd (omega arith)
 
@@ -85,7 +85,7 @@ pub record JobIn (bytes : List ℕ) (job : Job) : Type 0 where
 pub job-in : (bytes : List ℕ) (job : Job) → jobOf bytes ≡ reading.Job job → JobIn bytes job
 unfolding jobOf sectionsOf
 job-in bytes job e =
-    let start = began bytes (headOf bytes) job e in
+    let start = began bytes (jobHead bytes) job e in
     let found = head-in bytes (start .own) (start .flags) (start .is) in
     let a = went (listAt bytes 3) _ job (start .on) in
     let b = went (listAt bytes (listEnd (a .it))) _ job (a .on) in

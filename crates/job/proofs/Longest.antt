@@ -20,12 +20,12 @@ use Rattle.job.specs.declared.Taken.{Taken}
 use Rattle.job.specs.declared.Taken.the-variants as taken
 use Rattle.job.specs.declared.Reading.{Reading}
 use Rattle.job.specs.declared.Reading.the-variants as reading
-use Rattle.job.specs.Jobs.{headOf, rangesNumber, listNumber, batchNumber}
-use Rattle.job.specs.Jobs.{listAt, batchAt, andThen, listEnd, sectionsOf, afterHead, jobOf, jobLimit}
+use Rattle.job.specs.Jobs.{jobHead, rangesNumber, listNumber, batchNumber}
+use Rattle.job.specs.Jobs.{listAt, batchAt, thenSection, listEnd, sectionsOf, afterHead, jobOf, jobLimit}
 use Rattle.job.proofs.Taking.{list-short, batch-in, batch-place}
 
 and-same : (one two : Taken) (f g : Section → Reading) → one ≡ two → ((section : Section) → one ≡ taken.At section → f section ≡ g section)
-    → andThen one f ≡ andThen two g
+    → thenSection one f ≡ thenSection two g
 and-same (taken.At section) two f g e h = rw (← e) (h section refl)
 and-same (taken.Refused number) two f g e h = rw (← e)
 
@@ -109,14 +109,14 @@ module _ (s t : List ℕ) (long-s : jobLimit < length s) (long-t : jobLimit < le
       (λ d ed. let ld = list-short s (listEnd c) d ed in
       and-same _ _ _ _ (batch-same (listEnd d) (omega arith)) (λ e ee. both-left-over (listEnd d) e _ _ (omega arith) ee)))))
 
-  head-same : headOf s ≡ headOf t
-  unfolding headOf
+  head-same : jobHead s ≡ jobHead t
+  unfolding jobHead
   head-same =
       rw (le-ltb (length s) 3 (omega arith), le-ltb (length t) 3 (omega arith), same 2 (omega arith), word-same 0 (omega arith))
 
   job-same : jobOf s ≡ jobOf t
   unfolding jobOf
-  job-same = ap (λ (one : Head). afterHead one s) head-same ∙ after (headOf t)
+  job-same = ap (λ (one : Head). afterHead one s) head-same ∙ after (jobHead t)
     where
       after : (one : Head) → afterHead one s ≡ afterHead one t
       after (head.Found own flags) = sections-same own flags

@@ -10,7 +10,7 @@ use Rattle.octets.specs.Octets.{wordAt}
 use Rattle.octets.proofs.Words.{past-end}
 use Rattle.pdu.proofs.Paths.{length-addresses, address-at}
 use Rattle.job.specs.declared.Section.{Section}
-use Rattle.job.specs.Jobs.{valuesIn, padded}
+use Rattle.job.specs.Jobs.{valuesIn, paddedValues}
 
 module _ (bytes : List ℕ) (section : Section) where
   pub length-values : length (valuesIn bytes section) ≡ 2 * section .count
@@ -25,8 +25,8 @@ module _ (bytes : List ℕ) (section : Section) where
   pub value-past : (i : ℕ) → i / 2 < section .count → length bytes ≤ section .place → 0 ≡ getD (valuesIn bytes section) i 0
   value-past i h past = past-end bytes (section .place + 2 * i) (omega arith) ∙ value-there i h
 
-pub length-padded : (values : List ℕ) → length (padded values) ≡ 128
-unfolding padded
+pub length-padded : (values : List ℕ) → length (paddedValues values) ≡ 128
+unfolding paddedValues
 length-padded values =
     length-take-le 128 (values ++ replicate 128 0) (omega (arith, length-append values (replicate 128 0), length-replicate {A = ℕ} 128 0))
 
@@ -36,29 +36,29 @@ value-before-zeros [] n i h = getD-replicate n i 0 0 h
 value-before-zeros (value ∷ values) n zero h = refl
 value-before-zeros (value ∷ values) n (suc i) h = value-before-zeros values n i (omega arith)
 
-padded-value : (values : List ℕ) (i : ℕ) → i < 128 → getD (padded values) i 0 ≡ getD values i 0
-unfolding padded
+padded-value : (values : List ℕ) (i : ℕ) → i < 128 → getD (paddedValues values) i 0 ≡ getD values i 0
+unfolding paddedValues
 padded-value values i h = getD-take 128 (values ++ replicate 128 0) i 0 h ∙ value-before-zeros values 128 i h
 
 -- an array that is filled from its start
 pub filled-more : (values array : List ℕ) (i value : ℕ) → length array ≡ 128 → i < 128 → value ≡ getD values i 0
-    → take i array ≡ take i (padded values)
-    → take (i + 1) (set array i value) ≡ take (i + 1) (padded values)
+    → take i array ≡ take i (paddedValues values)
+    → take (i + 1) (set array i value) ≡ take (i + 1) (paddedValues values)
 filled-more values array i value long h is e =
     rw (add-one i)
     (take-suc-set array i value (omega arith)
-    ∙ rw (e, is, ← padded-value values i h) (sym (take-suc (padded values) i 0 (omega (arith, length-padded values)))))
+    ∙ rw (e, is, ← padded-value values i h) (sym (take-suc (paddedValues values) i 0 (omega (arith, length-padded values)))))
 
-pub filled-all : (values array : List ℕ) (i : ℕ) → length array ≡ 128 → 128 ≤ i → take i array ≡ take i (padded values)
-    → array ≡ padded values
+pub filled-all : (values array : List ℕ) (i : ℕ) → length array ≡ 128 → 128 ≤ i → take i array ≡ take i (paddedValues values)
+    → array ≡ paddedValues values
 filled-all values array i long h e =
-    sym (take-all i array (omega arith)) ∙ e ∙ take-all i (padded values) (omega (arith, length-padded values))
+    sym (take-all i array (omega arith)) ∙ e ∙ take-all i (paddedValues values) (omega (arith, length-padded values))
 
 -- the values are the array's start
-pub padded-start : (values : List ℕ) (n : ℕ) → length values ≡ n → n ≤ 128 → take n (padded values) ≡ values
-unfolding padded
+pub padded-start : (values : List ℕ) (n : ℕ) → length values ≡ n → n ≤ 128 → take n (paddedValues values) ≡ values
+unfolding paddedValues
 padded-start values n e h = take-take n 128 (values ++ replicate 128 0) h ∙ take-at values (replicate 128 0) n e
 
 pub values-start : (bytes : List ℕ) (section : Section) → section .count ≤ 64
-    → take (2 * section .count) (padded (valuesIn bytes section)) ≡ valuesIn bytes section
+    → take (2 * section .count) (paddedValues (valuesIn bytes section)) ≡ valuesIn bytes section
 values-start bytes section h = padded-start (valuesIn bytes section) (2 * section .count) (length-values bytes section) (omega arith)

@@ -15,35 +15,35 @@ use Rattle.job.specs.declared.Taken.{Taken}
 use Rattle.job.specs.declared.Taken.the-variants as taken
 use Rattle.job.specs.declared.Reading.{Reading}
 use Rattle.job.specs.declared.Reading.the-variants as reading
-use Rattle.job.specs.Jobs.{headNumber, takenNumber, headOf, listAt, batchAt, andThen, listEnd, sectionsOf, jobOf}
+use Rattle.job.specs.Jobs.{headNumber, takenNumber, jobHead, listAt, batchAt, thenSection, listEnd, sectionsOf, jobOf}
 use Rattle.job.proofs.Taking.{list-in, batch-in}
 
 -- own address and flags
 module _ (bytes : List ℕ) where
-  pub cut-short : length bytes < 3 → head.Refused 50 ≡ headOf bytes
-  unfolding headOf
+  pub cut-short : length bytes < 3 → head.Refused 50 ≡ jobHead bytes
+  unfolding jobHead
   cut-short h = simp (lt-ltb (length bytes) 3 h)
 
   module _ (h : 3 ≤ length bytes) (flags : ℕ) (is-flags : flags ≡ at bytes 2) where
-    pub wrong-flags : 63 < flags → head.Refused 51 ≡ headOf bytes
-    unfolding headOf
+    pub wrong-flags : 63 < flags → head.Refused 51 ≡ jobHead bytes
+    unfolding jobHead
     wrong-flags wrong = simp (le-ltb (length bytes) 3 h, lt-ltb 63 (at bytes 2) (omega arith))
 
-    pub found : {own : ℕ} → own ≡ wordAt bytes 0 → flags ≤ 63 → head.Found own flags ≡ headOf bytes
-    unfolding headOf
+    pub found : {own : ℕ} → own ≡ wordAt bytes 0 → flags ≤ 63 → head.Found own flags ≡ jobHead bytes
+    unfolding jobHead
     found is-own right = rw (is-own, is-flags) (simp (le-ltb (length bytes) 3 h, le-ltb 63 (at bytes 2) (omega arith)))
 
-  pub head-refused : {one : Head} {number : ℕ} → one ≡ headOf bytes → one ≡ head.Refused number → reading.Refused (headNumber one) ≡ jobOf bytes
+  pub head-refused : {one : Head} {number : ℕ} → one ≡ jobHead bytes → one ≡ head.Refused number → reading.Refused (headNumber one) ≡ jobOf bytes
   unfolding jobOf
   head-refused e was = rw (← e, was)
 
-  pub only-sections : {one : Head} {own flags : ℕ} → one ≡ headOf bytes → one ≡ head.Found own flags → sectionsOf own flags bytes ≡ jobOf bytes
+  pub only-sections : {one : Head} {own flags : ℕ} → one ≡ jobHead bytes → one ≡ head.Found own flags → sectionsOf own flags bytes ≡ jobOf bytes
   unfolding jobOf
   only-sections e was = rw (← e, was)
 
 -- a job has come to a section: `one` is what taking it gives, and `later` is what is left to read after it
 pub record Come (job : Reading) (one : Taken) (later : Section → Reading) : Type 0 where
-  pub is : job ≡ andThen one later
+  pub is : job ≡ thenSection one later
 
 -- the section is refused, and its number is the job's
 pub refused-here : {job : Reading} {one : Taken} {later : Section → Reading} {number given : ℕ}
@@ -52,12 +52,12 @@ refused-here here refused e = ap reading.Refused e ∙ rw refused (sym (here .is
 
 -- a section was taken, and the next one begins where it ends
 module _ (bytes : List ℕ) {job : Reading} {one next : Taken} {section : Section} {place : ℕ} (later : Section → Section → Reading) where
-  pub next-list : Come job one (λ a. andThen (listAt bytes (listEnd a)) (later a)) → one ≡ taken.At section → place ≡ listEnd section
+  pub next-list : Come job one (λ a. thenSection (listAt bytes (listEnd a)) (later a)) → one ≡ taken.At section → place ≡ listEnd section
       → next ≡ listAt bytes place
       → Come job next (later section)
   next-list here was ends e = record { is = here .is ∙ rw (was, e, ends) }
 
-  pub next-batch : Come job one (λ a. andThen (batchAt bytes (listEnd a)) (later a)) → one ≡ taken.At section → place ≡ listEnd section
+  pub next-batch : Come job one (λ a. thenSection (batchAt bytes (listEnd a)) (later a)) → one ≡ taken.At section → place ≡ listEnd section
       → next ≡ batchAt bytes place → Come job next (later section)
   next-batch here was ends e = record { is = here .is ∙ rw (was, e, ends) }
 
@@ -78,16 +78,16 @@ module _ (own flags : ℕ) (bytes : List ℕ) where
       (record { own = own; flags = flags; «source_pass» = a; «source_reject» = b; «destination_pass» = c; «destination_reject» = d; batch = e }))
 
   abbrev pub afterFourth : Section → Section → Section → Section → Reading
-  afterFourth a b c d = andThen (batchAt bytes (listEnd d)) (afterBatch a b c d)
+  afterFourth a b c d = thenSection (batchAt bytes (listEnd d)) (afterBatch a b c d)
 
   abbrev pub afterThird : Section → Section → Section → Reading
-  afterThird a b c = andThen (listAt bytes (listEnd c)) (afterFourth a b c)
+  afterThird a b c = thenSection (listAt bytes (listEnd c)) (afterFourth a b c)
 
   abbrev pub afterSecond : Section → Section → Reading
-  afterSecond a b = andThen (listAt bytes (listEnd b)) (afterThird a b)
+  afterSecond a b = thenSection (listAt bytes (listEnd b)) (afterThird a b)
 
   abbrev pub afterFirst : Section → Reading
-  afterFirst a = andThen (listAt bytes (listEnd a)) (afterSecond a)
+  afterFirst a = thenSection (listAt bytes (listEnd a)) (afterSecond a)
 
   pub begun : {first : Taken} → first ≡ listAt bytes 3 → Come (sectionsOf own flags bytes) first afterFirst
   unfolding sectionsOf

@@ -17,8 +17,8 @@ use Rattle.job.specs.declared.Taken.the-variants as taken
 use Rattle.job.specs.declared.Job.{Job}
 use Rattle.job.specs.declared.Reading.{Reading}
 use Rattle.job.specs.declared.Reading.the-variants as reading
-use Rattle.job.specs.Jobs.{headNumber, takenNumber, readingNumber, headOf, rangesNumber, listNumber, batchNumber, takenOf}
-use Rattle.job.specs.Jobs.{listAt, batchAt, andThen, listEnd, sectionsOf, afterHead, jobOf}
+use Rattle.job.specs.Jobs.{headNumber, takenNumber, jobNumber, jobHead, rangesNumber, listNumber, batchNumber, takenOf}
+use Rattle.job.specs.Jobs.{listAt, batchAt, thenSection, listEnd, sectionsOf, afterHead, jobOf}
 
 -- numbers of at most so much
 pub gives-within : (test : Bool) {n most : ℕ} → n ≤ most → (test gives n) ≤ most
@@ -45,9 +45,9 @@ record Section54 (one : Taken) : Type 0 where
   most : takenNumber one ≤ 54
 
 record Job54 (job : Reading) : Type 0 where
-  most : readingNumber job ≤ 54
+  most : jobNumber job ≤ 54
 
-and-within : {one : Taken} {later : Section → Reading} → Section54 one → ((section : Section) → Job54 (later section)) → Job54 (andThen one later)
+and-within : {one : Taken} {later : Section → Reading} → Section54 one → ((section : Section) → Job54 (later section)) → Job54 (thenSection one later)
 and-within {one = taken.At section} h k = k section
 and-within {one = taken.Refused number} h k = record { most = h .most }
 
@@ -90,8 +90,8 @@ module _ (bytes : List ℕ) where
       (λ c. and-within (list-within (listEnd c))
       (λ d. and-within (batch-within (listEnd d)) (λ e. last-within (ltb (e .place + e .count) (length bytes)) _)))))
 
-  head-within : headNumber (headOf bytes) ≤ 54
-  unfolding headOf
+  head-within : headNumber (jobHead bytes) ≤ 54
+  unfolding jobHead
   head-within = go (ltb (length bytes) 3) (ltb 63 (at bytes 2))
     where
       go : (short wrong : Bool)
@@ -101,10 +101,10 @@ module _ (bytes : List ℕ) where
       go false false = omega arith
 
   -- the number of a job
-  pub number-within : readingNumber (jobOf bytes) ≤ 54
+  pub number-within : jobNumber (jobOf bytes) ≤ 54
   unfolding jobOf
-  number-within = go (headOf bytes) head-within
+  number-within = go (jobHead bytes) head-within
     where
-      go : (one : Head) → headNumber one ≤ 54 → readingNumber (afterHead one bytes) ≤ 54
+      go : (one : Head) → headNumber one ≤ 54 → jobNumber (afterHead one bytes) ≤ 54
       go (head.Found own flags) h = sections-within own flags .most
       go (head.Refused number) h = h

@@ -30,13 +30,13 @@ abbrev pub takenNumber : Taken → ℕ
 takenNumber (taken.At section) = 0
 takenNumber (taken.Refused number) = number
 
-abbrev pub readingNumber : Reading → ℕ
-readingNumber (reading.Job job) = 0
-readingNumber (reading.Refused number) = number
+abbrev pub jobNumber : Reading → ℕ
+jobNumber (reading.Job job) = 0
+jobNumber (reading.Refused number) = number
 
 -- own address and flags: 50 where they are cut short, 51 for flags above 63, which have bit 6 or 7 set
-unfoldable pub headOf : List ℕ → Head
-headOf bytes =
+unfoldable pub jobHead : List ℕ → Head
+jobHead bytes =
     cond (ltb (length bytes) 3) (head.Refused 50) (cond (ltb 63 (at bytes 2)) (head.Refused 51) (head.Found (wordAt bytes 0) (at bytes 2)))
 
 -- so many ranges of 4 bytes from a place on: 50 where one is cut short, 20 where one that was read has its low above its high, or 0
@@ -72,9 +72,9 @@ unfoldable pub batchAt : List ℕ → ℕ → Taken
 batchAt bytes place = takenOf (batchNumber bytes place) (place + 2) (wordAt bytes place)
 
 -- what follows a section, or its refusal
-abbrev pub andThen : Taken → (Section → Reading) → Reading
-andThen (taken.At section) later = later section
-andThen (taken.Refused number) later = reading.Refused number
+abbrev pub thenSection : Taken → (Section → Reading) → Reading
+thenSection (taken.At section) later = later section
+thenSection (taken.Refused number) later = reading.Refused number
 
 -- where a list section ends
 abbrev pub listEnd : Section → ℕ
@@ -83,11 +83,11 @@ listEnd section = section .place + 4 * section .count
 -- from byte 3 on: four list sections, the batch; nothing after it
 unfoldable pub sectionsOf : ℕ → ℕ → List ℕ → Reading
 sectionsOf own flags bytes =
-    andThen (listAt bytes 3)
-    (λ a. andThen (listAt bytes (listEnd a))
-    (λ b. andThen (listAt bytes (listEnd b))
-    (λ c. andThen (listAt bytes (listEnd c))
-    (λ d. andThen (batchAt bytes (listEnd d))
+    thenSection (listAt bytes 3)
+    (λ a. thenSection (listAt bytes (listEnd a))
+    (λ b. thenSection (listAt bytes (listEnd b))
+    (λ c. thenSection (listAt bytes (listEnd c))
+    (λ d. thenSection (batchAt bytes (listEnd d))
     (λ e. cond (ltb (e .place + e .count) (length bytes)) (reading.Refused 53)
     (reading.Job (record {
       own = own;
@@ -105,7 +105,7 @@ afterHead (head.Found own flags) bytes = sectionsOf own flags bytes
 afterHead (head.Refused number) bytes = reading.Refused number
 
 unfoldable pub jobOf : List ℕ → Reading
-jobOf bytes = afterHead (headOf bytes) bytes
+jobOf bytes = afterHead (jobHead bytes) bytes
 
 -- the most bytes that a job without fault has: own address and flags, four lists of 64 ranges, the longest batch ("Sizes")
 abbrev pub jobLimit : ℕ
@@ -129,8 +129,8 @@ abbrev pub valuesIn : List ℕ → Section → List ℕ
 valuesIn bytes section = addressesAt bytes (section .place) (2 * section .count)
 
 -- values at the start of an array that has room for every list; 0 behind them
-unfoldable pub padded : List ℕ → List ℕ
-padded values = take valueLimit (values ++ replicate valueLimit 0)
+unfoldable pub paddedValues : List ℕ → List ℕ
+paddedValues values = take valueLimit (values ++ replicate valueLimit 0)
 
 -- the batch's bytes
 abbrev pub batchIn : List ℕ → Job → List ℕ

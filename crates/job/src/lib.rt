@@ -3,12 +3,12 @@ ghost use mathlib.Core.Path.{_≡_};
 ghost use Prim.Native.Nat.{_+_, _*_, _%_, _<_, _≤_, _^_};
 ghost use lib.Dec.{eqb, ltb};
 ghost use lib.ListN.{length, getD};
-ghost use Rattle.job.specs.Jobs.{headNumber, takenNumber, readingNumber, headOf, rangesNumber, listAt, batchAt, listEnd, sectionsOf, jobOf};
+ghost use Rattle.job.specs.Jobs.{headNumber, takenNumber, jobNumber, jobHead, rangesNumber, listAt, batchAt, listEnd, sectionsOf, jobOf};
 ghost use Rattle.octets.specs.Numbers.{_gives_, _orElse_};
 ghost use Rattle.octets.specs.Octets.{IsPart};
 ghost use Rattle.lists.specs.Lists.{valueLimit};
 ghost use Rattle.batch.specs.Walk.{batchLimit};
-ghost use Rattle.job.specs.Jobs.{settingsOf, valuesIn, padded};
+ghost use Rattle.job.specs.Jobs.{settingsOf, valuesIn, paddedValues};
 
 // Own address and flags, or the number they were refused with.
 enum Head {
@@ -47,7 +47,7 @@ pub enum Reading {
 
 // Own address and flags: 50 where they are cut short, 51 for flags with bit 6 or 7 set.
 fn head_of(bytes: &[u8]) -> Head
-    ensures { λ r. ⌜ r ≡ headOf (now (bytes .entry)) ⌝ }
+    ensures { λ r. ⌜ r ≡ jobHead (now (bytes .entry)) ⌝ }
 {
     if bytes.len() < 3 {
         return Head::Refused(50);
@@ -84,8 +84,8 @@ pub fn taken_number(taken: Taken) -> u8
 }
 
 // The number of a job: 20 or 50 to 54 as `read` gives it, 0 for one that has no fault. Document 01, "Numbers answered".
-pub fn reading_number(reading: Reading) -> u8
-    ensures { λ r. ⌜ r ≡ readingNumber reading ⌝ }
+pub fn job_number(reading: Reading) -> u8
+    ensures { λ r. ⌜ r ≡ jobNumber reading ⌝ }
 {
     match reading {
         Reading::Job(_) => 0,
@@ -274,7 +274,7 @@ fn value_at(bytes: &[u8], section: Section, i: usize) -> u16
 // Bytes past the end count as 0. Of a section of more than 64 ranges, which no job that was read has, the first 64 are shown.
 // Document 01, "The program `relay`", a list section.
 pub fn values(bytes: &[u8], section: Section) -> [u16; lists::VALUE_LIMIT]
-    ensures { λ r. ⌜ r ≡ padded (valuesIn (now (bytes .entry)) section) ⌝ }
+    ensures { λ r. ⌜ r ≡ paddedValues (valuesIn (now (bytes .entry)) section) ⌝ }
 {
     let mut values = [0u16; lists::VALUE_LIMIT];
     let mut i: usize = 0;

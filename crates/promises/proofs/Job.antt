@@ -4,8 +4,8 @@ use Rattle.octets.proofs.Parting.{one-part}
 use Rattle.promises.specs.Promise.{slice, Promised}
 use Rattle.job.proofs.taken_number.Reads as taken-number-reads
 use Rattle.job.proofs.taken_number.Kinds as taken-number-kinds
-use Rattle.job.proofs.reading_number.Reads as reading-number-reads
-use Rattle.job.proofs.reading_number.Kinds as reading-number-kinds
+use Rattle.job.proofs.job_number.Reads as job-number-reads
+use Rattle.job.proofs.job_number.Kinds as job-number-kinds
 use Rattle.job.proofs.list_at.Reads as list-at-reads
 use Rattle.job.proofs.list_at.Kinds as list-at-kinds
 use Rattle.job.proofs.batch_at.Reads as batch-at-reads
@@ -22,8 +22,8 @@ use Rattle.job.proofs.batch.Kinds as batch-kinds
 pub taken-number : Promised 0 taken-number-kinds.ps taken-number-kinds.r taken-number-reads.Asked taken-number-reads.Post (λ κs x. x)
 taken-number = (λ κs a. tt, λ κs a x y s t p q. p ∙ sym q)
 
-pub reading-number : Promised 0 reading-number-kinds.ps reading-number-kinds.r reading-number-reads.Asked reading-number-reads.Post (λ κs x. x)
-reading-number = (λ κs a. tt, λ κs a x y s t p q. p ∙ sym q)
+pub job-number : Promised 0 job-number-kinds.ps job-number-kinds.r job-number-reads.Asked job-number-reads.Post (λ κs x. x)
+job-number = (λ κs a. tt, λ κs a x y s t p q. p ∙ sym q)
 
 pub list-at : Promised 1 list-at-kinds.ps list-at-kinds.r list-at-reads.Asked list-at-reads.Post (λ κs x. x)
 list-at = (λ κs a. tt, λ κs a x y s t p q. p ∙ sym q)

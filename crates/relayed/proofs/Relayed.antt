@@ -20,7 +20,7 @@ use Rattle.text.specs.Text.{text, digit, decimalWithin, decimal, hex}
 use Rattle.lines.specs.Lines.{firstLine, shown, pduLine, lastLine, refusedLine}
 use Rattle.job.specs.declared.Job.{Job}
 use Rattle.job.specs.declared.Reading.the-variants as reading
-use Rattle.job.specs.Jobs.{headOf, rangesNumber, listNumber, batchNumber, listAt, batchAt, sectionsOf, jobOf, settingsOf, batchIn, nodeIn}
+use Rattle.job.specs.Jobs.{jobHead, rangesNumber, listNumber, batchNumber, listAt, batchAt, sectionsOf, jobOf, settingsOf, batchIn, nodeIn}
 use Rattle.job.proofs.Inversion.{job-in, lists-right}
 use Rattle.run.specs.Run.{roomForOne, pduLines, walkLines, batchLines, runLines, printed}
 use Rattle.run.proofs.Jobs.{batch-short}
@@ -89,7 +89,7 @@ module _ (bytes : List ℕ) (job : Job) (e : jobOf bytes ≡ reading.Job job) wh
 
 pub relays : Relayed
 unfolding printed runLines batchLines walkLines pduLines flatten firstLine pduLine lastLine refusedLine shown hex decimal decimalWithin digit
-    jobOf headOf sectionsOf listAt batchAt listNumber batchNumber rangesNumber settingsOf walk walkFrom deliveryNumber repeatNumber stopFault
+    jobOf jobHead sectionsOf listAt batchAt listNumber batchNumber rangesNumber settingsOf walk walkFrom deliveryNumber repeatNumber stopFault
     listOrReadingFault dropFault echoFault passFault deliveryFault repeatFault taken heardFrom repeated readOf headerOf addressesAt inPath lastOr
     faultOf firstFault lowAboveHigh _gives_ _orElse_
 relays =

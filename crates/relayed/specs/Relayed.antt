@@ -11,7 +11,7 @@ use Rattle.text.specs.Text.{text, decimal}
 use Rattle.lines.specs.Lines.{firstLine, lastLine}
 use Rattle.job.specs.declared.Job.{Job}
 use Rattle.job.specs.declared.Reading.the-variants as reading
-use Rattle.job.specs.Jobs.{readingNumber, jobOf, batchIn, nodeIn}
+use Rattle.job.specs.Jobs.{jobNumber, jobOf, batchIn, nodeIn}
 use Rattle.run.specs.Run.{roomForOne, pduLines, printed, Ran}
 
 -- own address 2000, echo and repeating on, and four empty lists, as document 01's example begins
@@ -27,7 +27,7 @@ exampleJob =
 
 -- the number that bytes are refused with, 0 where they are a job
 abbrev pub fault : List ℕ → ℕ
-fault bytes = readingNumber (jobOf bytes)
+fault bytes = jobNumber (jobOf bytes)
 
 pub record Relayed : Type 0 where
   -- a bad job prints only `refused` and the number

@@ -15,13 +15,13 @@ use Rattle.lines.specs.Lines.{firstLine, refusedLine}
 use Rattle.job.specs.declared.Section.{Section}
 use Rattle.job.specs.declared.Job.{Job}
 use Rattle.job.specs.declared.Reading.the-variants as reading
-use Rattle.job.specs.Jobs.{jobOf, settingsOf, valuesIn, padded, listsIn, batchIn, nodeIn}
+use Rattle.job.specs.Jobs.{jobOf, settingsOf, valuesIn, paddedValues, listsIn, batchIn, nodeIn}
 use Rattle.job.proofs.Inversion.{job-in}
 use Rattle.job.proofs.Padding.{length-padded, values-start}
 use Rattle.run.specs.Run.{roomForOne, walkLines, batchLines, runLines, textWith, placeWith}
 
 -- a list's values, as the start of an array
-module _ (bytes : List ℕ) (section : Section) (few : section .count ≤ 64) (array : List ℕ) (e : array ≡ padded (valuesIn bytes section)) where
+module _ (bytes : List ℕ) (section : Section) (few : section .count ≤ 64) (array : List ℕ) (e : array ≡ paddedValues (valuesIn bytes section)) where
   pub in-array : 2 * section .count ≤ length array
   in-array = omega (arith, ap length e, length-padded (valuesIn bytes section))
 

@@ -39,7 +39,7 @@ use Rattle.lines.proofs.Lines.{first-line-at-most, refused-line-at-most, pdu-li
 use Rattle.job.specs.declared.Job.{Job}
 use Rattle.job.specs.declared.Reading.{Reading}
 use Rattle.job.specs.declared.Reading.the-variants as reading
-use Rattle.job.specs.Jobs.{readingNumber as jobNumber, jobOf, batchIn, nodeIn}
+use Rattle.job.specs.Jobs.{jobNumber, jobOf, batchIn, nodeIn}
 use Rattle.job.proofs.Inversion.{job-in, own-small}
 use Rattle.job.proofs.Within.{gives-within, orElse-within, number-within}
 use Rattle.run.specs.Run.{roomForOne, repeatedOrNone, lineAt, pduLines, walkLines, batchLines, jobLines, runLines, printed, textRoom}

@@ -2,7 +2,7 @@ use Prim.Native.Nat.{_-_, _≤_}
 use mathlib.Core.Path.{_≡_, refl}
 use denote.Ref.{now}
 use lib.ListN.{length, take, length-set}
-use Rattle.job.specs.Jobs.{valuesIn, padded}
+use Rattle.job.specs.Jobs.{valuesIn, paddedValues}
 use Rattle.job.proofs.Padding.{filled-more, filled-all}
 use native.Mathlib.Omega.{arith}
 use borrow.Author.Needs.{needs}
@@ -10,7 +10,7 @@ use Rattle.job.proofs.values.Statement.{statement}
 use Rattle.job.proofs.values.Tie as tie
 
 abbrev Inv-loop : tie.InvT-loop
-Inv-loop bytes section values₀ i₀ values i = (i ≤ 128) × (length values ≡ 128) × (take i values ≡ take i (padded (valuesIn bytes section)))
+Inv-loop bytes section values₀ i₀ values i = (i ≤ 128) × (length values ≡ 128) × (take i values ≡ take i (paddedValues (valuesIn bytes section)))
 
 abbrev μ-loop : tie.MeasureT-loop
 μ-loop bytes section values₀ i₀ values i = 128 - i
