@@ -81,9 +81,9 @@ abbrev pub flagOf : Bits → Bool
 flagOf (Reserved number) = false
 flagOf (Flagged encrypted number) = encrypted
 
-abbrev pub reservedOf : Bits → ℕ
-reservedOf (Reserved number) = number
-reservedOf (Flagged encrypted number) = number
+abbrev pub reservedShown : Bits → ℕ
+reservedShown (Reserved number) = number
+reservedShown (Flagged encrypted number) = number
 
 -- the fields of a header as it is shown, with a number, the last sender and two lengths ("Header, byte by byte")
 abbrev pub fieldsInC : ℕ → Shown → Sender → ℕ → ℕ → MantHeader
@@ -97,7 +97,7 @@ fieldsInC number shown sender ofHeader ofPdu =
       port = shown .port;
       «has_encrypted» = hasFlag (shown .bits);
       encrypted = flagOf (shown .bits);
-      reserved = reservedOf (shown .bits);
+      reserved = reservedShown (shown .bits);
       ack = shown .ack;
       «added_header» = shown .«added_header»;
       «hop_limit» = shown .«hop_limit»;

@@ -18,7 +18,8 @@ use Rattle.writing.proofs.Same.{written-same}
 use Rattle.editions.specs.declared.Shown.{Shown}
 use Rattle.editions.specs.declared.Reading.{Reading}
 use Rattle.editions.specs.declared.Reading.the-variants.{Pdu, Refused}
-use Rattle.editions.specs.Editions.{known, bitsUnder, shownWith, showing, readUnder, wireOf, writtenOf, outputOf, writeAgainUnder, writtenAgainUnder}
+use Rattle.editions.specs.Editions.{known, bitsUnder, shownWith, showing, readUnder, wireOf}
+use Rattle.editions.specs.Editions.{shownWritten, shownOutput, writeAgainUnder, writtenAgainUnder}
 use Rattle.editions.proofs.Showing.{unknown-refused, known-shows, wire-back, seen-by}
 
 -- a header that the bytes show is the wire's again
@@ -45,8 +46,8 @@ module _ (edition : ℕ) (bytes : List ℕ) where
   known-written e output = rw (known-shows edition bytes e) (go (readOf bytes) refl)
     where
       go : (reading : wire.Reading) → readOf bytes ≡ reading
-          → (writtenOf (showing edition bytes reading) (length output) ≡ writing.writtenOf reading (length output))
-          × (outputOf (showing edition bytes reading) bytes output ≡ writing.outputOf reading bytes output)
+          → (shownWritten (showing edition bytes reading) (length output) ≡ writing.writtenOf reading (length output))
+          × (shownOutput (showing edition bytes reading) bytes output ≡ writing.outputOf reading bytes output)
       go (wire-reading.Refused refusal) is = (refl, refl)
       go (wire-reading.Pdu header) is =
           let back = header-back edition bytes header (shown bytes header is .is) in (

@@ -84,16 +84,16 @@ wireOf shown =
     }
 
 -- writing again from what was shown, for an output of so many bytes: the refusal of reading, then 14; and what is left in the output
-abbrev pub writtenOf : Reading → ℕ → Written
-writtenOf (Refused number) room = record { number = number; length = 0 }
-writtenOf (Pdu shown) room = writing.writtenOf (wire-reading.Pdu (wireOf shown)) room
+abbrev pub shownWritten : Reading → ℕ → Written
+shownWritten (Refused number) room = record { number = number; length = 0 }
+shownWritten (Pdu shown) room = writing.writtenOf (wire-reading.Pdu (wireOf shown)) room
 
-abbrev pub outputOf : Reading → List ℕ → List ℕ → List ℕ
-outputOf (Refused number) bytes output = output
-outputOf (Pdu shown) bytes output = writing.outputOf (wire-reading.Pdu (wireOf shown)) bytes output
+abbrev pub shownOutput : Reading → List ℕ → List ℕ → List ℕ
+shownOutput (Refused number) bytes output = output
+shownOutput (Pdu shown) bytes output = writing.outputOf (wire-reading.Pdu (wireOf shown)) bytes output
 
 unfoldable pub writeAgainUnder : ℕ → List ℕ → ℕ → Written
-writeAgainUnder edition bytes room = writtenOf (readUnder edition bytes) room
+writeAgainUnder edition bytes room = shownWritten (readUnder edition bytes) room
 
 unfoldable pub writtenAgainUnder : ℕ → List ℕ → List ℕ → List ℕ
-writtenAgainUnder edition bytes output = outputOf (readUnder edition bytes) bytes output
+writtenAgainUnder edition bytes output = shownOutput (readUnder edition bytes) bytes output

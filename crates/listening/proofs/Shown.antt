@@ -13,7 +13,7 @@ use Rattle.stations.specs.Table.{tableIn, addresses, newStation, isHeld}
 use Rattle.stations.specs.Asking.{foundIf, stationOf}
 use Rattle.counting.specs.declared.Heard.{Heard}
 use Rattle.counting.specs.Counting.{counted, oneMore}
-use Rattle.listening.specs.History.{shownBy, Rises, echoesOf, pathCounts, least}
+use Rattle.listening.specs.History.{shownBy, Rises, echoesOf, pathCounts, leastOf}
 use Rattle.stations.specs.declared.Found.{Found}
 
 abbrev pub found : Station → Found
@@ -34,8 +34,8 @@ has-more counts false count = go (not (eqb (length counts) 0))
     go false = refl
 
 shortest-more : (counts : List ℕ) (bit : Bool) (count : ℕ)
-    → cond bit (cond (not (eqb (length counts) 0)) (min (least counts) count) count) (least counts) ≡ least (cond bit (count ∷ counts) counts)
-unfolding least
+    → cond bit (cond (not (eqb (length counts) 0)) (min (leastOf counts) count) count) (leastOf counts) ≡ leastOf (cond bit (count ∷ counts) counts)
+unfolding leastOf
 shortest-more [] true count = refl
 shortest-more (other ∷ others) true count = rw (ne-eqb (suc (length others)) 0 (λ z. omega arith)) (omega arith)
 shortest-more counts false count = refl
@@ -67,7 +67,7 @@ shown-more address heard (first ∷ others) station e =
 
 -- and of a station's first PDU
 pub shown-first : (address : ℕ) (heard : Heard) → found (counted heard (newStation address)) ≡ shownBy address (heard ∷ [])
-unfolding counted echoesOf pathCounts least
+unfolding counted echoesOf pathCounts leastOf
 shown-first address heard = go (heard .echo) (heard .«path_bit»)
   where
     go : (echo bit : Bool)
@@ -89,7 +89,7 @@ shown-first address heard = go (heard .echo) (heard .«path_bit»)
             reads = 1;
             echoes = min (cond echo 1 0) 65535;
             «has_path» = not (eqb (length (cond bit (heard .«path_count» ∷ []) [])) 0);
-            «shortest_path» = least (cond bit (heard .«path_count» ∷ []) []);
+            «shortest_path» = leastOf (cond bit (heard .«path_count» ∷ []) []);
           };
         })
     go true true = refl

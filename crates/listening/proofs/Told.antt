@@ -17,7 +17,7 @@ use Rattle.counting.specs.declared.Heard.{Heard}
 use Rattle.counting.specs.Counting.{countNumber, memoryAfterCount}
 use Rattle.counting.specs.Removing.{without, memoryAfterRemoval}
 use Rattle.listening.specs.Listening.{wasRead, heardOf, answerNumber, memoryAfterAnswer}
-use Rattle.listening.specs.History.{Deed, Counting, Hearing, Removal, memoryAfter, isCounted, withOne, since, shownBy, Rises}
+use Rattle.listening.specs.History.{TableDeed, Counting, Hearing, Removal, tableMemory, isCounted, withOne, since, shownBy, Rises}
 use Rattle.listening.proofs.Rising.{held-at}
 use Rattle.listening.proofs.Inserting.{inserted, address-at, none-before, shows-others, rises-before}
 use Rattle.listening.proofs.Kept.{AllSound, table-sound, sound-append, sound-take, sound-drop, table-kept, first-word}
@@ -137,13 +137,13 @@ hearing-told memory heards before answer received = go (wasRead answer)
     go true = counting-told memory heards before heard
     go false = before
 
-pub history-told : (memory : List ℕ) → at memory 0 ≡ 0 → (deeds : List Deed)
-    → Told (memoryAfter memory deeds) (λ (address : ℕ). since memory address deeds)
-unfolding memoryAfter since
+pub history-told : (memory : List ℕ) → at memory 0 ≡ 0 → (deeds : List TableDeed)
+    → Told (tableMemory memory deeds) (λ (address : ℕ). since memory address deeds)
+unfolding tableMemory since
 history-told memory e [] = empty-told memory e
 history-told memory e (Counting heard ∷ earlier) =
-    counting-told (memoryAfter memory earlier) (λ (a : ℕ). since memory a earlier) (history-told memory e earlier) heard
+    counting-told (tableMemory memory earlier) (λ (a : ℕ). since memory a earlier) (history-told memory e earlier) heard
 history-told memory e (Hearing answer received ∷ earlier) =
-    hearing-told (memoryAfter memory earlier) (λ (a : ℕ). since memory a earlier) (history-told memory e earlier) answer received
+    hearing-told (tableMemory memory earlier) (λ (a : ℕ). since memory a earlier) (history-told memory e earlier) answer received
 history-told memory e (Removal address ∷ earlier) =
-    removal-told (memoryAfter memory earlier) (λ (a : ℕ). since memory a earlier) (history-told memory e earlier) address
+    removal-told (tableMemory memory earlier) (λ (a : ℕ). since memory a earlier) (history-told memory e earlier) address

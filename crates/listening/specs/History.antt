@@ -15,17 +15,17 @@ use Rattle.listening.specs.Listening.{wasRead, heardOf, answerNumber, me
 
 -- what is done with a table: a PDU that was read is counted; bytes are heard, by any node, of any edition and with any lists, whose answer for them is
 -- given; a station is removed
-pub data Deed : Type 0 where
-  Counting : Heard → Deed
-  Hearing : Answer → List ℕ → Deed
-  Removal : ℕ → Deed
+pub data TableDeed : Type 0 where
+  Counting : Heard → TableDeed
+  Hearing : Answer → List ℕ → TableDeed
+  Removal : ℕ → TableDeed
 
 -- the memory after some deeds, the latest of them first
-unfoldable pub memoryAfter : List ℕ → List Deed → List ℕ
-memoryAfter memory [] = memory
-memoryAfter memory (Counting heard ∷ earlier) = memoryAfterCount heard (memoryAfter memory earlier)
-memoryAfter memory (Hearing answer received ∷ earlier) = memoryAfterAnswer answer received (memoryAfter memory earlier)
-memoryAfter memory (Removal address ∷ earlier) = memoryAfterRemoval address (memoryAfter memory earlier)
+unfoldable pub tableMemory : List ℕ → List TableDeed → List ℕ
+tableMemory memory [] = memory
+tableMemory memory (Counting heard ∷ earlier) = memoryAfterCount heard (tableMemory memory earlier)
+tableMemory memory (Hearing answer received ∷ earlier) = memoryAfterAnswer answer received (tableMemory memory earlier)
+tableMemory memory (Removal address ∷ earlier) = memoryAfterRemoval address (tableMemory memory earlier)
 
 -- whether a hearing was counted: the PDU was read, and the table did not answer 55
 abbrev pub isCounted : Answer → List ℕ → List ℕ → Bool
@@ -36,12 +36,12 @@ abbrev pub withOne : Bool → Heard → ℕ → List Heard → List Heard
 withOne counted heard address others = cond (counted && eqb (heard .source) address) (heard ∷ others) others
 
 -- the PDUs counted from an address since it was last taken in, the latest first
-unfoldable pub since : List ℕ → ℕ → List Deed → List Heard
+unfoldable pub since : List ℕ → ℕ → List TableDeed → List Heard
 since memory address [] = []
 since memory address (Counting heard ∷ earlier) =
-    withOne (eqb (countNumber heard (memoryAfter memory earlier)) 0) heard address (since memory address earlier)
+    withOne (eqb (countNumber heard (tableMemory memory earlier)) 0) heard address (since memory address earlier)
 since memory address (Hearing answer received ∷ earlier) =
-    withOne (isCounted answer received (memoryAfter memory earlier)) (heardOf answer received) address (since memory address earlier)
+    withOne (isCounted answer received (tableMemory memory earlier)) (heardOf answer received) address (since memory address earlier)
 since memory address (Removal removed ∷ earlier) = cond (eqb removed address) [] (since memory address earlier)
 
 -- how many of them were echoes, and the path counts of those with the path bit
@@ -53,10 +53,10 @@ unfoldable pub pathCounts : List Heard → List ℕ
 pathCounts [] = []
 pathCounts (heard ∷ others) = cond (heard .«path_bit») (heard .«path_count» ∷ pathCounts others) (pathCounts others)
 
-unfoldable pub least : List ℕ → ℕ
-least [] = 0
-least (count ∷ []) = count
-least (count ∷ other ∷ others) = min count (least (other ∷ others))
+unfoldable pub leastOf : List ℕ → ℕ
+leastOf [] = 0
+leastOf (count ∷ []) = count
+leastOf (count ∷ other ∷ others) = min count (leastOf (other ∷ others))
 
 -- what they say of their station; 56 where there is none
 abbrev pub shownBy : ℕ → List Heard → Found
@@ -69,7 +69,7 @@ shownBy address (heard ∷ others) =
         reads = min (length (heard ∷ others)) 65535;
         echoes = min (echoesOf (heard ∷ others)) 65535;
         «has_path» = not (eqb (length (pathCounts (heard ∷ others))) 0);
-        «shortest_path» = least (pathCounts (heard ∷ others));
+        «shortest_path» = leastOf (pathCounts (heard ∷ others));
       };
     }
 

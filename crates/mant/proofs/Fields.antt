@@ -31,7 +31,7 @@ use Rattle.editions.specs.declared.Reading as edition-read
 use Rattle.editions.specs.Editions.{known, bitsUnder, shownWith, readUnder, wireOf}
 use Rattle.editions.proofs.Showing.{unknown-refused, wire-refused, pdu-shown, wire-back}
 use Rattle.boundary.specs.declared.reading.MantHeader.{MantHeader}
-use Rattle.boundary.specs.Boundary.{hasDestination, destinationAddress, hasSender, senderAddress, hasFlag, flagOf, reservedOf}
+use Rattle.boundary.specs.Boundary.{hasDestination, destinationAddress, hasSender, senderAddress, hasFlag, flagOf, reservedShown}
 use Rattle.boundary.specs.Boundary.{shownHeader, refusedHeader, headerInC}
 
 -- where the fields that may be missing end, in bytes that hold a PDU
@@ -141,7 +141,7 @@ flag-told edition byte1 = go (eqb edition 11)
 
 -- what C sees, from fields found one by one
 fields-are : (shows : Shown) (sender : Sender) {addressed flagged encrypted sent : Bool} {kept payload from to id count last head total : ℕ}
-    → addressed ≡ hasDestination (shows .destination) → flagged ≡ hasFlag (shows .bits) → encrypted ≡ flagOf (shows .bits) → kept ≡ reservedOf (shows .bits)
+    → addressed ≡ hasDestination (shows .destination) → flagged ≡ hasFlag (shows .bits) → encrypted ≡ flagOf (shows .bits) → kept ≡ reservedShown (shows .bits)
     → payload ≡ shows .«payload_length» → from ≡ shows .source → to ≡ destinationAddress (shows .destination)
     → id ≡ shows .«pdu_id» → count ≡ shows .«path_count» → sent ≡ hasSender sender → last ≡ senderAddress sender
     → head ≡ headerLength (wireOf shows) → total ≡ pduLength (wireOf shows)
@@ -173,7 +173,7 @@ fields-are : (shows : Shown) (sender : Sender) {addressed flagged encrypted sent
 fields-are shows sender e1 e2 e3 e4 e5 e6 e7 e8 e9 e10 e11 e12 e13 = rw (e1, e2, e3, e4, e5, e6, e7, e8, e9, e10, e11, e12, e13) refl
 
 pub whole-is : (edition : ℕ) (bytes : List ℕ) {encrypted : Bool} {kept payload from to id count last head total : ℕ}
-    → encrypted ≡ flagOf (bitsUnder edition (at bytes 1)) → kept ≡ reservedOf (bitsUnder edition (at bytes 1))
+    → encrypted ≡ flagOf (bitsUnder edition (at bytes 1)) → kept ≡ reservedShown (bitsUnder edition (at bytes 1))
     → payload ≡ payloadLength (at bytes 2) (at bytes 3) → from ≡ wordAt bytes sourcePlace
     → to ≡ cond (isSet (destinationBit (at bytes 0))) (wordAt bytes destinationPlace) 0
     → id ≡ pduIdIn bytes → count ≡ pathCountIn bytes → last ≡ senderAddress (lastSender (headerOf bytes) bytes)

@@ -11,7 +11,7 @@ ghost use Rattle.pdu.specs.Header.{isSet, pathBit, pduIdPlace, headerOf};
 ghost use Rattle.pdu.specs.Reading.{readOf, extentOf};
 ghost use Rattle.pdu.specs.Parts.{lastSender};
 ghost use Rattle.editions.specs.Editions.{bitsUnder, shownWith};
-ghost use Rattle.boundary.specs.Boundary.{refusedHeader, shownHeader, flagOf, reservedOf, senderAddress};
+ghost use Rattle.boundary.specs.Boundary.{refusedHeader, shownHeader, flagOf, reservedShown, senderAddress};
 
 // The fields of a PDU that is there whole, with its extent.
 pub(crate) fn whole_header(edition: u64, bytes: &[u8], extent: Extent) -> MantHeader
@@ -59,7 +59,7 @@ fn flag_in(edition: u64, byte1: u8) -> bool
 }
 
 fn reserved_in(edition: u64, byte1: u8) -> u8
-    ensures { λ r. ⌜ r ≡ reservedOf (bitsUnder edition byte1) ⌝ }
+    ensures { λ r. ⌜ r ≡ reservedShown (bitsUnder edition byte1) ⌝ }
 {
     if edition == 11 {
         byte1 / 2 % 8

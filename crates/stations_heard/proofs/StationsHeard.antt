@@ -13,7 +13,7 @@ use Rattle.stations.proofs.Memory.{table-fits}
 use Rattle.counting.specs.Counting.{countNumber, memoryAfterCount}
 use Rattle.counting.proofs.Answers.{held-counts, room-counts, full-refuses, held-removed, absent-refused}
 use Rattle.listening.specs.Listening.{wasRead, heardOf, answerNumber, memoryAfterAnswer}
-use Rattle.listening.specs.History.{memoryAfter}
+use Rattle.listening.specs.History.{tableMemory}
 use Rattle.listening.proofs.Judging.{read-judged, unread-judged, echo-judged}
 use Rattle.listening.proofs.Rising.{place-within, found-where, not-held}
 use Rattle.listening.proofs.Told.{history-told}
@@ -49,7 +49,7 @@ stations-heard =
       removed = held-removed;
       not-removed = absent-refused;
       limit = λ memory e deeds.
-          let t = history-told memory e deeds in (t .says, omega (arith, t .says, table-fits (memoryAfter memory deeds) .0));
+          let t = history-told memory e deeds in (t .says, omega (arith, t .says, table-fits (tableMemory memory deeds) .0));
       rises = λ memory e deeds. history-told memory e deeds .rises;
       shows = λ memory e deeds. history-told memory e deeds .told;
       place = λ address known rises short. let w = place-within address known rises (omega arith) in (w .lower, λ i h l. w .upper i (omega arith) l);

@@ -15,7 +15,7 @@ use Rattle.counting.specs.declared.Heard.{Heard}
 use Rattle.counting.specs.Counting.{countNumber, memoryAfterCount}
 use Rattle.counting.specs.Removing.{removalNumber, memoryAfterRemoval}
 use Rattle.listening.specs.Listening.{wasRead, heardOf, answerNumber, memoryAfterAnswer}
-use Rattle.listening.specs.History.{Deed, memoryAfter, since, shownBy, Rises}
+use Rattle.listening.specs.History.{TableDeed, tableMemory, since, shownBy, Rises}
 
 pub record StationsHeard : Type 0 where
   -- I. WHAT 02 ASKS
@@ -38,13 +38,13 @@ pub record StationsHeard : Type 0 where
   pub not-removed : (address : ℕ) (memory : List ℕ) → isHeld address (addresses (tableIn memory)) ≡ false
       → (removalNumber address (tableIn memory) ≡ 56) × (memoryAfterRemoval address memory ≡ memory)
   -- after any countings, hearings and removals from an empty table, whatever node heard: its first word says how many are held, at most 128
-  pub limit : (memory : List ℕ) → at memory 0 ≡ 0 → (deeds : List Deed)
-      → (at (memoryAfter memory deeds) 0 ≡ length (tableIn (memoryAfter memory deeds))) × (at (memoryAfter memory deeds) 0 ≤ 128)
+  pub limit : (memory : List ℕ) → at memory 0 ≡ 0 → (deeds : List TableDeed)
+      → (at (tableMemory memory deeds) 0 ≡ length (tableIn (tableMemory memory deeds))) × (at (tableMemory memory deeds) 0 ≤ 128)
   -- the addresses rise strictly
-  pub rises : (memory : List ℕ) → at memory 0 ≡ 0 → (deeds : List Deed) → Rises (addresses (tableIn (memoryAfter memory deeds)))
+  pub rises : (memory : List ℕ) → at memory 0 ≡ 0 → (deeds : List TableDeed) → Rises (addresses (tableIn (tableMemory memory deeds)))
   -- and every address shows what was counted from it since it was last taken in, or 56 where that is nothing
-  pub shows : (memory : List ℕ) → at memory 0 ≡ 0 → (deeds : List Deed) (address : ℕ)
-      → stationOf address (tableIn (memoryAfter memory deeds)) ≡ shownBy address (since memory address deeds)
+  pub shows : (memory : List ℕ) → at memory 0 ≡ 0 → (deeds : List TableDeed) (address : ℕ)
+      → stationOf address (tableIn (tableMemory memory deeds)) ≡ shownBy address (since memory address deeds)
   -- the listing shows the table's stations one after another
   pub listed : (memory : List ℕ) (i : ℕ) → i < length (tableIn memory)
       → foundAt i (tableIn memory) ≡ record { number = 0; station = stationAt (tableIn memory) i }

@@ -17,7 +17,7 @@ use Rattle.batch.specs.Walk.{walk}
 use Rattle.hearing.specs.Hearing.{answerUnder, walkUnder}
 use Rattle.hearing.proofs.Known.{stepping-walks-under}
 use Rattle.listening.specs.Listening.{answerNumber, memoryAfterAnswer}
-use Rattle.boundary.specs.Boundary.{hasFlag, flagOf, reservedOf}
+use Rattle.boundary.specs.Boundary.{hasFlag, flagOf, reservedShown}
 use Rattle.two_editions.specs.TwoEditions.{TwoEditions, allSet, tooLong, atFault, settingsFor}
 use Rattle.checked_by_hand.specs.Examples.{nodeAt}
 use Rattle.two_editions.proofs.Reading.{only-two, read-17-only, read-refused, read-11, read-12, shown-as-11, shown-as-12, not-read, no-room}
@@ -92,8 +92,8 @@ two-editions =
       fresh-12 = λ settings payload rest room. fresh-12 settings payload room rest;
       fresh-11 = λ settings payload rest room. fresh-11 settings payload room rest;
       fresh-set = flag-written;
-      in-c-reserved = λ seen bytes number is. (refl, ap hasFlag is, ap flagOf is, ap reservedOf is);
-      in-c-flagged = λ seen bytes encrypted number is. (refl, ap hasFlag is, ap flagOf is, ap reservedOf is);
+      in-c-reserved = λ seen bytes number is. (refl, ap hasFlag is, ap flagOf is, ap reservedShown is);
+      in-c-flagged = λ seen bytes encrypted number is. (refl, ap hasFlag is, ap flagOf is, ap reservedShown is);
       in-c-refused = λ number bytes. (refl, refl, refl, refl, refl, refl);
       fresh-in-c = λ settings. (refl, refl);
       in-c-11 = (refl, refl, refl);
