@@ -14,7 +14,7 @@ use Rattle.octets.specs.Numbers.{_gives_, _orElse_, flag}
 use Rattle.octets.proofs.Numbering.{orElse-later, gives-none}
 use Rattle.pdu.specs.declared.Destination.the-variants.{Everyone}
 use Rattle.pdu.specs.declared.Header.{Header}
-use Rattle.pdu.specs.Header.{headerOf}
+use Rattle.pdu.specs.Header.{headerOf, sourceOf}
 use Rattle.pdu.specs.Parts.{payloadIn}
 use Rattle.pdu.proofs.Inversion.{shown}
 use Rattle.decision.specs.Decision.{deliveryFault, repeatFault}
@@ -24,7 +24,7 @@ use Rattle.node.proofs.Answering.{is-readable}
 use Rattle.node.proofs.Encoded.{alone-reads, alone-payload}
 use Rattle.node.proofs.Heard.{repeats, delivered-part}
 use Rattle.node.proofs.Repeating.{Ready}
-use Rattle.flood.specs.Air.{Repeater, Open, address, sends, sourceOf, pathOf, hopOf}
+use Rattle.flood.specs.Air.{Repeater, Open, address, sends, pathOf, hopOf}
 use Rattle.flood.proofs.Exact.{passes}
 use Rattle.flood.proofs.Network.{Lawful}
 use Rattle.flood.proofs.Sent.{Sound, sent-is, node-lawful}

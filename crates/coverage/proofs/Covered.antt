@@ -8,14 +8,14 @@ use Prim.Native.Nat.{ℕ, zero, suc, _+_, _*_, _-_, _≤_}
 use native.Mathlib.Omega.{arith}
 use lib.ListN.{length}
 use Rattle.pdu.specs.declared.Header.{Header}
-use Rattle.pdu.specs.Header.{headerOf}
+use Rattle.pdu.specs.Header.{headerOf, sourceOf}
 use Rattle.pdu.specs.Parts.{payloadIn}
 use Rattle.chains.specs.Chains.{Chain, Shortest}
 use Rattle.chains.proofs.Steps.{chain-is-none}
 use Rattle.origin.specs.declared.Settings.{Settings}
 use Rattle.origin.specs.Origination.{freshHeader, fresh}
 use Rattle.origin.proofs.ReadBack.{fresh-back}
-use Rattle.flood.specs.Air.{Repeater, Open, Begins, address, sourceOf, hopOf}
+use Rattle.flood.specs.Air.{Repeater, Open, Begins, address, hopOf}
 use Rattle.flood.specs.Flood.{Reception, others}
 use Rattle.flood.proofs.Fresh.{originated-begins, fresh-shows, fresh-source, fresh-hop, fresh-destination}
 use Rattle.flood.proofs.Lists.{at-mem}

@@ -13,7 +13,7 @@ use lib.ListN.{length, getElem?, length-append}
 use Rattle.octets.proofs.Numbering.{orElse-zero}
 use Rattle.octets.proofs.Tests.{not-both}
 use Rattle.pdu.specs.declared.Destination.the-variants.{Everyone}
-use Rattle.pdu.specs.Header.{headerOf}
+use Rattle.pdu.specs.Header.{headerOf, sourceOf}
 use Rattle.pdu.specs.Parts.{payloadIn, lastOr}
 use Rattle.pdu.proofs.Senders.{last-none, last-behind}
 use Rattle.chains.specs.Chains.{Chain, Shortest}
@@ -21,7 +21,7 @@ use Rattle.chains.proofs.Steps.{chain-none, chain-is-none, chain-next, chain-la
 use Rattle.decision.proofs.Dropping.{passed}
 use Rattle.node.specs.Repeat.{repeated}
 use Rattle.node.specs.Answers.{stopFault, deliveryNumber, answerOf}
-use Rattle.flood.specs.Air.{Repeater, address, sends, sourceOf, pathOf, hopOf, onTheAir, Nodes, Open, Begins}
+use Rattle.flood.specs.Air.{Repeater, address, sends, pathOf, hopOf, onTheAir, Nodes, Open, Begins}
 use Rattle.flood.specs.Complete.{Heard}
 use Rattle.flood.specs.Flood.{Reception, others}
 use Rattle.flood.proofs.Demand.{network}

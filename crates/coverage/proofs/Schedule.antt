@@ -9,8 +9,9 @@ use Prim.Native.Nat.{ℕ, _≤_, _<_}
 use native.Mathlib.Decide.{decLt}
 use native.Mathlib.Omega.{arith}
 use lib.ListN.{length, getElem?}
+use Rattle.pdu.specs.Header.{sourceOf}
 use Rattle.bound.specs.Bound.{bound}
-use Rattle.flood.specs.Air.{Repeater, address, sends, sourceOf, pathOf, hopOf, onTheAir, Nodes, Begins}
+use Rattle.flood.specs.Air.{Repeater, address, sends, pathOf, hopOf, onTheAir, Nodes, Begins}
 use Rattle.flood.specs.Complete.{Heard}
 use Rattle.flood.specs.Flood.{Reception, flood, answer, others}
 use Rattle.flood.proofs.Bounded.{flood-bounded}

@@ -6,8 +6,9 @@ use mathlib.Core.Option.{some}
 use mathlib.Core.List.{List, [], _∷_, List·Memᴰ, List·Nodup}
 use Prim.Native.Nat.{ℕ}
 use lib.ListN.{getElem?}
+use Rattle.pdu.specs.Header.{sourceOf}
 use Rattle.pdu.specs.Parts.{lastOr}
-use Rattle.flood.specs.Air.{Repeater, address, sends, sourceOf, pathOf, onTheAir}
+use Rattle.flood.specs.Air.{Repeater, address, sends, pathOf, onTheAir}
 use Rattle.flood.specs.Complete.{Heard}
 use Rattle.flood.specs.Flood.{Reception}
 

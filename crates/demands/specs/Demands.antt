@@ -10,6 +10,7 @@ use Rattle.octets.specs.Octets.{AllBytes, over}
 use Rattle.pdu.specs.declared.Destination.the-variants.{Everyone}
 use Rattle.pdu.specs.declared.Header.{Header}
 use Rattle.pdu.specs.declared.Reading.the-variants.{Pdu}
+use Rattle.pdu.specs.Header.{sourceOf}
 use Rattle.pdu.specs.Sizes.{pathLimit, pduLimit, pduLength}
 use Rattle.pdu.specs.Reading.{readOf}
 use Rattle.pdu.specs.Parts.{pathIn, payloadIn}
@@ -27,7 +28,7 @@ use Rattle.batch.specs.Walk.{batchLimit, stepOf, stepOutput, walk, steps}
 use Rattle.bound.specs.Bound.{terms, bound, bytesBound}
 use Rattle.flood.specs.Flood.{Reception, others, Bounded}
 use Rattle.flood.specs.Complete.{Complete}
-use Rattle.flood.specs.Air.{Repeater, Nodes, Open, Originated, address, sends, sourceOf, pathOf, onTheAir, bytesOnTheAir, Begins, hopOf}
+use Rattle.flood.specs.Air.{Repeater, Nodes, Open, Originated, address, sends, pathOf, onTheAir, bytesOnTheAir, Begins, hopOf}
 
 -- Demand 1, total. That every public function answers any input, and how, are its contract and the theorems of crate `promises`, one for each function,
 -- in the files named by the crates.

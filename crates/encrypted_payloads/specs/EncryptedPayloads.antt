@@ -7,7 +7,7 @@ use lib.ListN.{length, drop, replicate}
 use Rattle.octets.specs.Octets.{at, AllBytes}
 use Rattle.field.specs.Field.{_•_, inverse, affine, subByte}
 use Rattle.pdu.specs.declared.Header.{Header}
-use Rattle.pdu.specs.Header.{headerOf}
+use Rattle.pdu.specs.Header.{headerOf, sourceOf}
 use Rattle.pdu.specs.Sizes.{pduLength}
 use Rattle.pdu.specs.Reading.{readOf, readingNumber}
 use Rattle.pdu.specs.Parts.{pathIn, payloadIn}
@@ -16,7 +16,7 @@ use Rattle.sources.specs.Sources.{Accepted, capacity, recordIn, isHeld, lastNum
 use Rattle.message.specs.Protection.{messageNumberBytes, hashedHeader, hashBytes, nonceOf}
 use Rattle.message.specs.Sealable.{sealNumber}
 use Rattle.sealing.specs.Sealing.{sealedHeader, sealedPdu, sealWritten, sealOutput}
-use Rattle.genuine.specs.Genuine.{sourceOf, messageNumber, plainLength}
+use Rattle.genuine.specs.Genuine.{messageNumber, plainLength}
 use Rattle.opening.specs.Opening.{deciphered, plainPayload, genuine, keylessFault, openNumber, openWritten, openOutput, memoryAfterOpening}
 use Rattle.protection.specs.Histories.{Repeat, heardAtLast, AllRepeat, Opening, memoryAfterOne, memoryAfterAll}
 

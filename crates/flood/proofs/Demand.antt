@@ -5,12 +5,12 @@ use mathlib.Core.List.{List, [], _∷_, List·Memᴰ, List·Nodup}
 use Prim.Native.Nat.{ℕ, _≤_}
 use native.Mathlib.Omega.{arith}
 use lib.ListN.{length}
-use Rattle.pdu.specs.Header.{headerOf}
+use Rattle.pdu.specs.Header.{headerOf, sourceOf}
 use Rattle.pdu.proofs.Exact.{exact}
 use Rattle.bound.specs.Bound.{bytesBound}
 use Rattle.origin.specs.declared.Settings.{Settings}
 use Rattle.origin.specs.Origination.{fresh}
-use Rattle.flood.specs.Air.{Repeater, address, sends, sourceOf, pathOf, hopOf, onTheAir, bytesOnTheAir, Nodes, Begins, Originated}
+use Rattle.flood.specs.Air.{Repeater, address, sends, pathOf, hopOf, onTheAir, bytesOnTheAir, Nodes, Begins, Originated}
 use Rattle.flood.specs.Complete.{Complete}
 use Rattle.flood.specs.Flood.{Reception, others, Bounded}
 use Rattle.flood.proofs.Bounded.{flood-sound, flood-bounded, flood-bytes}

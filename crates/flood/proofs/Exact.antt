@@ -14,7 +14,7 @@ use lib.ListN.{length}
 use Rattle.octets.specs.Numbers.{_gives_, _orElse_, flag}
 use Rattle.pdu.specs.declared.Destination.{Destination}
 use Rattle.pdu.specs.declared.Destination.the-variants.{Everyone}
-use Rattle.pdu.specs.Header.{headerOf}
+use Rattle.pdu.specs.Header.{headerOf, sourceOf}
 use Rattle.pdu.specs.Sizes.{pathLimit, pduLimit, pathEntries, pathStart}
 use Rattle.writing.proofs.Encoding.{start-small}
 use Rattle.pdu.proofs.Exact.{exact}
@@ -29,7 +29,7 @@ use Rattle.decision.specs.Decision.{isForOwn, echoFault, passFault, dropFault, 
 use Rattle.node.specs.Repeat.{repeated, repeatedLength}
 use Rattle.node.specs.Answers.{repeatNumber}
 use Rattle.node.proofs.Heard.{not-member, will-repeat}
-use Rattle.flood.specs.Air.{Repeater, address, sends, sourceOf, pathOf, hopOf, onTheAir, bytesOnTheAir, Nodes, Open, Begins, Originated}
+use Rattle.flood.specs.Air.{Repeater, address, sends, pathOf, hopOf, onTheAir, bytesOnTheAir, Nodes, Open, Begins, Originated}
 use Rattle.flood.specs.Complete.{Complete}
 use Rattle.flood.specs.Flood.{Reception, others}
 use Rattle.flood.proofs.Demand.{network, begun-schedule, schedule}

@@ -11,7 +11,7 @@ use lib.ListN.{length}
 use Rattle.octets.specs.Numbers.{_gives_, _orElse_}
 use Rattle.octets.specs.Octets.{AllBytes}
 use Rattle.pdu.specs.declared.Destination.the-variants.{Everyone}
-use Rattle.pdu.specs.Header.{headerOf}
+use Rattle.pdu.specs.Header.{headerOf, sourceOf}
 use Rattle.pdu.specs.Reading.{readOf}
 use Rattle.pdu.specs.Parts.{addressesAt, inPath}
 use Rattle.writing.specs.Writing.{headerBytes, pathBytes, encode}
@@ -22,7 +22,7 @@ use Rattle.origin.specs.Origination.{freshHeader, fresh, settingsFault, origina
 use Rattle.decision.specs.Decision.{nodeOf, echoFault, passFault, dropFault, repeatFault}
 use Rattle.node.specs.Repeat.{repeated}
 use Rattle.node.specs.Answers.{listOrReadingFault, stopFault, repeatNumber}
-use Rattle.flood.specs.Air.{Repeater, address, sends, sourceOf, pathOf, onTheAir, Nodes, Open, Originated}
+use Rattle.flood.specs.Air.{Repeater, address, sends, pathOf, onTheAir, Nodes, Open, Originated}
 use Rattle.flood.specs.Flood.{Reception, flood, answer, total, others}
 use Rattle.flood.proofs.Demand.{demand-3}
 use Rattle.flood.proofs.Lists.{nodup-more}

@@ -12,7 +12,7 @@ use Rattle.pdu.specs.declared.Destination.{Destination}
 use Rattle.pdu.specs.declared.Destination.the-variants.{Everyone, Address}
 use Rattle.pdu.specs.declared.Header.{Header}
 use Rattle.pdu.specs.declared.Reading.the-variants.{Pdu}
-use Rattle.pdu.specs.Header.{headerOf}
+use Rattle.pdu.specs.Header.{headerOf, sourceOf}
 use Rattle.pdu.specs.Sizes.{pduLength}
 use Rattle.pdu.specs.Reading.{readOf}
 use Rattle.pdu.specs.Parts.{pathIn}
@@ -26,7 +26,7 @@ use Rattle.origin.specs.declared.Settings.{Settings}
 use Rattle.origin.specs.Origination.{freshHeader, fresh}
 use Rattle.origin.proofs.Deciding.{Accepted, accepted}
 use Rattle.origin.proofs.ReadBack.{length-fresh, fresh-back}
-use Rattle.flood.specs.Air.{sourceOf, pathOf, hopOf, Begins, Originated}
+use Rattle.flood.specs.Air.{pathOf, hopOf, Begins, Originated}
 
 -- the parts of a header
 bytes-if : (called : Bool) (byte : ℕ) → byte < 256 → AllBytes (onlyIf called (byte ∷ []))

@@ -14,7 +14,7 @@ use Rattle.octets.specs.Octets.{AllBytes, over}
 use Rattle.octets.proofs.Placing.{take-over}
 use Rattle.pdu.specs.declared.Header.{Header}
 use Rattle.pdu.specs.declared.Reading.the-variants.{Pdu}
-use Rattle.pdu.specs.Header.{headerOf}
+use Rattle.pdu.specs.Header.{headerOf, sourceOf}
 use Rattle.pdu.specs.Sizes.{pduLength}
 use Rattle.pdu.specs.Reading.{readOf}
 use Rattle.pdu.specs.Parts.{pathIn}
@@ -26,7 +26,7 @@ use Rattle.node.proofs.ChangedHeader.{changed-hop, same-path-bit, same-source, 
 use Rattle.node.proofs.Encoded.{same-bytes, repeat-well-formed, alone-reads, alone-path, repeat-long, repeat-bytes}
 use Rattle.node.proofs.Heard.{repeats, not-in-path}
 use Rattle.node.proofs.Repeating.{Ready, length-repeated}
-use Rattle.flood.specs.Air.{Repeater, address, sends, sourceOf, pathOf, hopOf}
+use Rattle.flood.specs.Air.{Repeater, address, sends, pathOf, hopOf}
 use Rattle.flood.proofs.Network.{Keeps, Lawful}
 
 -- What is known of every transmission that the first leads to: a readable PDU with a path, from the same source, to the same destination, longer by

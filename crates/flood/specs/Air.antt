@@ -32,10 +32,7 @@ unfoldable pub sends : Repeater → List ℕ → Option (List ℕ)
 sends repeater received =
     cond (eqb (repeatNumber (repeater .node) (repeater .room) received) 0) (some (repeated (address repeater) received)) none
 
--- the source, the path and the hop limit that a transmission shows (Header, byte by byte)
-abbrev pub sourceOf : List ℕ → ℕ
-sourceOf bytes = headerOf bytes .source
-
+-- the path and the hop limit that a transmission shows (Header, byte by byte)
 abbrev pub pathOf : List ℕ → List ℕ
 pathOf bytes = pathIn (headerOf bytes) bytes
 

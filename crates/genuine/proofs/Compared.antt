@@ -18,11 +18,11 @@ use Rattle.sha1.specs.declared.Running.{Running}
 use Rattle.sha1.specs.Sha1.{fourBytes, hashBegun, fed, finalHash, sha1}
 use Rattle.sha1.proofs.Feeding.{fed-append, finished-fed}
 use Rattle.pdu.specs.declared.Header.{Header}
-use Rattle.pdu.specs.Header.{headerOf}
+use Rattle.pdu.specs.Header.{headerOf, sourceOf}
 use Rattle.pdu.specs.Parts.{payloadIn}
 use Rattle.message.specs.Protection.{numberIn, messageNumberBytes, addedLength, hashedHeader, hashBytes, nonceOf}
 use Rattle.message.proofs.Hashing.{first-word}
-use Rattle.genuine.specs.Genuine.{sourceOf, messageNumber, plainLength, decipheredUnder, plainUnder, sameFour, genuineUnder}
+use Rattle.genuine.specs.Genuine.{messageNumber, plainLength, decipheredUnder, plainUnder, sameFour, genuineUnder}
 use Rattle.genuine.proofs.Deciphering.{take-added, drop-added}
 
 -- two words are equal exactly where their four bytes are

@@ -6,14 +6,11 @@ use lib.Dec.{eqb}
 use lib.ListN.{take, drop}
 use Rattle.octets.specs.Octets.{at}
 use Rattle.counter.specs.Counter.{stream, added}
-use Rattle.pdu.specs.Header.{headerOf}
+use Rattle.pdu.specs.Header.{headerOf, sourceOf}
 use Rattle.pdu.specs.Parts.{payloadIn}
 use Rattle.message.specs.Protection.{numberIn, addedLength, hashBytes, nonceOf}
 
--- its source, and its message number, which the payload begins with
-abbrev pub sourceOf : List ℕ → ℕ
-sourceOf bytes = headerOf bytes .source
-
+-- its message number, which the payload begins with
 unfoldable pub messageNumber : List ℕ → ℕ
 messageNumber bytes = numberIn (payloadIn (headerOf bytes) bytes)
 

@@ -9,10 +9,10 @@ use borrow.Author.Tests.{lt-ltb, le-ltb}
 use Rattle.octets.specs.Numbers.{_gives_, _orElse_}
 use Rattle.octets.proofs.Numbering.{gives-here, gives-later, gives-last, gives-none, orElse-first, orElse-later}
 use Rattle.pdu.specs.declared.Header.{Header}
-use Rattle.pdu.specs.Header.{headerOf}
+use Rattle.pdu.specs.Header.{headerOf, sourceOf}
 use Rattle.sources.specs.Sources.{sourceFault}
 use Rattle.message.specs.Protection.{addedLength}
-use Rattle.genuine.specs.Genuine.{sourceOf, plainLength, genuineUnder}
+use Rattle.genuine.specs.Genuine.{plainLength, genuineUnder}
 use Rattle.opening.specs.Opening.{genuine, keylessFault, openNumber}
 use Rattle.opening.proofs.Sealed.{negated, affirmed}
 

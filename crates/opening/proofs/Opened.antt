@@ -15,13 +15,13 @@ use Rattle.aes.specs.Cipher.{keyExpansion}
 use Rattle.counter.specs.Counter.{stream, added}
 use Rattle.pdu.specs.declared.Header.{Header}
 use Rattle.pdu.specs.declared.Written.{Written}
-use Rattle.pdu.specs.Header.{headerOf}
+use Rattle.pdu.specs.Header.{headerOf, sourceOf}
 use Rattle.pdu.specs.Sizes.{headerLength}
 use Rattle.pdu.specs.Parts.{payloadIn}
 use Rattle.pdu.proofs.Inversion.{shown}
 use Rattle.sources.specs.Sources.{sourceFault, memoryAccepted}
 use Rattle.message.specs.Protection.{numberIn, nonceOf}
-use Rattle.genuine.specs.Genuine.{sourceOf, messageNumber, plainLength, decipheredUnder, plainUnder, genuineUnder}
+use Rattle.genuine.specs.Genuine.{messageNumber, plainLength, decipheredUnder, plainUnder, genuineUnder}
 use Rattle.genuine.proofs.Deciphering.{take-added}
 use Rattle.opening.specs.Opening.{plainPayload, genuine, keylessFault, openNumber, openWritten, openOutput, memoryAfterOpening}
 use Rattle.opening.proofs.Sealed.{is-sealed}

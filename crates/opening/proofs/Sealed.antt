@@ -8,13 +8,13 @@ use borrow.Author.Tests.{lt-ltb, le-ltb, ltb-false, not-false}
 use Rattle.octets.proofs.Numbering.{orElse-zero, gives-zero, gives-here, gives-later, orElse-first, orElse-later}
 use Rattle.pdu.specs.declared.Header.{Header}
 use Rattle.pdu.specs.declared.Reading.the-variants.{Pdu}
-use Rattle.pdu.specs.Header.{headerOf}
+use Rattle.pdu.specs.Header.{headerOf, sourceOf}
 use Rattle.pdu.specs.Reading.{readOf, readingNumber}
 use Rattle.pdu.specs.Parts.{payloadIn}
 use Rattle.pdu.proofs.Number.{read-0}
 use Rattle.sources.specs.Sources.{recordIn, numberFault}
 use Rattle.message.specs.Protection.{numberIn}
-use Rattle.genuine.specs.Genuine.{sourceOf, messageNumber}
+use Rattle.genuine.specs.Genuine.{messageNumber}
 use Rattle.opening.specs.Opening.{keylessFault}
 
 pub negated : (test : Bool) → test ≡ false → not test ≡ true

@@ -8,11 +8,11 @@ use Rattle.octets.specs.Numbers.{_gives_, _orElse_}
 use Rattle.octets.specs.Octets.{over}
 use Rattle.aes.specs.Cipher.{keyExpansion}
 use Rattle.pdu.specs.declared.Written.{Written}
-use Rattle.pdu.specs.Header.{headerOf}
+use Rattle.pdu.specs.Header.{headerOf, sourceOf}
 use Rattle.pdu.specs.Reading.{readOf, readingNumber}
 use Rattle.sources.specs.Sources.{recordIn, numberFault, sourceFault, memoryAccepted}
 use Rattle.message.specs.Protection.{addedLength}
-use Rattle.genuine.specs.Genuine.{sourceOf, messageNumber, plainLength, decipheredUnder, plainUnder, genuineUnder}
+use Rattle.genuine.specs.Genuine.{messageNumber, plainLength, decipheredUnder, plainUnder, genuineUnder}
 
 -- under a key: what follows the number deciphered, the plain payload, and whether the hash is right
 unfoldable pub deciphered : List ℕ → List ℕ → List ℕ

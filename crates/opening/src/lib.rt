@@ -10,9 +10,9 @@ ghost use lib.ListN.{length, take, drop};
 ghost use Rattle.octets.specs.Numbers.{_gives_, _orElse_};
 ghost use Rattle.octets.specs.Octets.{over};
 ghost use Rattle.counter.specs.Counter.{stream, added};
-ghost use Rattle.pdu.specs.Header.{headerOf};
+ghost use Rattle.pdu.specs.Header.{headerOf, sourceOf};
 ghost use Rattle.sources.specs.Sources.{sourceFault, memoryAccepted};
-ghost use Rattle.genuine.specs.Genuine.{sourceOf, plainLength, genuineUnder};
+ghost use Rattle.genuine.specs.Genuine.{plainLength, genuineUnder};
 ghost use Rattle.opening.specs.Opening.{keylessFault, openWritten, openOutput, memoryAfterOpening};
 
 // The first thing that keeps the PDU from being opened whatever the key is: 1 to 6, 80, 81, 82, or 0.

@@ -9,7 +9,7 @@ use mathlib.Core.Path.{_≡_}
 use lib.ListN.{length, drop}
 use Rattle.octets.specs.Numbers.{_gives_, _orElse_}
 use Rattle.pdu.specs.declared.Sender.the-variants.{Unknown, Known}
-use Rattle.pdu.specs.Header.{headerOf}
+use Rattle.pdu.specs.Header.{headerOf, sourceOf}
 use Rattle.pdu.specs.Sizes.{pduLength}
 use Rattle.pdu.specs.Parts.{lastSender}
 use Rattle.lists.specs.Lists.{listsOf}
@@ -17,7 +17,7 @@ use Rattle.decision.specs.Decision.{Node, isEcho, passFault, dropFault}
 use Rattle.node.specs.Answers.{listOrReadingFault, deliveryNumber, repeatNumber, delivered, answerOf, twice, Hears}
 use Rattle.bound.specs.Bound.{bound}
 use Rattle.flood.specs.Flood.{Reception, others}
-use Rattle.flood.specs.Air.{Repeater, Nodes, Begins, address, sends, sourceOf, onTheAir}
+use Rattle.flood.specs.Air.{Repeater, Nodes, Begins, address, sends, onTheAir}
 use Rattle.checked_by_hand.specs.Examples.{nodeAt}
 
 -- For the worked cases: a PDU of source 2000 and hop limit 1: without the path bit; with it, and that one address in the path

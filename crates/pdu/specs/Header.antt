@@ -107,3 +107,7 @@ headerOf bytes =
       «pdu_id» = pduIdIn bytes;
       «path_count» = pathCountIn bytes;
     }
+
+-- the source among them
+abbrev pub sourceOf : List ℕ → ℕ
+sourceOf bytes = headerOf bytes .source

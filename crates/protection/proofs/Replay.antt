@@ -8,9 +8,10 @@ use lib.Dec.{eqb}
 use borrow.Author.Tests.{eqb-true, eq-eqb}
 use Rattle.octets.specs.Numbers.{_gives_, _orElse_}
 use Rattle.octets.proofs.Numbering.{orElse-zero}
+use Rattle.pdu.specs.Header.{sourceOf}
 use Rattle.sources.specs.Sources.{recordIn, numberFault, sourceFault, withAccepted}
 use Rattle.sources.proofs.Noting.{nextNumber, record-accepted, taken-from, next-accepted, never-falls}
-use Rattle.genuine.specs.Genuine.{sourceOf, messageNumber}
+use Rattle.genuine.specs.Genuine.{messageNumber}
 use Rattle.opening.specs.Opening.{keylessFault, openNumber, memoryAfterOpening}
 use Rattle.opening.proofs.Sealed.{is-sealed}
 use Rattle.protection.specs.Histories.{Opening, memoryAfterOne, memoryAfterAll}

@@ -19,7 +19,7 @@ use Rattle.sha1.specs.Sha1.{sha1}
 use Rattle.pdu.specs.declared.Header.{Header}
 use Rattle.pdu.specs.declared.Reading.{Reading}
 use Rattle.pdu.specs.declared.Reading.the-variants.{Pdu}
-use Rattle.pdu.specs.Header.{headerOf}
+use Rattle.pdu.specs.Header.{headerOf, sourceOf}
 use Rattle.pdu.specs.Reading.{readOf, readingNumber}
 use Rattle.pdu.specs.Parts.{pathIn, payloadIn}
 use Rattle.pdu.proofs.Inversion.{shown}
@@ -32,7 +32,7 @@ use Rattle.message.specs.Sealable.{sealNumber}
 use Rattle.message.proofs.Sealable.{Sealable, sealable}
 use Rattle.sealing.specs.Sealing.{sealedHeader, sealedPayload, sealedPdu}
 use Rattle.sealing.proofs.Laying.{length-hash, length-enciphered, hashed-header}
-use Rattle.genuine.specs.Genuine.{sourceOf, messageNumber, plainLength, decipheredUnder, plainUnder, sameFour, genuineUnder}
+use Rattle.genuine.specs.Genuine.{messageNumber, plainLength, decipheredUnder, plainUnder, sameFour, genuineUnder}
 use Rattle.opening.specs.Opening.{deciphered, plainPayload, genuine, keylessFault, openNumber}
 
 sealed-encrypted : (header : Header) → sealedHeader header .encrypted ≡ true

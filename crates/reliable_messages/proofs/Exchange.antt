@@ -8,7 +8,7 @@ use lib.ListN.{length, set, drop, length-set}
 use Rattle.octets.specs.Octets.{AllBytes, over}
 use Rattle.pdu.specs.declared.Destination.the-variants.{Address}
 use Rattle.pdu.specs.declared.Header.{Header}
-use Rattle.pdu.specs.Header.{headerOf}
+use Rattle.pdu.specs.Header.{headerOf, sourceOf}
 use Rattle.pdu.specs.Sizes.{pduLength}
 use Rattle.pdu.proofs.Inversion.{shown}
 use Rattle.writing.specs.Writing.{headerBytes, encode}
@@ -30,7 +30,7 @@ use Rattle.ending.proofs.Retaining.{retain-kept}
 use Rattle.ending.proofs.Hearing.{answer-sent, acknowledged}
 use Rattle.ending.proofs.Exchanged.{ack-shows, ack-names, retained-waits}
 use Rattle.ending.proofs.Sendings.{fit-is, no-entries, ack-alone-shows, ack-one, ack-path, ack-small}
-use Rattle.flood.specs.Air.{Begins, sourceOf, hopOf}
+use Rattle.flood.specs.Air.{Begins, hopOf}
 use Rattle.reliable_messages.specs.ReliableMessages.{Handles, SamePdu, sendingOf}
 use Rattle.reliable_messages.proofs.Tests.{are-asked}
 

@@ -8,7 +8,7 @@ use lib.ListN.{length, set, replicate}
 use Rattle.octets.specs.Octets.{AllBytes, over}
 use Rattle.pdu.specs.declared.Destination.the-variants.{Address}
 use Rattle.pdu.specs.declared.Reading.the-variants.{Pdu}
-use Rattle.pdu.specs.Header.{headerOf}
+use Rattle.pdu.specs.Header.{headerOf, sourceOf}
 use Rattle.pdu.specs.Sizes.{pathEntries, pduLength}
 use Rattle.pdu.specs.Reading.{readOf, exactlyOne}
 use Rattle.origin.specs.declared.Settings as origin
@@ -30,7 +30,7 @@ use Rattle.ending.specs.First.{FirstAt, Nowhere}
 use Rattle.ending.specs.History.{Settings, RetainAt, HearPdu, StepAt, Waiting, Lost, Arrived, history, start}
 use Rattle.ending.specs.Ending.{Statement, enough, Settling}
 use Rattle.flood.specs.Flood.{Reception, others, Bounded}
-use Rattle.flood.specs.Air.{Repeater, Nodes, Begins, Originated, address, sourceOf, pathOf, hopOf, onTheAir}
+use Rattle.flood.specs.Air.{Repeater, Nodes, Begins, Originated, address, pathOf, hopOf, onTheAir}
 use Rattle.checked_by_hand.specs.Examples.{nodeAt}
 
 -- what retaining, a step and a PDU heard answer, and what they leave in the table and in the output

@@ -5,12 +5,13 @@ use mathlib.Core.List.{List, [], _∷_, map, List·Memᴰ, Memᴰ·map, Memᴰ·
 use mathlib.Core.Path.{_≡_, refl, ap, sym, subst, _∙_}
 use lib.Dec.{eqb}
 use lib.ListN.{length, length-map}
+use Rattle.pdu.specs.Header.{sourceOf}
 use Rattle.editions.specs.Editions.{known}
 use Rattle.origin.specs.declared.Settings as asked
 use Rattle.origin.specs.Origination.{fresh}
 use Rattle.bound.specs.Bound.{bound, bytesBound}
 use Rattle.flood.specs.Flood.{Reception, total, others, Bounded}
-use Rattle.flood.specs.Air.{Repeater, Nodes, Begins, Originated, address, sourceOf, pathOf, hopOf}
+use Rattle.flood.specs.Air.{Repeater, Nodes, Begins, Originated, address, pathOf, hopOf}
 use Rattle.flood.proofs.Demand as demand
 use Rattle.flood.proofs.Fresh.{originated-begins, fresh-source, fresh-hop}
 use Rattle.two_lists.specs.SeasonNetwork.{SeasonRepeater, own, asChosen, seasonAir}

@@ -7,6 +7,7 @@ use mathlib.Core.Path.{_≡_}
 use lib.ListN.{length, take, drop}
 use Rattle.pdu.specs.declared.Destination.the-variants.{Everyone}
 use Rattle.pdu.specs.declared.Sender.the-variants.{Unknown}
+use Rattle.pdu.specs.Header.{sourceOf}
 use Rattle.pdu.specs.Sizes.{pathLimit}
 use Rattle.editions.specs.Editions.{known}
 use Rattle.origin.specs.declared.Settings as asked
@@ -33,7 +34,7 @@ use Rattle.transmit.specs.History.{places, allReadable}
 use Rattle.bound.specs.Bound.{terms, bound, bytesBound}
 use Rattle.chains.specs.Chains.{Chain, Shortest}
 use Rattle.flood.specs.Flood.{Reception, total, others, Bounded}
-use Rattle.flood.specs.Air.{Repeater, Nodes, Open, Begins, Originated, address, sourceOf, pathOf, hopOf, onTheAir}
+use Rattle.flood.specs.Air.{Repeater, Nodes, Open, Begins, Originated, address, pathOf, hopOf, onTheAir}
 use Rattle.flood.specs.Complete.{Complete}
 use Rattle.coverage.specs.Hearing.{Taken}
 use Rattle.coverage.specs.Delivery.{Planned, Delivers, Delivered}
