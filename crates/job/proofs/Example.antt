@@ -3,7 +3,7 @@ use Prim.Native.Nat.{ℕ}
 use mathlib.Core.List.{List, [], _∷_}
 use mathlib.Core.Path.{_≡_, refl}
 use Rattle.octets.specs.Numbers.{_gives_, _orElse_}
-use Rattle.job.specs.declared.Reading.the-variants.{Job}
+use Rattle.job.specs.declared.JobReading.the-variants.{Job}
 use Rattle.job.specs.Jobs.{jobHead, rangesNumber, listNumber, batchNumber, listAt, batchAt, sectionsOf, jobOf}
 
 example : List ℕ

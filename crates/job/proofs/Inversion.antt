@@ -16,8 +16,8 @@ use Rattle.job.specs.declared.Section.{Section}
 use Rattle.job.specs.declared.Taken.{Taken}
 use Rattle.job.specs.declared.Taken.the-variants as taken
 use Rattle.job.specs.declared.Job.{Job}
-use Rattle.job.specs.declared.Reading.{Reading}
-use Rattle.job.specs.declared.Reading.the-variants as reading
+use Rattle.job.specs.declared.JobReading.{JobReading}
+use Rattle.job.specs.declared.JobReading.the-variants as reading
 use Rattle.job.specs.Jobs.{jobHead, listAt, batchAt, thenSection, listEnd, sectionsOf, afterHead, jobOf, jobLimit, listsIn}
 use Rattle.job.proofs.Taking.{ListIn, list-in, list-short, list-right, batch-in, batch-place}
 
@@ -51,18 +51,18 @@ began : (bytes : List ℕ) (one : Head) (job : Job) → afterHead one bytes ≡ 
 began bytes (head.Found own flags) job e = record { own = own; flags = flags; is = refl; on = e }
 began bytes (head.Refused number) job e = let z : _≡_ {A = ℕ} 0 1 = cc in absurd (omega arith)
 
-passed : (test : Bool) (number : ℕ) (later : Reading) (job : Job) → cond test (reading.Refused number) later ≡ reading.Job job
+passed : (test : Bool) (number : ℕ) (later : JobReading) (job : Job) → cond test (reading.Refused number) later ≡ reading.Job job
     → (test ≡ false) × (later ≡ reading.Job job)
 passed true number later job e = let z : _≡_ {A = ℕ} 0 1 = cc in absurd (omega arith)
 passed false number later job e = (refl, e)
 
 -- the section that was taken on the way to a job
-record Went (section : Taken) (later : Section → Reading) (job : Job) : Type 0 where
+record Went (section : Taken) (later : Section → JobReading) (job : Job) : Type 0 where
   it : Section
   is : section ≡ taken.At it
   on : later it ≡ reading.Job job
 
-went : (section : Taken) (later : Section → Reading) (job : Job) → thenSection section later ≡ reading.Job job → Went section later job
+went : (section : Taken) (later : Section → JobReading) (job : Job) → thenSection section later ≡ reading.Job job → Went section later job
 went (taken.At section) later job e = record { it = section; is = refl; on = e }
 went (taken.Refused number) later job e = let z : _≡_ {A = ℕ} 0 1 = cc in absurd (omega arith)
 

@@ -18,13 +18,13 @@ use Rattle.job.specs.declared.Head.the-variants as head
 use Rattle.job.specs.declared.Section.{Section}
 use Rattle.job.specs.declared.Taken.{Taken}
 use Rattle.job.specs.declared.Taken.the-variants as taken
-use Rattle.job.specs.declared.Reading.{Reading}
-use Rattle.job.specs.declared.Reading.the-variants as reading
+use Rattle.job.specs.declared.JobReading.{JobReading}
+use Rattle.job.specs.declared.JobReading.the-variants as reading
 use Rattle.job.specs.Jobs.{jobHead, rangesNumber, listNumber, batchNumber}
 use Rattle.job.specs.Jobs.{listAt, batchAt, thenSection, listEnd, sectionsOf, afterHead, jobOf, jobLimit}
 use Rattle.job.proofs.Taking.{list-short, batch-in, batch-place}
 
-and-same : (one two : Taken) (f g : Section → Reading) → one ≡ two → ((section : Section) → one ≡ taken.At section → f section ≡ g section)
+and-same : (one two : Taken) (f g : Section → JobReading) → one ≡ two → ((section : Section) → one ≡ taken.At section → f section ≡ g section)
     → thenSection one f ≡ thenSection two g
 and-same (taken.At section) two f g e h = rw (← e) (h section refl)
 and-same (taken.Refused number) two f g e h = rw (← e)
@@ -89,7 +89,7 @@ module _ (s t : List ℕ) (long-s : jobLimit < length s) (long-t : jobLimit < le
   batch-same place h = rw (batch-number-same place h, word-same place (omega arith))
 
   -- bytes follow the batch in both
-  both-left-over : (place : ℕ) (section : Section) (f g : Reading) → place + 2 + batchLimit ≤ jobLimit → batchAt s place ≡ taken.At section
+  both-left-over : (place : ℕ) (section : Section) (f g : JobReading) → place + 2 + batchLimit ≤ jobLimit → batchAt s place ≡ taken.At section
       → cond (ltb (section .place + section .count) (length s)) (reading.Refused 53) f
       ≡ cond (ltb (section .place + section .count) (length t)) (reading.Refused 53) g
   both-left-over place section f g h e =

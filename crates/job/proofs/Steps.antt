@@ -13,8 +13,8 @@ use Rattle.job.specs.declared.Head.the-variants as head
 use Rattle.job.specs.declared.Section.{Section}
 use Rattle.job.specs.declared.Taken.{Taken}
 use Rattle.job.specs.declared.Taken.the-variants as taken
-use Rattle.job.specs.declared.Reading.{Reading}
-use Rattle.job.specs.declared.Reading.the-variants as reading
+use Rattle.job.specs.declared.JobReading.{JobReading}
+use Rattle.job.specs.declared.JobReading.the-variants as reading
 use Rattle.job.specs.Jobs.{headNumber, takenNumber, jobHead, listAt, batchAt, thenSection, listEnd, sectionsOf, jobOf}
 use Rattle.job.proofs.Taking.{list-in, batch-in}
 
@@ -42,16 +42,16 @@ module _ (bytes : List ℕ) where
   only-sections e was = rw (← e, was)
 
 -- a job has come to a section: `one` is what taking it gives, and `later` is what is left to read after it
-pub record Come (job : Reading) (one : Taken) (later : Section → Reading) : Type 0 where
+pub record Come (job : JobReading) (one : Taken) (later : Section → JobReading) : Type 0 where
   pub is : job ≡ thenSection one later
 
 -- the section is refused, and its number is the job's
-pub refused-here : {job : Reading} {one : Taken} {later : Section → Reading} {number given : ℕ}
+pub refused-here : {job : JobReading} {one : Taken} {later : Section → JobReading} {number given : ℕ}
     → Come job one later → one ≡ taken.Refused number → given ≡ takenNumber one → reading.Refused given ≡ job
 refused-here here refused e = ap reading.Refused e ∙ rw refused (sym (here .is ∙ rw refused))
 
 -- a section was taken, and the next one begins where it ends
-module _ (bytes : List ℕ) {job : Reading} {one next : Taken} {section : Section} {place : ℕ} (later : Section → Section → Reading) where
+module _ (bytes : List ℕ) {job : JobReading} {one next : Taken} {section : Section} {place : ℕ} (later : Section → Section → JobReading) where
   pub next-list : Come job one (λ a. thenSection (listAt bytes (listEnd a)) (later a)) → one ≡ taken.At section → place ≡ listEnd section
       → next ≡ listAt bytes place
       → Come job next (later section)
@@ -71,22 +71,22 @@ module _ (bytes : List ℕ) (place : ℕ) {one : Taken} {section : Section} (few
 
 module _ (own flags : ℕ) (bytes : List ℕ) where
   -- what is left to read after each section
-  abbrev pub afterBatch : Section → Section → Section → Section → Section → Reading
+  abbrev pub afterBatch : Section → Section → Section → Section → Section → JobReading
   afterBatch a b c d e =
       cond (ltb (e .place + e .count) (length bytes)) (reading.Refused 53)
       (reading.Job
       (record { own = own; flags = flags; «source_pass» = a; «source_reject» = b; «destination_pass» = c; «destination_reject» = d; batch = e }))
 
-  abbrev pub afterFourth : Section → Section → Section → Section → Reading
+  abbrev pub afterFourth : Section → Section → Section → Section → JobReading
   afterFourth a b c d = thenSection (batchAt bytes (listEnd d)) (afterBatch a b c d)
 
-  abbrev pub afterThird : Section → Section → Section → Reading
+  abbrev pub afterThird : Section → Section → Section → JobReading
   afterThird a b c = thenSection (listAt bytes (listEnd c)) (afterFourth a b c)
 
-  abbrev pub afterSecond : Section → Section → Reading
+  abbrev pub afterSecond : Section → Section → JobReading
   afterSecond a b = thenSection (listAt bytes (listEnd b)) (afterThird a b)
 
-  abbrev pub afterFirst : Section → Reading
+  abbrev pub afterFirst : Section → JobReading
   afterFirst a = thenSection (listAt bytes (listEnd a)) (afterSecond a)
 
   pub begun : {first : Taken} → first ≡ listAt bytes 3 → Come (sectionsOf own flags bytes) first afterFirst
@@ -94,7 +94,7 @@ module _ (own flags : ℕ) (bytes : List ℕ) where
   begun e = record { is = rw e }
 
   -- the batch was taken: bytes follow it, or none
-  module _ {job : Reading} {last : Taken} (a b c d e : Section) (here : Come job last (afterBatch a b c d)) (was : last ≡ taken.At e) where
+  module _ {job : JobReading} {last : Taken} (a b c d e : Section) (here : Come job last (afterBatch a b c d)) (was : last ≡ taken.At e) where
     pub left-over : e .place + e .count < length bytes → reading.Refused 53 ≡ job
     left-over h = sym (here .is ∙ rw was (simp (lt-ltb (e .place + e .count) (length bytes) h)))
 

@@ -15,8 +15,8 @@ use Rattle.job.specs.declared.Section.{Section}
 use Rattle.job.specs.declared.Taken.{Taken}
 use Rattle.job.specs.declared.Taken.the-variants as taken
 use Rattle.job.specs.declared.Job.{Job}
-use Rattle.job.specs.declared.Reading.{Reading}
-use Rattle.job.specs.declared.Reading.the-variants as reading
+use Rattle.job.specs.declared.JobReading.{JobReading}
+use Rattle.job.specs.declared.JobReading.the-variants as reading
 use Rattle.job.specs.Jobs.{headNumber, takenNumber, jobNumber, jobHead, rangesNumber, listNumber, batchNumber, takenOf}
 use Rattle.job.specs.Jobs.{listAt, batchAt, thenSection, listEnd, sectionsOf, afterHead, jobOf}
 
@@ -44,10 +44,10 @@ taken-number-is number place count = go (eqb number 0) refl
 record Section54 (one : Taken) : Type 0 where
   most : takenNumber one ≤ 54
 
-record Job54 (job : Reading) : Type 0 where
+record Job54 (job : JobReading) : Type 0 where
   most : jobNumber job ≤ 54
 
-and-within : {one : Taken} {later : Section → Reading} → Section54 one → ((section : Section) → Job54 (later section)) → Job54 (thenSection one later)
+and-within : {one : Taken} {later : Section → JobReading} → Section54 one → ((section : Section) → Job54 (later section)) → Job54 (thenSection one later)
 and-within {one = taken.At section} h k = k section
 and-within {one = taken.Refused number} h k = record { most = h .most }
 

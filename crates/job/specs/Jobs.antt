@@ -18,8 +18,8 @@ use Rattle.job.specs.declared.Section.{Section}
 use Rattle.job.specs.declared.Taken.{Taken}
 use Rattle.job.specs.declared.Taken.the-variants as taken
 use Rattle.job.specs.declared.Job.{Job}
-use Rattle.job.specs.declared.Reading.{Reading}
-use Rattle.job.specs.declared.Reading.the-variants as reading
+use Rattle.job.specs.declared.JobReading.{JobReading}
+use Rattle.job.specs.declared.JobReading.the-variants as reading
 
 -- the number that each answer has ("Numbers answered"): 0 where it shows own address and flags, a section or a job, else that of the refusal
 abbrev pub headNumber : Head → ℕ
@@ -30,7 +30,7 @@ abbrev pub takenNumber : Taken → ℕ
 takenNumber (taken.At section) = 0
 takenNumber (taken.Refused number) = number
 
-abbrev pub jobNumber : Reading → ℕ
+abbrev pub jobNumber : JobReading → ℕ
 jobNumber (reading.Job job) = 0
 jobNumber (reading.Refused number) = number
 
@@ -72,7 +72,7 @@ unfoldable pub batchAt : List ℕ → ℕ → Taken
 batchAt bytes place = takenOf (batchNumber bytes place) (place + 2) (wordAt bytes place)
 
 -- what follows a section, or its refusal
-abbrev pub thenSection : Taken → (Section → Reading) → Reading
+abbrev pub thenSection : Taken → (Section → JobReading) → JobReading
 thenSection (taken.At section) later = later section
 thenSection (taken.Refused number) later = reading.Refused number
 
@@ -81,7 +81,7 @@ abbrev pub listEnd : Section → ℕ
 listEnd section = section .place + 4 * section .count
 
 -- from byte 3 on: four list sections, the batch; nothing after it
-unfoldable pub sectionsOf : ℕ → ℕ → List ℕ → Reading
+unfoldable pub sectionsOf : ℕ → ℕ → List ℕ → JobReading
 sectionsOf own flags bytes =
     thenSection (listAt bytes 3)
     (λ a. thenSection (listAt bytes (listEnd a))
@@ -100,11 +100,11 @@ sectionsOf own flags bytes =
     })))))))
 
 -- what follows own address and flags, or their refusal
-abbrev pub afterHead : Head → List ℕ → Reading
+abbrev pub afterHead : Head → List ℕ → JobReading
 afterHead (head.Found own flags) bytes = sectionsOf own flags bytes
 afterHead (head.Refused number) bytes = reading.Refused number
 
-unfoldable pub jobOf : List ℕ → Reading
+unfoldable pub jobOf : List ℕ → JobReading
 jobOf bytes = afterHead (jobHead bytes) bytes
 
 -- the most bytes that a job without fault has: own address and flags, four lists of 64 ranges, the longest batch ("Sizes")

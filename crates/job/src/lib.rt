@@ -40,7 +40,7 @@ pub struct Job {
 }
 
 // A job, or the number it was refused with.
-pub enum Reading {
+pub enum JobReading {
     Job(Job),
     Refused(u8),
 }
@@ -84,12 +84,12 @@ pub fn taken_number(taken: Taken) -> u8
 }
 
 // The number of a job: 20 or 50 to 54 as `read` gives it, 0 for one that has no fault. Document 01, "Numbers answered".
-pub fn job_number(reading: Reading) -> u8
+pub fn job_number(reading: JobReading) -> u8
     ensures { λ r. ⌜ r ≡ jobNumber reading ⌝ }
 {
     match reading {
-        Reading::Job(_) => 0,
-        Reading::Refused(number) => number,
+        JobReading::Job(_) => 0,
+        JobReading::Refused(number) => number,
     }
 }
 
@@ -182,33 +182,33 @@ fn list_end(section: Section) -> usize
 }
 
 // The job's sections, from byte 3 on: what `list_at` gives for each list and `batch_at` for the batch, then 53 for bytes after the batch.
-fn sections(bytes: &[u8], own: u16, flags: u8) -> Reading
+fn sections(bytes: &[u8], own: u16, flags: u8) -> JobReading
     ensures { λ r. ⌜ r ≡ sectionsOf own flags (now (bytes .entry)) ⌝ }
 {
     let first = list_at(bytes, 3);
     let Taken::At(source_pass) = first else {
-        return Reading::Refused(taken_number(first));
+        return JobReading::Refused(taken_number(first));
     };
     let second = list_at(bytes, list_end(source_pass));
     let Taken::At(source_reject) = second else {
-        return Reading::Refused(taken_number(second));
+        return JobReading::Refused(taken_number(second));
     };
     let third = list_at(bytes, list_end(source_reject));
     let Taken::At(destination_pass) = third else {
-        return Reading::Refused(taken_number(third));
+        return JobReading::Refused(taken_number(third));
     };
     let fourth = list_at(bytes, list_end(destination_pass));
     let Taken::At(destination_reject) = fourth else {
-        return Reading::Refused(taken_number(fourth));
+        return JobReading::Refused(taken_number(fourth));
     };
     let last = batch_at(bytes, list_end(destination_reject));
     let Taken::At(batch) = last else {
-        return Reading::Refused(taken_number(last));
+        return JobReading::Refused(taken_number(last));
     };
     if batch.place + batch.count < bytes.len() {
-        return Reading::Refused(53);
+        return JobReading::Refused(53);
     }
-    Reading::Job(Job {
+    JobReading::Job(Job {
         own: own,
         flags: flags,
         source_pass: source_pass,
@@ -222,12 +222,12 @@ fn sections(bytes: &[u8], own: u16, flags: u8) -> Reading
 // The job in the bytes, or the number of the first fault met from left to right.
 // 50 where the bytes end too soon, 51 for flags with bit 6 or 7 set, then what `list_at` gives for each list and `batch_at` for the batch; 53, for
 // bytes after the batch, comes last. Document 01, "The program `relay`", the job and the first fault met.
-pub fn read(bytes: &[u8]) -> Reading
+pub fn read(bytes: &[u8]) -> JobReading
     ensures { λ r. ⌜ r ≡ jobOf (now (bytes .entry)) ⌝ }
 {
     let head = head_of(bytes);
     let Head::Found { own, flags } = head else {
-        return Reading::Refused(head_number(head));
+        return JobReading::Refused(head_number(head));
     };
     sections(bytes, own, flags)
 }

@@ -19,7 +19,7 @@ use Rattle.batch.specs.Walk.{batchLimit, Walk, endingAt, before, walkFrom, walk
 use Rattle.text.specs.Text.{text, digit, decimalWithin, decimal, hex}
 use Rattle.lines.specs.Lines.{firstLine, shown, pduLine, lastLine, refusedLine}
 use Rattle.job.specs.declared.Job.{Job}
-use Rattle.job.specs.declared.Reading.the-variants as reading
+use Rattle.job.specs.declared.JobReading.the-variants as reading
 use Rattle.job.specs.Jobs.{jobHead, rangesNumber, listNumber, batchNumber, listAt, batchAt, sectionsOf, jobOf, settingsOf, batchIn, nodeIn}
 use Rattle.job.proofs.Inversion.{job-in, lists-right}
 use Rattle.run.specs.Run.{roomForOne, pduLines, walkLines, batchLines, runLines, printed}

@@ -10,7 +10,7 @@ use Rattle.batch.specs.Walk.{walk}
 use Rattle.text.specs.Text.{text, decimal}
 use Rattle.lines.specs.Lines.{firstLine, lastLine}
 use Rattle.job.specs.declared.Job.{Job}
-use Rattle.job.specs.declared.Reading.the-variants as reading
+use Rattle.job.specs.declared.JobReading.the-variants as reading
 use Rattle.job.specs.Jobs.{jobNumber, jobOf, batchIn, nodeIn}
 use Rattle.run.specs.Run.{roomForOne, pduLines, printed, Ran}
 

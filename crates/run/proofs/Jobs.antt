@@ -14,7 +14,7 @@ use Rattle.batch.specs.Walk.{batchLimit, walk}
 use Rattle.lines.specs.Lines.{firstLine, refusedLine}
 use Rattle.job.specs.declared.Section.{Section}
 use Rattle.job.specs.declared.Job.{Job}
-use Rattle.job.specs.declared.Reading.the-variants as reading
+use Rattle.job.specs.declared.JobReading.the-variants as reading
 use Rattle.job.specs.Jobs.{jobOf, settingsOf, valuesIn, paddedValues, listsIn, batchIn, nodeIn}
 use Rattle.job.proofs.Inversion.{job-in}
 use Rattle.job.proofs.Padding.{length-padded, values-start}

@@ -37,8 +37,8 @@ use Rattle.text.proofs.Decimal.{length-decimal, decimal-of-16-bits}
 use Rattle.lines.proofs.Shown.{length-shown, shown-within}
 use Rattle.lines.proofs.Lines.{first-line-at-most, refused-line-at-most, pdu-line-at-most, last-line-at-most}
 use Rattle.job.specs.declared.Job.{Job}
-use Rattle.job.specs.declared.Reading.{Reading}
-use Rattle.job.specs.declared.Reading.the-variants as reading
+use Rattle.job.specs.declared.JobReading.{JobReading}
+use Rattle.job.specs.declared.JobReading.the-variants as reading
 use Rattle.job.specs.Jobs.{jobNumber, jobOf, batchIn, nodeIn}
 use Rattle.job.proofs.Inversion.{job-in, own-small}
 use Rattle.job.proofs.Within.{gives-within, orElse-within, number-within}
@@ -256,7 +256,7 @@ pub printed-within : (bytes : List ℕ) → AllBytes bytes → length (printed b
 unfolding printed runLines
 printed-within bytes small = go (jobOf bytes) refl
   where
-    go : (read : Reading) → jobOf bytes ≡ read → characters (jobLines bytes read) ≤ textRoom
+    go : (read : JobReading) → jobOf bytes ≡ read → characters (jobLines bytes read) ≤ textRoom
     go (reading.Refused number) e =
         let known : number < 256 = omega (arith, ap jobNumber e, number-within bytes) in
         omega (arith, one-more (refusedLine number) [], refused-line-at-most number known, none)

@@ -10,8 +10,8 @@ use lib.Seq.{take-all}
 use borrow.Author.Tests.{leb-true, leb-false}
 use Rattle.octets.specs.Octets.{AllBytes, placed, placeAfter}
 use Rattle.octets.proofs.Placing.{is-after, length-placed, nothing-placed, placed-more, placed-start, take-over}
-use Rattle.job.specs.declared.Reading.{Reading}
-use Rattle.job.specs.declared.Reading.the-variants as reading
+use Rattle.job.specs.declared.JobReading.{JobReading}
+use Rattle.job.specs.declared.JobReading.the-variants as reading
 use Rattle.job.specs.Jobs.{jobOf, jobLimit}
 use Rattle.job.proofs.Inversion.{job-in}
 use Rattle.job.proofs.Longest.{job-cut}
@@ -52,7 +52,7 @@ pub printed-cut : (input : List ℕ) (room : ℕ) → jobLimit < room → printe
 unfolding printed runLines
 printed-cut input room h = ap flatten (go (leb (length input) room) refl)
   where
-    refused : (read : Reading) → jobOf input ≡ read → jobLimit < length input → jobLines (take room input) read ≡ jobLines input read
+    refused : (read : JobReading) → jobOf input ≡ read → jobLimit < length input → jobLines (take room input) read ≡ jobLines input read
     refused (reading.Refused number) e long = refl
     refused (reading.Job job) e long = absurd (omega (arith, job-in input job e .short))
 

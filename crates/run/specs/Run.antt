@@ -11,8 +11,8 @@ use Rattle.decision.specs.Decision.{Node}
 use Rattle.node.specs.Repeat.{repeated}
 use Rattle.node.specs.Answers.{deliveryNumber, repeatNumber, heardFrom}
 use Rattle.batch.specs.Walk.{batchLimit, Walk, walk}
-use Rattle.job.specs.declared.Reading.{Reading}
-use Rattle.job.specs.declared.Reading.the-variants.{Job, Refused}
+use Rattle.job.specs.declared.JobReading.{JobReading}
+use Rattle.job.specs.declared.JobReading.the-variants.{Job, Refused}
 use Rattle.job.specs.Jobs.{jobOf, jobLimit, batchIn, nodeIn}
 use Rattle.lines.specs.Lines.{firstLine, pduLine, lastLine, refusedLine}
 
@@ -62,7 +62,7 @@ abbrev pub LinesPut : List ℕ → ℕ → List (List ℕ) → List ℕ → ℕ 
 LinesPut before place lines after end = (end ≡ placeWith before place lines) × (after ≡ textWith before place lines)
 
 -- the lines of a job: a bad job prints only `refused` and the number
-abbrev pub jobLines : List ℕ → Reading → List (List ℕ)
+abbrev pub jobLines : List ℕ → JobReading → List (List ℕ)
 jobLines bytes (Refused number) = refusedLine number ∷ []
 jobLines bytes (Job job) = batchLines (nodeIn bytes job) (batchIn bytes job)
 

@@ -5,14 +5,14 @@ ghost use lib.ListN.{length};
 ghost use Rattle.lists.specs.Lists.{listsOf};
 ghost use Rattle.decision.specs.Decision.{nodeOf};
 ghost use Rattle.batch.specs.Walk.{batchLimit};
-ghost use Rattle.job.specs.declared.Reading.the-variants as reading;
+ghost use Rattle.job.specs.declared.JobReading.the-variants as reading;
 ghost use Rattle.job.specs.Jobs.{jobOf, nodeIn, batchIn};
 ghost use Rattle.run.specs.Run.{linesOf, batchLines, LinesPut, Ran};
 use batch::Cursor;
 use batch::Stepped;
 use decision::Settings;
 use job::Job;
-use job::Reading;
+use job::JobReading;
 use pdu::Header;
 
 // A job has no edition: `relay` uses 1.2. What it prints is the same under 1.1. Document 02, W-209.
@@ -26,8 +26,8 @@ pub fn relay(bytes: &[u8], text: &mut [u8]) -> usize
 {
     let reading = job::read(bytes);
     match reading {
-        Reading::Refused(number) => lines::put_refused_line(text, 0, number),
-        Reading::Job(job) => put_job(text, bytes, job),
+        JobReading::Refused(number) => lines::put_refused_line(text, 0, number),
+        JobReading::Job(job) => put_job(text, bytes, job),
     }
 }
 

@@ -1,5 +1,5 @@
 use mathlib.Core.Path.{ap, _∙_}
-use Rattle.job.specs.declared.Reading.the-variants.{Refused}
+use Rattle.job.specs.declared.JobReading.the-variants.{Refused}
 use Rattle.job.proofs.Steps.{head-refused, only-sections}
 use borrow.Author.Needs.{needs}
 use Rattle.job.proofs.read.Statement.{statement}

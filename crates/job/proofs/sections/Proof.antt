@@ -3,7 +3,7 @@ use mathlib.Core.List.{List}
 use denote.Ref.{now}
 use lib.ListN.{length}
 use Rattle.job.specs.declared.Section.{Section}
-use Rattle.job.specs.declared.Reading.{Reading}
+use Rattle.job.specs.declared.JobReading.{JobReading}
 use Rattle.job.specs.Jobs.{sectionsOf}
 use Rattle.job.proofs.Steps.{Come, refused-here, next-list, next-batch, end-fits, batch-end-fits}
 use Rattle.job.proofs.Steps.{afterFirst, afterSecond, afterThird, afterFourth, afterBatch, begun, left-over, whole}
@@ -83,13 +83,13 @@ destination-reject c = c .before .before .before .fourth .given .0 .0
 few-bytes : (c : First) → length (bytes-of c) < 2 ^ 64
 few-bytes c = omega arith
 
-abbrev job-of : First → Reading
+abbrev job-of : First → JobReading
 job-of c = sectionsOf (own c) (flags c) (bytes-of c)
 
 first-step : (c : First) → Come (job-of c) (c .list-at .result) (afterFirst (own c) (flags c) (bytes-of c))
 first-step c = begun (own c) (flags c) (bytes-of c) (c .list-at .ensures)
 
-abbrev left-second : (c : Second) → Section → Section → Reading
+abbrev left-second : (c : Second) → Section → Section → JobReading
 left-second c = let f = to-first c in afterSecond (own f) (flags f) (bytes-of f)
 
 second-step : (c : Second) → Come (job-of (to-first c)) (c .list-at2 .result) (left-second c (source-pass c))
@@ -97,7 +97,7 @@ second-step c =
     next-list _ (left-second c) (first-step (to-first c)) (c .before .before .before .first .given .1) (c .before .list-end .ensures)
     (c .list-at2 .ensures)
 
-abbrev left-third : (c : Third) → Section → Section → Reading
+abbrev left-third : (c : Third) → Section → Section → JobReading
 left-third c = let s = to-second c in let f = to-first s in afterThird (own f) (flags f) (bytes-of f) (source-pass s)
 
 third-step : (c : Third) → Come (job-of (to-first (to-second c))) (c .list-at3 .result) (left-third c (source-reject c))
@@ -105,7 +105,7 @@ third-step c =
     next-list _ (left-third c) (second-step (to-second c)) (c .before .before .before .second .given .1) (c .before .list-end2 .ensures)
     (c .list-at3 .ensures)
 
-abbrev left-fourth : (c : Fourth) → Section → Section → Reading
+abbrev left-fourth : (c : Fourth) → Section → Section → JobReading
 left-fourth c =
     let t = to-third c in let s = to-second t in let f = to-first s in afterFourth (own f) (flags f) (bytes-of f) (source-pass s) (source-reject t)
 
@@ -114,7 +114,7 @@ fourth-step c =
     next-list _ (left-fourth c) (third-step (to-third c)) (c .before .before .before .third .given .1) (c .before .list-end3 .ensures)
     (c .list-at4 .ensures)
 
-abbrev left-last : (c : Last) → Section → Section → Reading
+abbrev left-last : (c : Last) → Section → Section → JobReading
 left-last c =
     let d = to-fourth c in let t = to-third d in let s = to-second t in let f = to-first s in
     afterBatch (own f) (flags f) (bytes-of f) (source-pass s) (source-reject t) (destination-pass d)
