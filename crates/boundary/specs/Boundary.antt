@@ -18,8 +18,8 @@ use Rattle.pdu.specs.Parts.{pathIn, pathAddress, inPath, lastSender}
 use Rattle.editions.specs.declared.Bits.{Bits}
 use Rattle.editions.specs.declared.Bits.the-variants.{Reserved, Flagged}
 use Rattle.editions.specs.declared.Shown.{Shown}
-use Rattle.editions.specs.declared.Reading as edition
-use Rattle.editions.specs.declared.Reading.the-variants as edition-reading
+use Rattle.editions.specs.declared.EditionReading.{EditionReading}
+use Rattle.editions.specs.declared.EditionReading.the-variants as edition-reading
 use Rattle.editions.specs.Editions.{shownWith, wireOf}
 use Rattle.lists.specs.Lists.{valueLimit}
 use Rattle.origin.specs.declared.Settings as origin
@@ -121,7 +121,7 @@ abbrev pub refusedHeader : ℕ → MantHeader
 refusedHeader number = fieldsInC number (shownWith (Reserved 0) (headerOf [])) Unknown 0 0
 
 -- what reading under an edition answers for bytes (17, then "Numbers answered", 1 to 6), and the last sender of what was read
-abbrev pub headerInC : edition.Reading → List ℕ → MantHeader
+abbrev pub headerInC : EditionReading → List ℕ → MantHeader
 headerInC (edition-reading.Pdu shown) bytes = shownHeader shown (lastSender (wireOf shown) bytes)
 headerInC (edition-reading.Refused number) bytes = refusedHeader number
 

@@ -7,17 +7,16 @@ use lib.ListN.{length, take}
 use borrow.Author.Tests.{le-ltb}
 use Rattle.octets.specs.Octets.{AllBytes, at, over}
 use Rattle.pdu.specs.declared.Header.{Header}
-use Rattle.pdu.specs.declared.Reading as wire
+use Rattle.pdu.specs.declared.Reading.{Reading}
 use Rattle.pdu.specs.declared.Reading.the-variants as wire-reading
 use Rattle.pdu.specs.Header.{headerOf}
 use Rattle.pdu.specs.Sizes.{pduLength}
 use Rattle.pdu.specs.Reading.{readOf}
 use Rattle.pdu.proofs.Inversion.{shown}
-use Rattle.writing.specs.Writing as writing
+use Rattle.writing.specs.Writing.{writtenOf, outputOf, writeAgain, writtenAgain}
 use Rattle.writing.proofs.Same.{written-same}
 use Rattle.editions.specs.declared.Shown.{Shown}
-use Rattle.editions.specs.declared.Reading.{Reading}
-use Rattle.editions.specs.declared.Reading.the-variants.{Pdu, Refused}
+use Rattle.editions.specs.declared.EditionReading.the-variants.{Pdu, Refused}
 use Rattle.editions.specs.Editions.{known, bitsUnder, shownWith, showing, readUnder, wireOf}
 use Rattle.editions.specs.Editions.{shownWritten, shownOutput, writeAgainUnder, writtenAgainUnder}
 use Rattle.editions.proofs.Showing.{unknown-refused, known-shows, wire-back, seen-by}
@@ -40,19 +39,19 @@ module _ (edition : ℕ) (bytes : List ℕ) where
   unknown-written e output = rw (unknown-refused edition bytes e) (refl, refl)
 
   pub known-written : known edition ≡ true → (output : List ℕ)
-      → (writeAgainUnder edition bytes (length output) ≡ writing.writeAgain bytes (length output))
-      × (writtenAgainUnder edition bytes output ≡ writing.writtenAgain bytes output)
-  unfolding writeAgainUnder writtenAgainUnder writing.writeAgain writing.writtenAgain
+      → (writeAgainUnder edition bytes (length output) ≡ writeAgain bytes (length output))
+      × (writtenAgainUnder edition bytes output ≡ writtenAgain bytes output)
+  unfolding writeAgainUnder writtenAgainUnder writeAgain writtenAgain
   known-written e output = rw (known-shows edition bytes e) (go (readOf bytes) refl)
     where
-      go : (reading : wire.Reading) → readOf bytes ≡ reading
-          → (shownWritten (showing edition bytes reading) (length output) ≡ writing.writtenOf reading (length output))
-          × (shownOutput (showing edition bytes reading) bytes output ≡ writing.outputOf reading bytes output)
+      go : (reading : Reading) → readOf bytes ≡ reading
+          → (shownWritten (showing edition bytes reading) (length output) ≡ writtenOf reading (length output))
+          × (shownOutput (showing edition bytes reading) bytes output ≡ outputOf reading bytes output)
       go (wire-reading.Refused refusal) is = (refl, refl)
       go (wire-reading.Pdu header) is =
           let back = header-back edition bytes header (shown bytes header is .is) in (
-            ap (λ (h : Header). writing.writtenOf (wire-reading.Pdu h) (length output)) back,
-            ap (λ (h : Header). writing.outputOf (wire-reading.Pdu h) bytes output) back,
+            ap (λ (h : Header). writtenOf (wire-reading.Pdu h) (length output)) back,
+            ap (λ (h : Header). outputOf (wire-reading.Pdu h) bytes output) back,
           )
 
 -- what is read under an edition and written again under it is the same bytes, at the start of an output that has room for them

@@ -9,19 +9,17 @@ use lib.Dec.{eqb}
 use Rattle.octets.specs.Numbers.{flag}
 use Rattle.octets.specs.Octets.{at}
 use Rattle.pdu.specs.declared.Header.{Header}
-use Rattle.pdu.specs.declared.Reading as wire
+use Rattle.pdu.specs.declared.Reading.{Reading}
 use Rattle.pdu.specs.declared.Reading.the-variants as wire-reading
 use Rattle.pdu.specs.Header.{isSet, encryptedBit, reserved, headerOf}
-use Rattle.pdu.specs.Reading as wire-number
-use Rattle.pdu.specs.Reading.{readOf}
+use Rattle.pdu.specs.Reading.{readOf, readingNumber}
 use Rattle.pdu.proofs.Inversion.{shown}
 use Rattle.pdu.proofs.Number.{read-0}
 use Rattle.pdu.proofs.Showing.{flag-isSet}
 use Rattle.editions.specs.declared.Bits.{Bits}
 use Rattle.editions.specs.declared.Bits.the-variants.{Reserved, Flagged}
 use Rattle.editions.specs.declared.Shown.{Shown}
-use Rattle.editions.specs.declared.Reading.{Reading}
-use Rattle.editions.specs.declared.Reading.the-variants.{Pdu, Refused}
+use Rattle.editions.specs.declared.EditionReading.the-variants.{Pdu, Refused}
 use Rattle.editions.specs.Editions.{known, bitsUnder, shownWith, showing, readUnder, encryptedOf, reservedOf, wireOf}
 
 module _ (edition : ℕ) (bytes : List ℕ) where
@@ -33,15 +31,15 @@ module _ (edition : ℕ) (bytes : List ℕ) where
   unfolding readUnder
   known-shows e = rw e
 
-  pub wire-refused : known edition ≡ true → {number : ℕ} → number ≡ wire-number.readingNumber (readOf bytes) → (number ≡ 0 → ⊥)
+  pub wire-refused : known edition ≡ true → {number : ℕ} → number ≡ readingNumber (readOf bytes) → (number ≡ 0 → ⊥)
       → Refused number ≡ readUnder edition bytes
   wire-refused e {number} same some = go (readOf bytes) same ∙ sym (known-shows e)
     where
-      go : (reading : wire.Reading) → number ≡ wire-number.readingNumber reading → Refused number ≡ showing edition bytes reading
+      go : (reading : Reading) → number ≡ readingNumber reading → Refused number ≡ showing edition bytes reading
       go (wire-reading.Pdu header) same = absurd (some same)
       go (wire-reading.Refused refusal) same = ap Refused same
 
-  pub pdu-shown : known edition ≡ true → wire-number.readingNumber (readOf bytes) ≡ 0
+  pub pdu-shown : known edition ≡ true → readingNumber (readOf bytes) ≡ 0
       → Pdu (shownWith (bitsUnder edition (at bytes 1)) (headerOf bytes)) ≡ readUnder edition bytes
   pdu-shown e none = sym (known-shows e ∙ ap (showing edition bytes) (read-0 bytes none))
 
@@ -97,7 +95,7 @@ same-shown a b e = cc
 pub seen-by : (edition : ℕ) (bytes : List ℕ) (seen : Shown) → readUnder edition bytes ≡ Pdu seen → Seen edition bytes seen
 seen-by edition bytes seen is = by (known edition) refl
   where
-    of : known edition ≡ true → (reading : wire.Reading) → readOf bytes ≡ reading → showing edition bytes reading ≡ Pdu seen → Seen edition bytes seen
+    of : known edition ≡ true → (reading : Reading) → readOf bytes ≡ reading → showing edition bytes reading ≡ Pdu seen → Seen edition bytes seen
     of named (wire-reading.Refused refusal) reads shows = let z : _≡_ {A = ℕ} 0 1 = cc in absurd (omega arith)
     of named (wire-reading.Pdu header) reads shows =
         let header-is = shown bytes header reads .is in

@@ -5,17 +5,17 @@ use mathlib.Core.List.{List}
 use lib.Dec.{eqb}
 use Rattle.octets.specs.Octets.{at}
 use Rattle.pdu.specs.declared.Header.{Header}
-use Rattle.pdu.specs.declared.Reading as wire
+use Rattle.pdu.specs.declared.Reading.{Reading}
 use Rattle.pdu.specs.declared.Reading.the-variants as wire-reading
 use Rattle.pdu.specs.declared.Written.{Written}
 use Rattle.pdu.specs.Header.{isSet, encryptedBit, reserved}
 use Rattle.pdu.specs.Reading.{refusalNumber, readOf}
-use Rattle.writing.specs.Writing as writing
+use Rattle.writing.specs.Writing.{writtenOf, outputOf}
 use Rattle.editions.specs.declared.Bits.{Bits}
 use Rattle.editions.specs.declared.Bits.the-variants.{Reserved, Flagged}
 use Rattle.editions.specs.declared.Shown.{Shown}
-use Rattle.editions.specs.declared.Reading.{Reading}
-use Rattle.editions.specs.declared.Reading.the-variants.{Pdu, Refused}
+use Rattle.editions.specs.declared.EditionReading.{EditionReading}
+use Rattle.editions.specs.declared.EditionReading.the-variants.{Pdu, Refused}
 
 -- the number of edition 1.1 is 11, of 1.2 is 12; no other names an edition
 abbrev pub known : ℕ → Bool
@@ -46,12 +46,12 @@ shownWith bits header =
     }
 
 -- what an edition shows of what the wire says; 1 to 6 are the wire's
-abbrev pub showing : ℕ → List ℕ → wire.Reading → Reading
+abbrev pub showing : ℕ → List ℕ → Reading → EditionReading
 showing edition bytes (wire-reading.Pdu header) = Pdu (shownWith (bitsUnder edition (at bytes 1)) header)
 showing edition bytes (wire-reading.Refused refusal) = Refused (refusalNumber refusal)
 
 -- reading under an edition: 17, before 1 to 6
-unfoldable pub readUnder : ℕ → List ℕ → Reading
+unfoldable pub readUnder : ℕ → List ℕ → EditionReading
 readUnder edition bytes = cond (known edition) (showing edition bytes (readOf bytes)) (Refused 17)
 
 -- the wire's flag and reserved number that the three bits are
@@ -84,13 +84,13 @@ wireOf shown =
     }
 
 -- writing again from what was shown, for an output of so many bytes: the refusal of reading, then 14; and what is left in the output
-abbrev pub shownWritten : Reading → ℕ → Written
+abbrev pub shownWritten : EditionReading → ℕ → Written
 shownWritten (Refused number) room = record { number = number; length = 0 }
-shownWritten (Pdu shown) room = writing.writtenOf (wire-reading.Pdu (wireOf shown)) room
+shownWritten (Pdu shown) room = writtenOf (wire-reading.Pdu (wireOf shown)) room
 
-abbrev pub shownOutput : Reading → List ℕ → List ℕ → List ℕ
+abbrev pub shownOutput : EditionReading → List ℕ → List ℕ → List ℕ
 shownOutput (Refused number) bytes output = output
-shownOutput (Pdu shown) bytes output = writing.outputOf (wire-reading.Pdu (wireOf shown)) bytes output
+shownOutput (Pdu shown) bytes output = outputOf (wire-reading.Pdu (wireOf shown)) bytes output
 
 unfoldable pub writeAgainUnder : ℕ → List ℕ → ℕ → Written
 writeAgainUnder edition bytes room = shownWritten (readUnder edition bytes) room

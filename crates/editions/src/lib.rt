@@ -31,7 +31,7 @@ pub struct Shown {
 }
 
 // What reading under an edition answers: 17, then 1 to 6, where there is nothing to show.
-pub enum Reading {
+pub enum EditionReading {
     Pdu(Shown),
     Refused(u8),
 }
@@ -45,17 +45,17 @@ pub fn is_known(edition: u64) -> bool
 
 // What an edition shows of the PDU at the start of `bytes`: 17 for an edition that is not known, then 1 to 6 where there is none. Any edition and bytes
 // get an answer; bytes after the PDU are not looked at. Document 01, "Header, byte by byte", and "Numbers answered", 1 to 6; document 02, W-209.
-pub fn read(edition: u64, bytes: &[u8]) -> Reading
+pub fn read(edition: u64, bytes: &[u8]) -> EditionReading
     ensures { λ r. ⌜ r ≡ readUnder edition (now (bytes .entry)) ⌝ }
 {
     if !is_known(edition) {
-        return Reading::Refused(17);
+        return EditionReading::Refused(17);
     }
     let number = pdu::fault(bytes);
     if number != 0 {
-        return Reading::Refused(number);
+        return EditionReading::Refused(number);
     }
-    Reading::Pdu(shown_with(
+    EditionReading::Pdu(shown_with(
         bits_under(edition, octets::byte(bytes, 1)),
         pdu::header_of(bytes),
     ))

@@ -16,7 +16,7 @@ use Rattle.pdu.specs.Sizes.{pathEntries, pduLength}
 use Rattle.pdu.specs.Reading.{readOf}
 use Rattle.pdu.specs.Parts.{pathAddress, lastSender}
 use Rattle.editions.specs.declared.Shown.{Shown}
-use Rattle.editions.specs.declared.Reading.the-variants as edition-reading
+use Rattle.editions.specs.declared.EditionReading.the-variants as edition-reading
 use Rattle.editions.specs.Editions.{wireOf}
 use Rattle.origin.specs.declared.Settings as origin
 use Rattle.origin.specs.Origination.{originationNumber, originatedOutput}

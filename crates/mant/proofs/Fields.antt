@@ -27,7 +27,7 @@ use Rattle.pdu.proofs.Senders.{sender-unknown, sender-source, sender-at}
 use Rattle.pdu.proofs.Showing.{entries-shown, length-shown, pdu-length-shown}
 use Rattle.editions.specs.declared.Bits.the-variants.{Reserved, Flagged}
 use Rattle.editions.specs.declared.Shown.{Shown}
-use Rattle.editions.specs.declared.Reading as edition-read
+use Rattle.editions.specs.declared.EditionReading.{EditionReading}
 use Rattle.editions.specs.Editions.{known, bitsUnder, shownWith, readUnder, wireOf}
 use Rattle.editions.proofs.Showing.{unknown-refused, wire-refused, pdu-shown, wire-back}
 use Rattle.boundary.specs.declared.reading.MantHeader.{MantHeader}
@@ -212,11 +212,11 @@ whole-is edition bytes e1 e2 e3 e4 e5 e6 e7 e8 e9 e10 =
 -- what reading answers, by the edition and the number of what the wire says
 module _ (edition : ℕ) (bytes : List ℕ) where
   pub unknown-in-c : known edition ≡ false → refusedHeader 17 ≡ headerInC (readUnder edition bytes) bytes
-  unknown-in-c e = sym (ap (λ (reading : edition-read.Reading). headerInC reading bytes) (unknown-refused edition bytes e))
+  unknown-in-c e = sym (ap (λ (reading : EditionReading). headerInC reading bytes) (unknown-refused edition bytes e))
 
   pub refused-in-c : known edition ≡ true → {number : ℕ} → number ≡ readingNumber (readOf bytes) → (number ≡ 0 → ⊥)
       → refusedHeader number ≡ headerInC (readUnder edition bytes) bytes
-  refused-in-c e same some = ap (λ (reading : edition-read.Reading). headerInC reading bytes) (wire-refused edition bytes e same some)
+  refused-in-c e same some = ap (λ (reading : EditionReading). headerInC reading bytes) (wire-refused edition bytes e same some)
 
   pub pdu-in-c : known edition ≡ true → readingNumber (readOf bytes) ≡ 0
       → shownHeader (shownWith (bitsUnder edition (at bytes 1)) (headerOf bytes)) (lastSender (headerOf bytes) bytes)
@@ -224,4 +224,4 @@ module _ (edition : ℕ) (bytes : List ℕ) where
   pdu-in-c e none =
       ap (shownHeader (shownWith (bitsUnder edition (at bytes 1)) (headerOf bytes)))
       (ap (λ (header : Header). lastSender header bytes) (sym (wire-back edition bytes)))
-      ∙ ap (λ (reading : edition-read.Reading). headerInC reading bytes) (pdu-shown edition bytes e none)
+      ∙ ap (λ (reading : EditionReading). headerInC reading bytes) (pdu-shown edition bytes e none)

@@ -16,7 +16,7 @@ use Rattle.pdu.specs.Reading.{readOf, readingNumber}
 use Rattle.pdu.proofs.Inversion.{shown}
 use Rattle.pdu.proofs.Number.{reading-within}
 use Rattle.editions.specs.declared.Shown.{Shown}
-use Rattle.editions.specs.declared.Reading.the-variants.{Pdu}
+use Rattle.editions.specs.declared.EditionReading.the-variants.{Pdu}
 use Rattle.editions.specs.Editions.{known, bitsUnder, shownWith, showing, readUnder}
 use Rattle.editions.proofs.Showing.{known-shows, bitsOf, bits-of-wire, seen-by}
 use Rattle.lists.specs.Lists.{faultOf, firstFault}

@@ -15,7 +15,7 @@ use Rattle.pdu.proofs.Inversion.{shown}
 use Rattle.writing.specs.Writing.{headerBytes, encode}
 use Rattle.editions.specs.declared.Bits.{Bits}
 use Rattle.editions.specs.declared.Bits.the-variants.{Reserved, Flagged}
-use Rattle.editions.specs.declared.Reading.the-variants.{Pdu}
+use Rattle.editions.specs.declared.EditionReading.the-variants.{Pdu}
 use Rattle.editions.specs.Editions.{known, shownWith, showing, readUnder}
 use Rattle.editions.proofs.Showing.{known-shows, bitsOf, bits-of-wire}
 use Rattle.origin.specs.declared.Settings as asked

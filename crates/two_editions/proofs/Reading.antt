@@ -20,7 +20,7 @@ use Rattle.pdu.proofs.Number.{refusal-within}
 use Rattle.editions.specs.declared.Bits.{Bits}
 use Rattle.editions.specs.declared.Bits.the-variants.{Reserved, Flagged}
 use Rattle.editions.specs.declared.Shown.{Shown}
-use Rattle.editions.specs.declared.Reading.the-variants.{Pdu, Refused}
+use Rattle.editions.specs.declared.EditionReading.the-variants.{Pdu, Refused}
 use Rattle.editions.specs.Editions.{known, shownWith, showing, readUnder, wireOf, writeAgainUnder, writtenAgainUnder}
 use Rattle.editions.proofs.Showing.{known-shows, bitsOf, bits-of-wire, seen-by}
 

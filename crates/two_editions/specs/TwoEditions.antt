@@ -18,7 +18,7 @@ use Rattle.pdu.specs.Reading.{readOf, refusalNumber}
 use Rattle.editions.specs.declared.Bits.{Bits}
 use Rattle.editions.specs.declared.Bits.the-variants.{Reserved, Flagged}
 use Rattle.editions.specs.declared.Shown.{Shown}
-use Rattle.editions.specs.declared.Reading.the-variants.{Pdu, Refused}
+use Rattle.editions.specs.declared.EditionReading.the-variants.{Pdu, Refused}
 use Rattle.editions.specs.Editions.{known, bitsUnder, shownWith, readUnder, wireOf, writeAgainUnder, writtenAgainUnder}
 use Rattle.origin.specs.declared.Settings as asked
 use Rattle.origin.specs.Origination.{freshHeader, fresh, originationNumber, originated, originatedOutput}
