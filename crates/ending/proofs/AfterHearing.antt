@@ -16,13 +16,13 @@ use Rattle.pdu.specs.Header.{headerOf}
 use Rattle.pdu.specs.Sizes.{pduLength}
 use Rattle.answering.specs.declared.Sending.{Sending}
 use Rattle.answering.specs.Delivered.{isAcknowledgement, isAnswered, ackHeader, answered, acknowledgeNumber, acknowledge, tableAcknowledged}
-use Rattle.ending.specs.History.{Arrived, Settings, HearPdu, Life, watch, worldAfter}
+use Rattle.ending.specs.History.{Arrived, RetrySettings, HearPdu, Life, watch, worldAfter}
 use Rattle.ending.proofs.First.{has-hit}
 use Rattle.ending.proofs.Facts.{names-eq, free-is, other-name, freed-free}
 use Rattle.ending.proofs.Holding.{never, elsewhere, removed}
 use Rattle.ending.proofs.Good.{Good, world, sized, same-life}
 
-module _ (s : Settings) (names : Names) (table : List Retained) (last : ℕ) (life : Life) (g : Good s names (world table last life)) where
+module _ (s : RetrySettings) (names : Names) (table : List Retained) (last : ℕ) (life : Life) (g : Good s names (world table last life)) where
   module _ (sought : Names) (h : has (isNamed sought) table ≡ true) where
     abbrev place : ℕ
     place = first (isNamed sought) table

@@ -15,7 +15,7 @@ use Rattle.retained.specs.declared.Names.{Names}
 use Rattle.retained.specs.declared.Retained.{Retained}
 use Rattle.retained.specs.Records.{unfit, isUsed, isFree, isNamed, namesOf, sameNames, retainedRecord}
 use Rattle.retained.specs.Table.{tableFault, timeFault, first, has, recordAt, numberAlone, did, kept, sent, retainNumber, retain, tableRetained}
-use Rattle.ending.specs.History.{Waiting, Settings, RetainAt, Life, watch, worldAfter}
+use Rattle.ending.specs.History.{Waiting, RetrySettings, RetainAt, Life, watch, worldAfter}
 use Rattle.ending.proofs.First.{has-hit, has-none}
 use Rattle.ending.proofs.Facts.{names-eq, free-is, retained-named}
 use Rattle.ending.proofs.Holding.{never, elsewhere, retained}
@@ -41,7 +41,7 @@ retain-passes table last now bytes h =
       room = not-false _ (gives-zero (not (has isFree table)) 70 (omega arith) (d .1));
     }
 
-module _ (s : Settings) (names : Names) (table : List Retained) (last : ℕ) (life : Life) (g : Good s names (world table last life)) where
+module _ (s : RetrySettings) (names : Names) (table : List Retained) (last : ℕ) (life : Life) (g : Good s names (world table last life)) where
   module _ (now : ℕ) (bytes : List ℕ) (p : Passes table last now bytes) where
     abbrev i : ℕ
     i = first isFree table

@@ -15,13 +15,13 @@ use Rattle.retained.specs.declared.Retained.{Retained}
 use Rattle.retained.specs.declared.Outcome.{Outcome}
 use Rattle.retained.specs.Records.{isUsed, isNamed, isDue, pduOf, namesOf, sameNames, sentRecord, freedRecord}
 use Rattle.retained.specs.Table.{tableFault, timeFault, has, recordAt, due, isSpent, numberAlone, did, sent, failed, stepNumber, retryStep, tableStepped}
-use Rattle.ending.specs.History.{Lost, isWaiting, Settings, StepAt, Life, watch, worldAfter}
+use Rattle.ending.specs.History.{Lost, isWaiting, RetrySettings, StepAt, Life, watch, worldAfter}
 use Rattle.ending.proofs.First.{has-hit, has-none}
 use Rattle.ending.proofs.Facts.{named-is, free-is, freed-free, sent-named, due-used}
 use Rattle.ending.proofs.Holding.{Kept, Status, gone, here, never, quiet, elsewhere, again, removed, kept-at, passes}
 use Rattle.ending.proofs.Good.{Good, world, sized, same-life}
 
-module _ (s : Settings) (names : Names) (table : List Retained) (last : ℕ) (life : Life) (g : Good s names (world table last life))
+module _ (s : RetrySettings) (names : Names) (table : List Retained) (last : ℕ) (life : Life) (g : Good s names (world table last life))
     (now : ℕ) where
   abbrev place : ℕ
   place = due table now (s .delay)

@@ -9,7 +9,7 @@ use Rattle.retained.specs.declared.Names.{Names}
 use Rattle.retained.specs.declared.Retained.{Retained}
 use Rattle.retained.specs.Records.{isNamed}
 use Rattle.retained.specs.Table.{has, recordAt}
-use Rattle.ending.specs.History.{Fate, NotYet, Waiting, Lost, Arrived, isWaiting, Settings, Operation, RetainAt, HearPdu, StepAt}
+use Rattle.ending.specs.History.{Fate, NotYet, Waiting, Lost, Arrived, isWaiting, RetrySettings, Operation, RetainAt, HearPdu, StepAt}
 use Rattle.ending.specs.History.{World, worldAfter, history, start}
 use Rattle.ending.specs.Ending.{FreeTable, Ended, Statement}
 use Rattle.ending.proofs.First.{has-at, has-nowhere}
@@ -20,17 +20,17 @@ use Rattle.ending.proofs.AfterRetaining.{good-retains}
 use Rattle.ending.proofs.AfterHearing.{good-hears}
 use Rattle.ending.proofs.AfterStep.{good-steps}
 
-good-next : (s : Settings) (names : Names) (op : Operation) (w : World) → Good s names w → Good s names (worldAfter s names op w)
+good-next : (s : RetrySettings) (names : Names) (op : Operation) (w : World) → Good s names w → Good s names (worldAfter s names op w)
 good-next s names (RetainAt now bytes) w g = good-retains s names (w .table) (w .last) (w .life) g now bytes
 good-next s names (HearPdu delivery sending room received) w g = good-hears s names (w .table) (w .last) (w .life) g delivery sending room received
 good-next s names (StepAt now) w g = good-steps s names (w .table) (w .last) (w .life) g now
 
-good-history : (s : Settings) (names : Names) (ops : List Operation) (w : World) → Good s names w → Good s names (history s names ops w)
+good-history : (s : RetrySettings) (names : Names) (ops : List Operation) (w : World) → Good s names w → Good s names (history s names ops w)
 unfolding history
 good-history s names [] w g = g
 good-history s names (op ∷ ops) w g = good-history s names ops (worldAfter s names op w) (good-next s names op w g)
 
-good-start : (s : Settings) (names : Names) (table : List Retained) (last : ℕ) → FreeTable table → Good s names (start table last)
+good-start : (s : RetrySettings) (names : Names) (table : List Retained) (last : ℕ) → FreeTable table → Good s names (start table last)
 good-start s names table last f = record {
   sixteen = f .sixteen;
   bound = omega arith;
@@ -38,7 +38,7 @@ good-start s names table last f = record {
   status = gone refl (λ p l. free-is names (recordAt table p) (f .free p (subst (λ (k : ℕ). p < k) (f .sixteen) l)));
 }
 
-ended : (s : Settings) (names : Names) (w : World) → Good s names w → Ended s names w
+ended : (s : RetrySettings) (names : Names) (w : World) → Good s names w → Ended s names w
 ended s names w g = record {
   sent-at-most = g .bound;
   moments-end = λ h. fates (w .life .fate) refl (over h (g .status));

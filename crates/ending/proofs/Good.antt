@@ -7,7 +7,7 @@ use lib.ListN.{length, set, length-set}
 use Rattle.retained.specs.declared.Names.{Names}
 use Rattle.retained.specs.declared.Retained.{Retained}
 use Rattle.retained.specs.Table.{tableSize}
-use Rattle.ending.specs.History.{Fate, NotYet, Waiting, Lost, Arrived, Settings, Life, World}
+use Rattle.ending.specs.History.{Fate, NotYet, Waiting, Lost, Arrived, RetrySettings, Life, World}
 use Rattle.ending.proofs.Holding.{Status}
 
 abbrev pub isLost : Fate → Bool
@@ -16,7 +16,7 @@ isLost Waiting = false
 isLost Lost = true
 isLost Arrived = false
 
-pub record Good (s : Settings) (names : Names) (w : World) : Type 0 where
+pub record Good (s : RetrySettings) (names : Names) (w : World) : Type 0 where
   pub sixteen : length (w .table) ≡ tableSize
   pub bound : w .life .sent ≤ s .tries
   pub exact : isLost (w .life .fate) ≡ true → w .life .sent ≡ s .tries
@@ -25,7 +25,7 @@ pub record Good (s : Settings) (names : Names) (w : World) : Type 0 where
 abbrev pub world : List Retained → ℕ → Life → World
 world table last life = record { table = table; last = last; life = life }
 
-module _ {s : Settings} {names : Names} {table : List Retained} {last : ℕ} {life : Life} (g : Good s names (world table last life)) where
+module _ {s : RetrySettings} {names : Names} {table : List Retained} {last : ℕ} {life : Life} (g : Good s names (world table last life)) where
   pub sized : (i : ℕ) (r : Retained) → length (set table i r) ≡ tableSize
   sized i r = length-set table i r ∙ g .sixteen
 

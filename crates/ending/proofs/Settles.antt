@@ -15,7 +15,7 @@ use Rattle.retained.specs.declared.Names.{Names}
 use Rattle.retained.specs.declared.Retained.{Retained}
 use Rattle.retained.specs.Records.{recordLimit, isUsed, isDue, pduOf, namesOf, sentRecord, freedRecord}
 use Rattle.retained.specs.Table.{tableSize, has, recordAt, due, isSpent, stepped, numberAlone, did, sent, failed, stepNumber, retryStep, tableStepped}
-use Rattle.ending.specs.History.{Settings, StepAt, World, noneDue, worldAfter, history}
+use Rattle.ending.specs.History.{RetrySettings, StepAt, World, noneDue, worldAfter, history}
 use Rattle.ending.specs.Ending.{stepsAt, Settling}
 use Rattle.ending.proofs.First.{by-cases, has-hit, has-none}
 use Rattle.ending.proofs.Facts.{freed-free, due-used}
@@ -63,7 +63,7 @@ last-false true false = refl
 last-false false b = refl
 
 -- a step at a moment, with room: the first due record is stepped; nothing where there is none
-module _ (s : Settings) (now : ℕ) (room : recordLimit ≤ s .room) where
+module _ (s : RetrySettings) (now : ℕ) (room : recordLimit ≤ s .room) where
   abbrev dueAt : Retained → Bool
   dueAt = isDue now (s .delay)
 

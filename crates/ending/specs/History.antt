@@ -12,7 +12,7 @@ use Rattle.answering.specs.declared.Sending.{Sending}
 use Rattle.answering.specs.Delivered.{acknowledge, tableAcknowledged}
 
 -- the settings, fixed throughout: retry delay in seconds, how often a PDU is sent again, room in the output
-pub record Settings : Type 0 where
+pub record RetrySettings : Type 0 where
   pub delay : ℕ
   pub tries : ℕ
   pub room : ℕ
@@ -24,12 +24,12 @@ pub data Operation : Type 0 where
   StepAt : (now : ℕ) → Operation
 
 -- what it answers, and the table after it
-abbrev pub outcomeOf : Settings → List Retained → ℕ → Operation → Outcome
+abbrev pub outcomeOf : RetrySettings → List Retained → ℕ → Operation → Outcome
 outcomeOf s table last (RetainAt now bytes) = retain table last now bytes
 outcomeOf s table last (HearPdu delivery sending room received) = acknowledge table last delivery sending room received
 outcomeOf s table last (StepAt now) = retryStep table last now (s .delay) (s .tries) (s .room)
 
-abbrev pub tableAfter : Settings → List Retained → ℕ → Operation → List Retained
+abbrev pub tableAfter : RetrySettings → List Retained → ℕ → Operation → List Retained
 tableAfter s table last (RetainAt now bytes) = tableRetained table last now bytes
 tableAfter s table last (HearPdu delivery sending room received) = tableAcknowledged table delivery sending room received
 tableAfter s table last (StepAt now) = tableStepped table last now (s .delay) (s .tries) (s .room)
@@ -82,7 +82,7 @@ pub record World : Type 0 where
   pub last : ℕ
   pub life : Life
 
-unfoldable pub worldAfter : Settings → Names → Operation → World → World
+unfoldable pub worldAfter : RetrySettings → Names → Operation → World → World
 worldAfter s names op w =
     record {
       table = tableAfter s (w .table) (w .last) op;
@@ -90,7 +90,7 @@ worldAfter s names op w =
       life = watch (s .delay) names op (outcomeOf s (w .table) (w .last) op) (w .life);
     }
 
-unfoldable pub history : Settings → Names → List Operation → World → World
+unfoldable pub history : RetrySettings → Names → List Operation → World → World
 history s names [] w = w
 history s names (op ∷ ops) w = history s names ops (worldAfter s names op w)
 

@@ -27,7 +27,7 @@ use Rattle.answering.specs.declared.Sending.{Sending}
 use Rattle.answering.specs.Delivered.{isAnswered, isAcknowledgement, ackHeader, acknowledgement, answered}
 use Rattle.answering.specs.Delivered.{acknowledge, tableAcknowledged, outputAcknowledged}
 use Rattle.ending.specs.First.{FirstAt, Nowhere}
-use Rattle.ending.specs.History.{Settings, RetainAt, HearPdu, StepAt, Waiting, Lost, Arrived, history, start}
+use Rattle.ending.specs.History.{RetrySettings, RetainAt, HearPdu, StepAt, Waiting, Lost, Arrived, history, start}
 use Rattle.ending.specs.Ending.{Statement, enough, Settling}
 use Rattle.flood.specs.Flood.{Reception, others, Bounded}
 use Rattle.flood.specs.Air.{Repeater, Nodes, Begins, Originated, address, pathOf, hopOf, onTheAir}
@@ -93,7 +93,7 @@ abbrev pub full : List Retained
 full = replicate 16 (retainedRecord 10 command)
 
 -- delay 5, two more sendings
-abbrev pub twoTries : Settings
+abbrev pub twoTries : RetrySettings
 twoTries = record { delay = 5; tries = 2; room = 256 }
 
 pub record ReliableMessages : Type 0 where
