@@ -22,7 +22,7 @@ use Rattle.editions.specs.declared.EditionReading.{EditionReading}
 use Rattle.editions.specs.declared.EditionReading.the-variants as edition-reading
 use Rattle.editions.specs.Editions.{shownWith, wireOf}
 use Rattle.lists.specs.Lists.{valueLimit}
-use Rattle.origin.specs.declared.Settings as origin
+use Rattle.origin.specs.declared.FreshSettings.{FreshSettings}
 use Rattle.node.specs.declared.Answer.{Answer}
 use Rattle.node.specs.Answers.{twice}
 use Rattle.batch.specs.declared.Cursor.{Cursor}
@@ -135,7 +135,7 @@ pathHas (Pdu header) bytes address = inPath address (pathIn header bytes)
 pathHas (Refused refusal) bytes address = false
 
 -- the settings of a fresh PDU, field by field ("Origination"; document 02, W-209)
-abbrev pub freshFromC : MantFresh → origin.Settings
+abbrev pub freshFromC : MantFresh → FreshSettings
 freshFromC settings =
     record {
       edition = settings .edition;

@@ -31,10 +31,10 @@ fn destination_from_c(present: bool, address: u16) -> Destination
 }
 
 // What C asks of a fresh PDU, as origination takes it. An address without its flag does not count. Document 01, "Origination"; document 02, W-209.
-pub fn fresh_from_c(settings: MantFresh) -> origin::Settings
+pub fn fresh_from_c(settings: MantFresh) -> origin::FreshSettings
     ensures { λ r. ⌜ r ≡ freshFromC settings ⌝ }
 {
-    origin::Settings {
+    origin::FreshSettings {
         edition: settings.edition,
         source: settings.source,
         destination: destination_from_c(settings.has_destination, settings.destination),

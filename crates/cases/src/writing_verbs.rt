@@ -97,8 +97,8 @@ fn node_of(line: Line) -> Settings {
     }
 }
 
-fn origin_of(line: Line) -> origin::Settings {
-    origin::Settings {
+fn origin_of(line: Line) -> origin::FreshSettings {
+    origin::FreshSettings {
         edition: 12,
         source: (line.asked(0) % 65536) as u16,
         destination: destination_of(line),

@@ -16,7 +16,7 @@ use Rattle.lists.specs.Lists.{listsOf}
 use Rattle.node.specs.declared.Answer.{Answer}
 use Rattle.decision.specs.Decision.{Node}
 use Rattle.node.specs.Answers.{delivered, answerOf, twice, outputAfter}
-use Rattle.origin.specs.declared.Settings as asked
+use Rattle.origin.specs.declared.FreshSettings.{FreshSettings}
 use Rattle.origin.specs.Origination.{fresh, originated}
 
 -- the example of document 002
@@ -26,7 +26,7 @@ example =
     ∷ 0x22 ∷ 0x02 ∷ 0x76 ∷ []
 
 -- settings that ask for a hop limit, and nothing else out of the way: source 5, port 0, best efforts to everyone, no path, no time stamp
-abbrev pub asking : ℕ → asked.Settings
+abbrev pub asking : ℕ → FreshSettings
 asking hop =
     record {
       edition = 12;

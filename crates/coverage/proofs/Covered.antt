@@ -12,7 +12,7 @@ use Rattle.pdu.specs.Header.{headerOf, sourceOf}
 use Rattle.pdu.specs.Parts.{payloadIn}
 use Rattle.chains.specs.Chains.{Chain, Shortest}
 use Rattle.chains.proofs.Steps.{chain-is-none}
-use Rattle.origin.specs.declared.Settings.{Settings}
+use Rattle.origin.specs.declared.FreshSettings.{FreshSettings}
 use Rattle.origin.specs.Origination.{freshHeader, fresh}
 use Rattle.origin.proofs.ReadBack.{fresh-back}
 use Rattle.flood.specs.Air.{Repeater, Open, Begins, address, hopOf}
@@ -26,7 +26,7 @@ use Rattle.coverage.proofs.Chaining.{shortest-of}
 use Rattle.coverage.proofs.Reach.{reached, delivered-chain, delivered-few, delivered-other}
 use Rattle.coverage.proofs.Schedule.{taken-exists}
 
-module _ (hears : ℕ → ℕ → Bool) (nodes : List Repeater) (settings : Settings) (payload : List ℕ) (room : ℕ)
+module _ (hears : ℕ → ℕ → Bool) (nodes : List Repeater) (settings : FreshSettings) (payload : List ℕ) (room : ℕ)
     (plan : Planned nodes settings payload room) where
   abbrev first : List ℕ
   first = fresh settings payload

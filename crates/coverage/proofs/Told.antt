@@ -16,7 +16,7 @@ use Rattle.chains.specs.Chains.{Shortest, Unreached}
 use Rattle.chains.specs.Lengths.{isHeard, placesOfNodes, noChain, Tells, Found}
 use Rattle.chains.specs.Reach.{isDelivered}
 use Rattle.chains.proofs.Steps.{chain-none, chain-is-none, shortest-one}
-use Rattle.origin.specs.declared.Settings.{Settings}
+use Rattle.origin.specs.declared.FreshSettings.{FreshSettings}
 use Rattle.origin.specs.Origination.{fresh}
 use Rattle.flood.specs.Air.{Repeater, address}
 use Rattle.flood.specs.Flood.{Reception}
@@ -43,7 +43,7 @@ missed-when h value e some-hearing chain =
     let told : isDelivered h value ≡ true = rw (lt-ltb 0 value some-hearing, le-leb value (h + 1) (omega arith), lt-ltb value noChain chain) in
     absurd (false≢true (sym e ∙ told)))
 
-module _ (hears : ℕ → ℕ → Bool) (nodes : List Repeater) (settings : Settings) (payload : List ℕ) (room : ℕ)
+module _ (hears : ℕ → ℕ → Bool) (nodes : List Repeater) (settings : FreshSettings) (payload : List ℕ) (room : ℕ)
     (plan : Planned nodes settings payload room) (receptions : List Reception) (taken : Taken hears nodes (fresh settings payload) receptions)
     (only : ByNoOther hears nodes (fresh settings payload) receptions)
     (pairs : List ℕ) (says : Says pairs hears nodes) (from : ℕ) (from-at : getElem? (map address nodes) from ≡ some (settings .source)) where

@@ -9,7 +9,7 @@ use Rattle.pdu.specs.declared.Destination.the-variants.{Everyone}
 use Rattle.pdu.specs.Header.{headerOf}
 use Rattle.pdu.specs.Parts.{inPath}
 use Rattle.lists.specs.Lists.{listsOf}
-use Rattle.origin.specs.declared.Settings as asked
+use Rattle.origin.specs.declared.FreshSettings.{FreshSettings}
 use Rattle.origin.specs.Origination.{fresh}
 use Rattle.decision.specs.Decision.{nodeOf}
 use Rattle.node.specs.Answers.{answerOf}
@@ -17,7 +17,7 @@ use Rattle.flood.specs.Air.{Repeater, address, onTheAir}
 use Rattle.flood.specs.Flood.{Reception}
 
 -- a report of source 1000 for everyone, with the path bit, of that hop limit, and its one byte of payload
-abbrev pub reportAsked : ℕ → asked.Settings
+abbrev pub reportAsked : ℕ → FreshSettings
 reportAsked hop =
     record {
       edition = 12;

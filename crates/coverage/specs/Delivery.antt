@@ -6,7 +6,7 @@ use Prim.Native.Nat.{ℕ, _+_, _*_, _≤_}
 use lib.ListN.{length, take, drop, getElem?}
 use Rattle.pdu.specs.declared.Destination.the-variants.{Everyone}
 use Rattle.pdu.specs.Header.{headerOf}
-use Rattle.origin.specs.declared.Settings as asked
+use Rattle.origin.specs.declared.FreshSettings.{FreshSettings}
 use Rattle.origin.specs.Origination.{fresh}
 use Rattle.node.specs.Answers.{answerOf}
 use Rattle.flood.specs.Air.{Repeater, Nodes, Open, Originated, address, sends, onTheAir}
@@ -15,7 +15,7 @@ use Rattle.flood.specs.Flood.{Reception, others}
 
 -- A fresh message with path, no destination and hop limit 0 to 6, among the originator and the other nodes: different addresses, echo on; the others
 -- with repeating on, all lists off and without fault, and room for the longest repeat, which is the message with an address more for each hop.
-pub record Planned (nodes : List Repeater) (settings : asked.Settings) (payload : List ℕ) (room : ℕ) : Type 0 where
+pub record Planned (nodes : List Repeater) (settings : FreshSettings) (payload : List ℕ) (room : ℕ) : Type 0 where
   pub originated : Originated settings payload room
   pub no-destination : settings .destination ≡ Everyone
   pub hops : settings .«hop_limit» ≤ 6

@@ -5,14 +5,14 @@ use mathlib.Core.Logic.{_≢_}
 use mathlib.Core.Path.{_≡_}
 use Prim.Native.Nat.{ℕ, _+_, _-_, _≤_}
 use Rattle.chains.specs.Chains.{Chain, Shortest, Beyond}
-use Rattle.origin.specs.declared.Settings as asked
+use Rattle.origin.specs.declared.FreshSettings.{FreshSettings}
 use Rattle.origin.specs.Origination.{fresh}
 use Rattle.flood.specs.Air.{Repeater, address}
 use Rattle.flood.specs.Flood.{Reception}
 use Rattle.coverage.specs.Hearing.{ByNoOther}
 use Rattle.coverage.specs.Delivery.{Delivered}
 
-pub record Reach (hears : ℕ → ℕ → Bool) (nodes : List Repeater) (settings : asked.Settings) (payload : List ℕ) (receptions : List Reception)
+pub record Reach (hears : ℕ → ℕ → Bool) (nodes : List Repeater) (settings : FreshSettings) (payload : List ℕ) (receptions : List Reception)
     : Type 0 where
   -- each node other than the originator that is reached from it by a chain of at most h + 1 hearings is delivered the payload, in a transmission whose
   -- path count is one less than its shortest chain

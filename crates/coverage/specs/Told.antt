@@ -8,7 +8,7 @@ use lib.ListN.{length, getElem?}
 use Rattle.octets.specs.Octets.{at}
 use Rattle.chains.specs.Lengths.{isHeard}
 use Rattle.chains.specs.Reach.{isDelivered}
-use Rattle.origin.specs.declared.Settings as asked
+use Rattle.origin.specs.declared.FreshSettings.{FreshSettings}
 use Rattle.origin.specs.Origination.{fresh}
 use Rattle.flood.specs.Air.{Repeater, address}
 use Rattle.flood.specs.Flood.{Reception}
@@ -20,7 +20,7 @@ Says pairs hears nodes =
     (i j : ℕ) → i < length nodes → j < length nodes → isHeard pairs i j ≡ hears (at (map address nodes) i) (at (map address nodes) j)
 
 -- by the lengths, a byte for each node, a node is delivered the payload, and with which path count, or is not
-pub record Told (nodes : List Repeater) (settings : asked.Settings) (payload : List ℕ) (receptions : List Reception) (lengths : List ℕ) : Type 0 where
+pub record Told (nodes : List Repeater) (settings : FreshSettings) (payload : List ℕ) (receptions : List Reception) (lengths : List ℕ) : Type 0 where
   pub delivered : (place : ℕ) (n : Repeater) → getElem? nodes place ≡ some n → isDelivered (settings .«hop_limit») (at lengths place) ≡ true
       → Delivered nodes (fresh settings payload) receptions n payload (at lengths place - 1)
   pub not-delivered : (place : ℕ) (n : Repeater) → getElem? nodes place ≡ some n → isDelivered (settings .«hop_limit») (at lengths place) ≡ false

@@ -18,7 +18,7 @@ use Rattle.pdu.specs.Reading.{readOf}
 use Rattle.pdu.specs.Parts.{pathIn, payloadIn}
 use Rattle.writing.specs.Writing.{encode, writtenOf, outputOf, writeAgain, writtenAgain}
 use Rattle.editions.specs.Editions.{known}
-use Rattle.origin.specs.declared.Settings as asked
+use Rattle.origin.specs.declared.FreshSettings.{FreshSettings}
 use Rattle.origin.specs.Origination.{settingsFault, originationNumber, originated, originatedOutput}
 use Rattle.decision.specs.Decision.{Node, repeatFault}
 use Rattle.node.specs.Repeat.{repeatedHeader, repeated}
@@ -81,7 +81,7 @@ step-as-was node batch cursor output ne = go (isTooLong batch) (isDone batch cur
     go false true n = refl
     go false false n = node-as-was node (drop (cursor .place) batch) output (n _ _ refl)
 
-too-many-hops : (settings : asked.Settings) (payload output : List ℕ) → 7 < settings .«hop_limit»
+too-many-hops : (settings : FreshSettings) (payload output : List ℕ) → 7 < settings .«hop_limit»
     → (originated settings payload (length output) ≡ record { number = cond (known (settings .edition)) 10 17; length = 0 })
     × (originatedOutput settings payload output ≡ output)
 unfolding originated originatedOutput

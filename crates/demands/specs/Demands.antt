@@ -16,7 +16,7 @@ use Rattle.pdu.specs.Reading.{readOf}
 use Rattle.pdu.specs.Parts.{pathIn, payloadIn}
 use Rattle.writing.specs.Writing.{encode, writeAgain, writtenAgain, WellFormed}
 use Rattle.editions.specs.Editions.{known}
-use Rattle.origin.specs.declared.Settings as asked
+use Rattle.origin.specs.declared.FreshSettings.{FreshSettings}
 use Rattle.origin.specs.Origination.{freshHeader, fresh, originationNumber, originated, originatedOutput}
 use Rattle.node.specs.declared.Answer.{Answer}
 use Rattle.decision.specs.Decision.{Node}
@@ -35,11 +35,11 @@ use Rattle.flood.specs.Air.{Repeater, Nodes, Open, Originated, address, sends, 
 pub record Demand1 : Type 0 where
   -- a hop setting above 7 is refused, whatever else is set, with nothing written: with 10 under the editions that there are, else with 17 (document 02,
   -- W-209)
-  pub hop-refused : (settings : asked.Settings) (payload output : List ℕ) → 7 < settings .«hop_limit»
+  pub hop-refused : (settings : FreshSettings) (payload output : List ℕ) → 7 < settings .«hop_limit»
       → (originated settings payload (length output) ≡ record { number = cond (known (settings .edition)) 10 17; length = 0 })
       × (originatedOutput settings payload output ≡ output)
   -- with a number other than 0 no output is touched: at origination, in writing again, at a node, in a step of the walk
-  pub origination-untouched : (settings : asked.Settings) (payload output : List ℕ) → (originationNumber settings payload (length output) ≡ 0 → ⊥)
+  pub origination-untouched : (settings : FreshSettings) (payload output : List ℕ) → (originationNumber settings payload (length output) ≡ 0 → ⊥)
       → originatedOutput settings payload output ≡ output
   pub writing-untouched : (bytes output : List ℕ) → (writeAgain bytes (length output) .number ≡ 0 → ⊥) → writtenAgain bytes output ≡ output
   pub node-untouched : (node : Node) (received output : List ℕ) → (repeatNumber node (length output) received ≡ 0 → ⊥)
@@ -59,7 +59,7 @@ pub record Demand2 : Type 0 where
       → (readOf (encode header path payload ++ rest) ≡ Pdu header) × (pathIn header (encode header path payload ++ rest) ≡ path)
       × (payloadIn header (encode header path payload ++ rest) ≡ payload)
   -- and so does what was originated, as it was set
-  pub fresh-reads-back : (settings : asked.Settings) (payload rest : List ℕ) (room : ℕ) → originationNumber settings payload room ≡ 0
+  pub fresh-reads-back : (settings : FreshSettings) (payload rest : List ℕ) (room : ℕ) → originationNumber settings payload room ≡ 0
       → (readOf (fresh settings payload ++ rest) ≡ Pdu (freshHeader settings (length payload)))
       × (pathIn (freshHeader settings (length payload)) (fresh settings payload ++ rest) ≡ [])
       × (payloadIn (freshHeader settings (length payload)) (fresh settings payload ++ rest) ≡ payload)
@@ -92,17 +92,17 @@ pub record Demand2 : Type 0 where
 -- and room, the originator among them or not; any message that origination wrote with a path; any receptions of transmissions already made, by the
 -- originator too, none twice. N is the number of the others, the nodes whose address is not the source.
 pub record Demand3 : Type 0 where
-  pub bounded : (nodes : List Repeater) → Nodes nodes → (settings : asked.Settings) (payload : List ℕ) (room : ℕ) → Originated settings payload room
+  pub bounded : (nodes : List Repeater) → Nodes nodes → (settings : FreshSettings) (payload : List ℕ) (room : ℕ) → Originated settings payload room
       → (receptions : List Reception) → List·Nodup receptions
       → Bounded address pathOf (others address (settings .source) nodes) (settings .«hop_limit») (onTheAir nodes (fresh settings payload) receptions)
   -- the bytes on the air
-  pub bytes-bounded : (nodes : List Repeater) → Nodes nodes → (settings : asked.Settings) (payload : List ℕ) (room : ℕ)
+  pub bytes-bounded : (nodes : List Repeater) → Nodes nodes → (settings : FreshSettings) (payload : List ℕ) (room : ℕ)
       → Originated settings payload room
       → (receptions : List Reception) → List·Nodup receptions
       → bytesOnTheAir nodes (fresh settings payload) receptions
       ≤ bytesBound (length (others address (settings .source) nodes)) (settings .«hop_limit») (length (fresh settings payload))
   -- both are exact where each of the others repeats what it may and has room, every node hears every transmission, and the message is for everyone
-  pub reached : (nodes : List Repeater) → Nodes nodes → (settings : asked.Settings) (payload : List ℕ) (room : ℕ) → Originated settings payload room
+  pub reached : (nodes : List Repeater) → Nodes nodes → (settings : FreshSettings) (payload : List ℕ) (room : ℕ) → Originated settings payload room
       → let counted = others address (settings .source) nodes in
       ((n : Repeater) → List·Memᴰ n counted → Open (n .node))
       → ((n : Repeater) → List·Memᴰ n counted → length (fresh settings payload) + 2 * terms (length counted) (settings .«hop_limit») ≤ n .room)
@@ -114,7 +114,7 @@ pub record Demand3 : Type 0 where
   -- the bound's values that 01 checks by hand
   pub values : (bound 3 2 ≡ 10) × (bound 3 6 ≡ 16) × (bound 3 7 ≡ 16) × ((n : ℕ) → bound n 0 ≡ 1) × ((h : ℕ) → bound 0 h ≡ 1)
   -- receptions by which each node hears each transmission exist
-  pub schedule : (nodes : List Repeater) → Nodes nodes → (settings : asked.Settings) (payload : List ℕ) (room : ℕ)
+  pub schedule : (nodes : List Repeater) → Nodes nodes → (settings : FreshSettings) (payload : List ℕ) (room : ℕ)
       → Originated settings payload room
       → (receptions : List Reception) × List·Nodup receptions × Complete sends nodes (fresh settings payload ∷ []) receptions
   -- and of whatever else begins a flood, as an originated message does
@@ -122,7 +122,7 @@ pub record Demand3 : Type 0 where
       → (receptions : List Reception) → List·Nodup receptions
       → Bounded address pathOf (others address (sourceOf first) nodes) (hopOf first) (onTheAir nodes first receptions)
       × (bytesOnTheAir nodes first receptions ≤ bytesBound (length (others address (sourceOf first) nodes)) (hopOf first) (length first))
-  pub originated-begins : (settings : asked.Settings) (payload : List ℕ) (room : ℕ) → Originated settings payload room
+  pub originated-begins : (settings : FreshSettings) (payload : List ℕ) (room : ℕ) → Originated settings payload room
       → Begins (fresh settings payload) × (sourceOf (fresh settings payload) ≡ settings .source) × (hopOf (fresh settings payload) ≡ settings .«hop_limit»)
   -- what a node of the model sends is what `hear` leaves at the start of its output; where it sends nothing, `hear` repeats nothing
   pub sent-is-left : (n : Repeater) (received output sent : List ℕ) → length output ≡ n .room → sends n received ≡ some sent

@@ -8,7 +8,7 @@ use lib.ListN.{length}
 use Rattle.pdu.specs.Header.{headerOf, sourceOf}
 use Rattle.pdu.proofs.Exact.{exact}
 use Rattle.bound.specs.Bound.{bytesBound}
-use Rattle.origin.specs.declared.Settings.{Settings}
+use Rattle.origin.specs.declared.FreshSettings.{FreshSettings}
 use Rattle.origin.specs.Origination.{fresh}
 use Rattle.flood.specs.Air.{Repeater, address, sends, pathOf, hopOf, onTheAir, bytesOnTheAir, Nodes, Begins, Originated}
 use Rattle.flood.specs.Complete.{Complete}
@@ -65,7 +65,7 @@ module _ (nodes : List Repeater) (all : Nodes nodes) (first : List ℕ) (begins 
     begun-bytes = flood-bytes sends address (sourceOf first) (Sound first) pathOf hopOf nodes first network receptions once length (λ t s. s .longer)
 
 -- Any message that origination takes with the path bit. The hop limit h is the hop setting that origination was given.
-module _ (nodes : List Repeater) (all : Nodes nodes) (settings : Settings) (payload : List ℕ) (room : ℕ)
+module _ (nodes : List Repeater) (all : Nodes nodes) (settings : FreshSettings) (payload : List ℕ) (room : ℕ)
     (message : Originated settings payload room) where
   begins : Begins (fresh settings payload)
   begins = originated-begins settings payload room message

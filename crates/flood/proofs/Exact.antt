@@ -21,7 +21,7 @@ use Rattle.pdu.proofs.Exact.{exact}
 use Rattle.pdu.proofs.Paths.{length-addresses}
 use Rattle.bound.specs.Bound.{bound, bytesBound, terms}
 use Rattle.bound.proofs.Series.{terms-le, terms-below}
-use Rattle.origin.specs.declared.Settings.{Settings}
+use Rattle.origin.specs.declared.FreshSettings.{FreshSettings}
 use Rattle.origin.specs.Origination.{freshHeader, fresh, originationNumber}
 use Rattle.origin.proofs.Deciding.{accepted}
 use Rattle.origin.proofs.ReadBack.{length-fresh}
@@ -107,7 +107,7 @@ begun-longest first n begins fits =
       begins .all-bytes 3,
     )
 
-pub longest : (settings : Settings) (payload : List ℕ) (room n : ℕ) → originationNumber settings payload room ≡ 0
+pub longest : (settings : FreshSettings) (payload : List ℕ) (room n : ℕ) → originationNumber settings payload room ≡ 0
     → (n ≤ pathLimit) ⊎ (settings .«hop_limit» < 7) → length (fresh settings payload) + 2 * terms n (settings .«hop_limit») ≤ pduLimit
 unfolding freshHeader
 longest settings payload room n taken fits =
@@ -168,7 +168,7 @@ module _ (nodes : List Repeater) (all : Nodes nodes) (first : List ℕ) (begins 
       (receptions, once, begun-reached receptions once complete, begun-reached-bytes receptions once complete)
 
 -- The same of a message with the path bit that origination takes.
-module _ (nodes : List Repeater) (all : Nodes nodes) (settings : Settings) (payload : List ℕ) (room : ℕ) (message : Originated settings payload room)
+module _ (nodes : List Repeater) (all : Nodes nodes) (settings : FreshSettings) (payload : List ℕ) (room : ℕ) (message : Originated settings payload room)
     (free : (n : Repeater) → List·Memᴰ n (others address (settings .source) nodes) → Open (n .node))
     (roomy : (n : Repeater) → List·Memᴰ n (others address (settings .source) nodes)
     → length (fresh settings payload) + 2 * terms (length (others address (settings .source) nodes)) (settings .«hop_limit») ≤ n .room)

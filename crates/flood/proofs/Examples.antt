@@ -17,7 +17,7 @@ use Rattle.pdu.specs.Parts.{addressesAt, inPath}
 use Rattle.writing.specs.Writing.{headerBytes, pathBytes, encode}
 use Rattle.lists.specs.Lists.{listsOf, lowAboveHigh, faultOf, firstFault}
 use Rattle.bound.specs.Bound.{fallingProduct, series, terms, bound, bytesBound}
-use Rattle.origin.specs.declared.Settings.{Settings}
+use Rattle.origin.specs.declared.FreshSettings.{FreshSettings}
 use Rattle.origin.specs.Origination.{freshHeader, fresh, settingsFault, originationNumber}
 use Rattle.decision.specs.Decision.{nodeOf, echoFault, passFault, dropFault, repeatFault}
 use Rattle.node.specs.Repeat.{repeated}
@@ -48,7 +48,7 @@ plain echo own =
     }
 
 -- a message for everyone with one byte of payload
-abbrev pub asked : Bool → ℕ → Settings
+abbrev pub asked : Bool → ℕ → FreshSettings
 asked path hop =
     record {
       edition = 12;

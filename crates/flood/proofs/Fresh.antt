@@ -22,7 +22,7 @@ use Rattle.pdu.proofs.Exact.{is-exact}
 use Rattle.pdu.proofs.Showing.{destination-small}
 use Rattle.octets.proofs.Words.{bytes-none, bytes-more, bytes-joined, bytes-word, bytes-four}
 use Rattle.octets.proofs.Tests.{flag-small}
-use Rattle.origin.specs.declared.Settings.{Settings}
+use Rattle.origin.specs.declared.FreshSettings.{FreshSettings}
 use Rattle.origin.specs.Origination.{freshHeader, fresh}
 use Rattle.origin.proofs.Deciding.{Accepted, accepted}
 use Rattle.origin.proofs.ReadBack.{length-fresh, fresh-back}
@@ -41,7 +41,7 @@ either-small : (reliable : Bool) (id : ℕ) → id < 256 → cond reliable id 0 
 either-small true id h = h
 either-small false id h = omega arith
 
-module _ (settings : Settings) (payload : List ℕ) (room : ℕ) (message : Originated settings payload room) where
+module _ (settings : FreshSettings) (payload : List ℕ) (room : ℕ) (message : Originated settings payload room) where
   takes : Accepted settings payload room
   takes = accepted settings payload room (message .taken)
 

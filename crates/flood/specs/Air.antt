@@ -12,7 +12,7 @@ use Rattle.pdu.specs.Header.{headerOf}
 use Rattle.pdu.specs.Reading.{exactlyOne}
 use Rattle.pdu.specs.Parts.{pathIn}
 use Rattle.lists.specs.Lists.{listFault}
-use Rattle.origin.specs.declared.Settings as asked
+use Rattle.origin.specs.declared.FreshSettings.{FreshSettings}
 use Rattle.origin.specs.Origination.{originationNumber}
 use Rattle.decision.specs.Decision.{Node}
 use Rattle.node.specs.Repeat.{repeated}
@@ -72,7 +72,7 @@ pub record Begins (first : List ℕ) : Type 0 where
   pub path-empty : pathOf first ≡ []
 
 -- Demand 3's message: settings that origination takes, with the path bit; bytes, addresses and the PDU ID within their bits.
-pub record Originated (settings : asked.Settings) (payload : List ℕ) (room : ℕ) : Type 0 where
+pub record Originated (settings : FreshSettings) (payload : List ℕ) (room : ℕ) : Type 0 where
   pub taken : originationNumber settings payload room ≡ 0
   pub with-path : settings .«with_path» ≡ true
   pub source-fits : settings .source < 65536

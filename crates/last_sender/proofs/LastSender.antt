@@ -22,7 +22,7 @@ use Rattle.pdu.proofs.Exact.{front-path}
 use Rattle.pdu.proofs.Senders.{sender-unknown, sender-source, sender-at}
 use Rattle.editions.specs.declared.Shown.{Shown}
 use Rattle.editions.specs.Editions.{wireOf}
-use Rattle.origin.specs.declared.Settings as origin
+use Rattle.origin.specs.declared.FreshSettings.{FreshSettings}
 use Rattle.origin.specs.Origination.{freshHeader, fresh, originationNumber, originatedOutput}
 use Rattle.origin.proofs.ReadBack.{fresh-back, fresh-sender}
 use Rattle.lists.specs.Lists.{listFault, lowAboveHigh, faultOf, firstFault, holds}
@@ -75,12 +75,12 @@ of-the-pdu : (bytes rest : List ℕ) (header : Header) → readOf bytes ≡ Pdu 
 of-the-pdu bytes rest header read =
     ap (λ (path : List ℕ). cond (header .«path_bit») (Known (lastOr (header .source) path)) Unknown) (front-path bytes header read rest)
 
-written : (settings : origin.Settings) (payload output : List ℕ) → originationNumber settings payload (length output) ≡ 0
+written : (settings : FreshSettings) (payload output : List ℕ) → originationNumber settings payload (length output) ≡ 0
     → originatedOutput settings payload output ≡ fresh settings payload ++ drop (length (fresh settings payload)) output
 unfolding originatedOutput over
 written settings payload output done = rw done
 
-of-a-fresh : (settings : origin.Settings) (payload output : List ℕ) (installer : Node) (room : ℕ)
+of-a-fresh : (settings : FreshSettings) (payload output : List ℕ) (installer : Node) (room : ℕ)
     → originationNumber settings payload (length output) ≡ 0 → settings .«with_path» ≡ true → listFault (installer .lists) ≡ 0
     → answerOf installer room (originatedOutput settings payload output) .«last_sender» ≡ Known (settings .source)
 of-a-fresh settings payload output installer room done bit clean =

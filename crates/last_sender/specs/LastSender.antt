@@ -18,7 +18,7 @@ use Rattle.pdu.specs.Parts.{pathAddress, lastSender}
 use Rattle.editions.specs.declared.Shown.{Shown}
 use Rattle.editions.specs.declared.EditionReading.the-variants as edition-reading
 use Rattle.editions.specs.Editions.{wireOf}
-use Rattle.origin.specs.declared.Settings as origin
+use Rattle.origin.specs.declared.FreshSettings.{FreshSettings}
 use Rattle.origin.specs.Origination.{originationNumber, originatedOutput}
 use Rattle.lists.specs.Lists.{listFault}
 use Rattle.decision.specs.Decision.{Node}
@@ -84,7 +84,7 @@ pub record LastSender : Type 0 where
       → repeatNumber repeater (length output) received ≡ 0 → headerOf received .«path_bit» ≡ true → listFault (installer .lists) ≡ 0
       → answerOf installer room (outputAfter repeater received output) .«last_sender» ≡ Known (repeater .settings .own)
   -- and of a fresh PDU with a path, its source's
-  pub of-a-fresh : (settings : origin.Settings) (payload output : List ℕ) (installer : Node) (room : ℕ)
+  pub of-a-fresh : (settings : FreshSettings) (payload output : List ℕ) (installer : Node) (room : ℕ)
       → originationNumber settings payload (length output) ≡ 0 → settings .«with_path» ≡ true → listFault (installer .lists) ≡ 0
       → answerOf installer room (originatedOutput settings payload output) .«last_sender» ≡ Known (settings .source)
   -- III. BESIDE OTHER REQUESTS, AND IN C

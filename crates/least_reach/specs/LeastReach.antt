@@ -8,7 +8,7 @@ use lib.Dec.{eqb}
 use lib.ListN.{length, take, drop, getElem?}
 use Rattle.chains.specs.Chains.{ends}
 use Rattle.chains.specs.Lengths.{isHeard, Found}
-use Rattle.origin.specs.declared.Settings as asked
+use Rattle.origin.specs.declared.FreshSettings.{FreshSettings}
 use Rattle.origin.specs.Origination.{fresh}
 use Rattle.node.specs.declared.Answer.{Answer}
 use Rattle.node.specs.Repeat.{repeated}
@@ -26,15 +26,15 @@ use Rattle.coverage.specs.Cases.{twoWays, twoWaysAddresses, longerFirst}
 pub record LeastReach : Type 0 where
   -- I. WHAT 02 ASKS
   -- whoever hears whom, and in whatever order the receptions happen
-  pub reach : (hears : ℕ → ℕ → Bool) (nodes : List Repeater) (settings : asked.Settings) (payload : List ℕ) (room : ℕ)
+  pub reach : (hears : ℕ → ℕ → Bool) (nodes : List Repeater) (settings : FreshSettings) (payload : List ℕ) (room : ℕ)
       → Planned nodes settings payload room → (receptions : List Reception) → Taken hears nodes (fresh settings payload) receptions
       → Reach hears nodes settings payload receptions
   -- and such receptions exist
-  pub schedule : (hears : ℕ → ℕ → Bool) (nodes : List Repeater) (settings : asked.Settings) (payload : List ℕ) (room : ℕ)
+  pub schedule : (hears : ℕ → ℕ → Bool) (nodes : List Repeater) (settings : FreshSettings) (payload : List ℕ) (room : ℕ)
       → Planned nodes settings payload room → (receptions : List Reception) × Taken hears nodes (fresh settings payload) receptions
       × ByNoOther hears nodes (fresh settings payload) receptions
   -- the lengths that the function `find_lengths` leaves, of pairs that say by places who hears whom, say who is delivered it, and with which path count
-  pub told : (hears : ℕ → ℕ → Bool) (nodes : List Repeater) (settings : asked.Settings) (payload : List ℕ) (room : ℕ)
+  pub told : (hears : ℕ → ℕ → Bool) (nodes : List Repeater) (settings : FreshSettings) (payload : List ℕ) (room : ℕ)
       → Planned nodes settings payload room
       → (receptions : List Reception) → Taken hears nodes (fresh settings payload) receptions → ByNoOther hears nodes (fresh settings payload) receptions
       → (pairs : List ℕ) → Says pairs hears nodes → (from : ℕ) → getElem? (map address nodes) from ≡ some (settings .source)

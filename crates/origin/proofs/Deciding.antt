@@ -15,11 +15,11 @@ use Rattle.pdu.specs.declared.Destination.the-variants.{Everyone, Address}
 use Rattle.pdu.specs.declared.Written.{Written}
 use Rattle.pdu.specs.Sizes.{destinationFlag, pduLength}
 use Rattle.editions.specs.Editions.{known}
-use Rattle.origin.specs.declared.Settings.{Settings}
+use Rattle.origin.specs.declared.FreshSettings.{FreshSettings}
 use Rattle.origin.specs.Origination.{freshHeader, fresh, settingsFault, originationNumber, originated, originatedOutput}
 
 -- the room that the PDU takes
-abbrev pub enough : Settings → List ℕ → ℕ
+abbrev pub enough : FreshSettings → List ℕ → ℕ
 enough settings payload = pduLength (freshHeader settings (length payload))
 
 -- a test that failed though its first part holds
@@ -33,7 +33,7 @@ flag-one Everyone h = absurd (omega arith)
 flag-one (Address address) h = refl
 
 -- the tests one by one: each refusal where those above it do not hold
-module _ (settings : Settings) (payload : List ℕ) where
+module _ (settings : FreshSettings) (payload : List ℕ) where
   pub edition-refused : known (settings .edition) ≡ false → 17 ≡ settingsFault settings payload
   unfolding settingsFault _gives_ _orElse_
   edition-refused e = simp e
@@ -69,13 +69,13 @@ module _ (settings : Settings) (payload : List ℕ) where
             none-refused e = simp (named, le-ltb _ _ hop, le-ltb _ _ port, le-ltb _ _ short, ← addressed, ← e)
 
 -- settings and a payload without fault
-pub record Settled (settings : Settings) (payload : List ℕ) : Type 0 where
+pub record Settled (settings : FreshSettings) (payload : List ℕ) : Type 0 where
   pub hop : settings .«hop_limit» ≤ 7
   pub port : settings .port ≤ 15
   pub payload-limit : length payload ≤ 4095
   pub addressed : settings .reliable ≡ true → destinationFlag (settings .destination) ≡ 1
 
-pub settled : (settings : Settings) (payload : List ℕ) → settingsFault settings payload ≡ 0 → Settled settings payload
+pub settled : (settings : FreshSettings) (payload : List ℕ) → settingsFault settings payload ≡ 0 → Settled settings payload
 unfolding settingsFault
 settled settings payload e =
     let t0 = orElse-zero _ _ e in
@@ -92,14 +92,14 @@ settled settings payload e =
     }
 
 -- what origination takes: that, and an output with room for it
-pub record Accepted (settings : Settings) (payload : List ℕ) (room : ℕ) : Type 0 where
+pub record Accepted (settings : FreshSettings) (payload : List ℕ) (room : ℕ) : Type 0 where
   pub hop : settings .«hop_limit» ≤ 7
   pub port : settings .port ≤ 15
   pub payload-limit : length payload ≤ 4095
   pub addressed : settings .reliable ≡ true → destinationFlag (settings .destination) ≡ 1
   pub fits : pduLength (freshHeader settings (length payload)) ≤ room
 
-module _ (settings : Settings) (payload : List ℕ) (room : ℕ) where
+module _ (settings : FreshSettings) (payload : List ℕ) (room : ℕ) where
   pub accepted : originationNumber settings payload room ≡ 0 → Accepted settings payload room
   unfolding originationNumber
   accepted e =
@@ -126,7 +126,7 @@ module _ (settings : Settings) (payload : List ℕ) (room : ℕ) where
   not-refused e h = orElse-later _ _ e ∙ simp (le-ltb _ _ h)
 
 -- the answer and the output with a refusal, and without
-module _ (settings : Settings) (payload output : List ℕ) where
+module _ (settings : FreshSettings) (payload output : List ℕ) where
   pub refused : (number : ℕ) (answer : Written) → answer ≡ record { number = number; length = 0 }
       → originationNumber settings payload (length output) ≡ number → 0 < number
       → (answer ≡ originated settings payload (length output)) × (output ≡ originatedOutput settings payload output)

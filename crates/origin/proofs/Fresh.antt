@@ -13,11 +13,11 @@ use Rattle.pdu.specs.Sizes.{pathStart, pduLength}
 use Rattle.writing.specs.Writing.{pathBytes, encode, fieldFault, headerWritten, headerOutput}
 use Rattle.writing.proofs.Encoding.{header-begins, length-header}
 use Rattle.writing.proofs.Within.{all-within}
-use Rattle.origin.specs.declared.Settings.{Settings}
+use Rattle.origin.specs.declared.FreshSettings.{FreshSettings}
 use Rattle.origin.specs.Origination.{settingsFault, freshHeader, fresh, originated, originatedOutput}
 use Rattle.origin.proofs.Deciding.{enough, Accepted, accepted, not-refused, done}
 
-module _ {settings : Settings} {payload : List ℕ} {room : ℕ} (a : Accepted settings payload room) where
+module _ {settings : FreshSettings} {payload : List ℕ} {room : ℕ} (a : Accepted settings payload room) where
   pub fresh-within : fieldFault (freshHeader settings (length payload)) ≡ 0
   unfolding freshHeader
   fresh-within =
@@ -29,7 +29,7 @@ module _ {settings : Settings} {payload : List ℕ} {room : ℕ} (a : Accepted s
   fresh-room = omega (arith, a .fits)
 
 -- header and payload put one after the other, where nothing is refused
-module _ (settings : Settings) (payload output : List ℕ) (header : Header) (is : header ≡ freshHeader settings (length payload)) where
+module _ (settings : FreshSettings) (payload output : List ℕ) (header : Header) (is : header ≡ freshHeader settings (length payload)) where
   put-over : (begun now : List ℕ) (written : Written) → Accepted settings payload (length output)
       → (written ≡ headerWritten header (length output)) × (begun ≡ headerOutput header output) → now ≡ placed begun (written .length) payload
       → now ≡ over (fresh settings payload) output

@@ -17,7 +17,7 @@ use Rattle.pdu.specs.Parts.{pathIn, payloadIn, lastSender}
 use Rattle.pdu.proofs.Senders.{sender-empty}
 use Rattle.writing.specs.Writing.{WellFormed}
 use Rattle.writing.proofs.Back.{length-encode, read-encode, path-encode, payload-encode}
-use Rattle.origin.specs.declared.Settings.{Settings}
+use Rattle.origin.specs.declared.FreshSettings.{FreshSettings}
 use Rattle.origin.specs.Origination.{freshHeader, fresh, originationNumber, originatedOutput}
 use Rattle.origin.proofs.Deciding.{Accepted, accepted}
 
@@ -29,7 +29,7 @@ no-id : (reliable : Bool) (id : ℕ) → flag reliable ≡ 0 → cond reliable i
 no-id true id e = absurd (omega arith)
 no-id false id e = refl
 
-pub fresh-well-formed : {settings : Settings} {payload : List ℕ} {room : ℕ} → Accepted settings payload room
+pub fresh-well-formed : {settings : FreshSettings} {payload : List ℕ} {room : ℕ} → Accepted settings payload room
     → WellFormed (freshHeader settings (length payload)) [] payload
 unfolding freshHeader
 fresh-well-formed {settings} a =
@@ -47,12 +47,12 @@ fresh-well-formed {settings} a =
     }
 
 -- bytes that hold, at their start, the PDU asked for
-pub record Holds (settings : Settings) (payload bytes : List ℕ) : Type 0 where
+pub record Holds (settings : FreshSettings) (payload bytes : List ℕ) : Type 0 where
   pub reads : readOf bytes ≡ Pdu (freshHeader settings (length payload))
   pub no-path : pathIn (freshHeader settings (length payload)) bytes ≡ []
   pub carries : payloadIn (freshHeader settings (length payload)) bytes ≡ payload
 
-module _ (settings : Settings) (payload : List ℕ) (room : ℕ) (done : originationNumber settings payload room ≡ 0) where
+module _ (settings : FreshSettings) (payload : List ℕ) (room : ℕ) (done : originationNumber settings payload room ≡ 0) where
   pub length-fresh : length (fresh settings payload) ≡ pduLength (freshHeader settings (length payload))
   unfolding fresh
   length-fresh = length-encode (fresh-well-formed (accepted settings payload room done))
@@ -73,7 +73,7 @@ same-header : (a b : Header) → Pdu a ≡ Pdu b → a ≡ b
 same-header a b e = cc
 
 -- the hop limit on the air is the hop setting asked for
-pub hop-as-set : (settings : Settings) (payload : List ℕ) (room : ℕ) (rest : List ℕ) (header : Header) → originationNumber settings payload room ≡ 0
+pub hop-as-set : (settings : FreshSettings) (payload : List ℕ) (room : ℕ) (rest : List ℕ) (header : Header) → originationNumber settings payload room ≡ 0
     → readOf (fresh settings payload ++ rest) ≡ Pdu header → header .«hop_limit» ≡ settings .«hop_limit»
 unfolding freshHeader
 hop-as-set settings payload room rest header done shown =
@@ -81,7 +81,7 @@ hop-as-set settings payload room rest header done shown =
     rw same
 
 -- what the caller finds in the output
-pub output-back : (settings : Settings) (payload output : List ℕ) → originationNumber settings payload (length output) ≡ 0
+pub output-back : (settings : FreshSettings) (payload output : List ℕ) → originationNumber settings payload (length output) ≡ 0
     → Holds settings payload (originatedOutput settings payload output)
 unfolding originatedOutput over
 output-back settings payload output done = rw done (fresh-back settings payload (length output) done (drop (length (fresh settings payload)) output))

@@ -11,11 +11,11 @@ use Rattle.pdu.specs.declared.Written.{Written}
 use Rattle.pdu.specs.Sizes.{payloadLimit, destinationFlag, pduLength}
 use Rattle.writing.specs.Writing.{encode}
 use Rattle.editions.specs.Editions.{known}
-use Rattle.origin.specs.declared.Settings.{Settings}
+use Rattle.origin.specs.declared.FreshSettings.{FreshSettings}
 
 -- the header of a PDU just originated: version 0; reserved, ACK and added header 0; the rest as set; with the path bit, the count byte is 0; the PDU ID
 -- for reliable service only
-unfoldable pub freshHeader : Settings → ℕ → Header
+unfoldable pub freshHeader : FreshSettings → ℕ → Header
 freshHeader settings payloadLength =
     record {
       protocol = flag (settings .reliable);
@@ -35,11 +35,11 @@ freshHeader settings payloadLength =
     }
 
 -- a PDU just originated is called fresh
-unfoldable pub fresh : Settings → List ℕ → List ℕ
+unfoldable pub fresh : FreshSettings → List ℕ → List ℕ
 fresh settings payload = encode (freshHeader settings (length payload)) [] payload
 
 -- what settings and payload are refused for, whatever the output: 17, then 10 to 13 in that order, then 16, or 0
-unfoldable pub settingsFault : Settings → List ℕ → ℕ
+unfoldable pub settingsFault : FreshSettings → List ℕ → ℕ
 settingsFault settings payload =
     not (known (settings .edition)) gives 17
     orElse ltb 7 (settings .«hop_limit») gives 10
@@ -49,12 +49,12 @@ settingsFault settings payload =
     orElse (settings .encrypted && eqb (settings .edition) 11) gives 16
 
 -- what origination answers for an output of so many bytes: that, then 14; 0 where a PDU is written
-unfoldable pub originationNumber : Settings → List ℕ → ℕ → ℕ
+unfoldable pub originationNumber : FreshSettings → List ℕ → ℕ → ℕ
 originationNumber settings payload room =
     settingsFault settings payload orElse ltb room (pduLength (freshHeader settings (length payload))) gives 14
 
 -- the number, and the length of what was written: 0 with a refusal
-unfoldable pub originated : Settings → List ℕ → ℕ → Written
+unfoldable pub originated : FreshSettings → List ℕ → ℕ → Written
 originated settings payload room =
     record {
       number = originationNumber settings payload room;
@@ -62,6 +62,6 @@ originated settings payload room =
     }
 
 -- the output changes only where a PDU is written
-unfoldable pub originatedOutput : Settings → List ℕ → List ℕ → List ℕ
+unfoldable pub originatedOutput : FreshSettings → List ℕ → List ℕ → List ℕ
 originatedOutput settings payload output =
     cond (eqb (originationNumber settings payload (length output)) 0) (over (fresh settings payload) output) output

@@ -12,7 +12,7 @@ ghost use Rattle.origin.specs.Origination.{freshHeader, settingsFault, o
 
 // What a caller asks of a fresh PDU. Edition, hop limit and port are wider than what they hold, so that a number too large arrives whole and is refused.
 // `encrypted` marks a payload that is already encrypted; edition 1.1 has no such mark.
-pub struct Settings {
+pub struct FreshSettings {
     pub edition: u64,
     pub source: u16,
     pub destination: Destination,
@@ -29,7 +29,7 @@ pub struct Settings {
 // above 7, a port above 15, a payload above its limit, or reliable service without a destination, 16 for encryption asked under edition 1.1, and then 14
 // where the output is too short; each with length 0 and the output as it was. The PDU ID counts for reliable service only. Output past the PDU keeps its
 // bytes. Document 01, "Origination", and "Numbers answered", 10 to 14; document 02, W-209.
-pub fn originate(settings: Settings, payload: &[u8], output: &mut [u8]) -> Written
+pub fn originate(settings: FreshSettings, payload: &[u8], output: &mut [u8]) -> Written
     ensures { λ r. ⌜ (r ≡ originated settings (now (payload .entry)) (length (now (output .entry))))
         × (now (output .exit) ≡ originatedOutput settings (now (payload .entry)) (now (output .entry))) ⌝ }
 {
@@ -55,7 +55,7 @@ fn refused(number: u8) -> Written
 }
 
 // The refusals that need no output, 17, 10 to 13 and 16, or 0.
-fn settings_fault(settings: Settings, payload: &[u8]) -> u8
+fn settings_fault(settings: FreshSettings, payload: &[u8]) -> u8
     ensures { λ r. ⌜ r ≡ settingsFault settings (now (payload .entry)) ⌝ }
 {
     if !editions::is_known(settings.edition) {
@@ -98,7 +98,7 @@ fn unaddressed(reliable: bool, destination: Destination) -> bool
     }
 }
 
-fn fresh_header(settings: Settings, payload_length: usize) -> Header
+fn fresh_header(settings: FreshSettings, payload_length: usize) -> Header
     requires { ⌜ (settings .«hop_limit» ≤ 7) × (settings .port ≤ 15) × («payload_length» ≤ payloadLimit) ⌝ }
     ensures { λ r. ⌜ r ≡ freshHeader settings «payload_length» ⌝ }
 {

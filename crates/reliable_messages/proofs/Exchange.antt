@@ -12,7 +12,7 @@ use Rattle.pdu.specs.Header.{headerOf, sourceOf}
 use Rattle.pdu.specs.Sizes.{pduLength}
 use Rattle.pdu.proofs.Inversion.{shown}
 use Rattle.writing.specs.Writing.{headerBytes, encode}
-use Rattle.origin.specs.declared.Settings as origin
+use Rattle.origin.specs.declared.FreshSettings.{FreshSettings}
 use Rattle.origin.specs.Origination.{freshHeader, fresh}
 use Rattle.decision.specs.Decision.{Node}
 use Rattle.node.specs.Repeat.{repeated, repeatedHeader}
@@ -35,8 +35,8 @@ use Rattle.reliable_messages.specs.ReliableMessages.{Handles, SamePdu, s
 use Rattle.reliable_messages.proofs.Tests.{are-asked}
 
 -- an acknowledgement beside a fresh PDU with the same settings
-module _ (s : origin.Settings) (names : Names) where
-  back : origin.Settings
+module _ (s : FreshSettings) (names : Names) where
+  back : FreshSettings
   back =
       record {
         edition = s .edition;
@@ -74,7 +74,7 @@ module _ (s : origin.Settings) (names : Names) where
 
   pub reply-same : s .reliable ≡ true → s .encrypted ≡ false → s .source ≡ names .destination → s .destination ≡ Address (names .source)
       → s .«pdu_id» ≡ names .«pdu_id» → acknowledgement (sendingOf s) names ≡ set (fresh s []) 1 (s .port * 16 + 1)
-  reply-same r e f t d = ack-set ∙ ap (λ (x : origin.Settings). set (fresh x []) 1 (s .port * 16 + 1)) (sym (goes-back r e f t d))
+  reply-same r e f t d = ack-set ∙ ap (λ (x : FreshSettings). set (fresh x []) 1 (s .port * 16 + 1)) (sym (goes-back r e f t d))
 
 pub repeated-same : (node : Node) (room : ℕ) (received rest : List ℕ) → AllBytes received → repeatNumber node room received ≡ 0
     → SamePdu (repeated (node .settings .own) received ++ rest) received

@@ -11,7 +11,7 @@ use Rattle.pdu.specs.declared.Reading.the-variants.{Pdu}
 use Rattle.pdu.specs.Header.{headerOf, sourceOf}
 use Rattle.pdu.specs.Sizes.{pathEntries, pduLength}
 use Rattle.pdu.specs.Reading.{readOf, exactlyOne}
-use Rattle.origin.specs.declared.Settings as origin
+use Rattle.origin.specs.declared.FreshSettings.{FreshSettings}
 use Rattle.origin.specs.Origination.{fresh}
 use Rattle.decision.specs.Decision.{Node}
 use Rattle.node.specs.Repeat.{repeated}
@@ -54,7 +54,7 @@ SamePdu copy bytes =
     (namesOf copy ≡ namesOf bytes) × (headerOf copy .protocol ≡ headerOf bytes .protocol) × (headerOf copy .ack ≡ headerOf bytes .ack)
 
 -- the settings of origination that an acknowledgement is sent with
-abbrev pub sendingOf : origin.Settings → Sending
+abbrev pub sendingOf : FreshSettings → Sending
 sendingOf s =
     record { «hop_limit» = s .«hop_limit»; port = s .port; «time_stamp_request» = s .«time_stamp_request»; «with_path» = s .«with_path» }
 
@@ -120,11 +120,11 @@ pub record ReliableMessages : Type 0 where
       → (readOf (acknowledgement sending names ++ rest) ≡ Pdu (ackHeader sending names))
       × (namesOf (acknowledgement sending names ++ rest) ≡ exchanged names)
   -- its bytes: those of a fresh reliable PDU, empty, not encrypted, back to the source with the same ID, but for ACK, the lowest bit of byte 1
-  pub reply-is : (s : origin.Settings) (names : Names) → s .reliable ≡ true → s .encrypted ≡ false → s .source ≡ names .destination
+  pub reply-is : (s : FreshSettings) (names : Names) → s .reliable ≡ true → s .encrypted ≡ false → s .source ≡ names .destination
       → s .destination ≡ Address (names .source) → s .«pdu_id» ≡ names .«pdu_id»
       → acknowledgement (sendingOf s) names ≡ set (fresh s []) 1 (s .port * 16 + 1)
   -- demand 3 counts each sending as a fresh message: a fresh PDU, a retained one, an acknowledgement, each with the path bit, begins a flood
-  pub fresh-begins : (settings : origin.Settings) (payload : List ℕ) (room : ℕ) → Originated settings payload room → Begins (fresh settings payload)
+  pub fresh-begins : (settings : FreshSettings) (payload : List ℕ) (room : ℕ) → Originated settings payload room → Begins (fresh settings payload)
   pub retained-begins : (bytes : List ℕ) → AllBytes bytes → unfit bytes ≡ 0 → headerOf bytes .«path_bit» ≡ true → Begins bytes
   pub reply-begins : (sending : Sending) (names : Names) → sending .«hop_limit» ≤ 7 → sending .port ≤ 15 → sending .«with_path» ≡ true
       → names .source < 65536 → names .destination < 65536 → names .«pdu_id» < 256

@@ -18,7 +18,7 @@ use Rattle.editions.specs.declared.Bits.the-variants.{Reserved, Flagged}
 use Rattle.editions.specs.declared.EditionReading.the-variants.{Pdu}
 use Rattle.editions.specs.Editions.{known, shownWith, showing, readUnder}
 use Rattle.editions.proofs.Showing.{known-shows, bitsOf, bits-of-wire}
-use Rattle.origin.specs.declared.Settings as asked
+use Rattle.origin.specs.declared.FreshSettings.{FreshSettings}
 use Rattle.origin.specs.Origination.{freshHeader, fresh, settingsFault, originationNumber, originated, originatedOutput}
 use Rattle.origin.proofs.Deciding.{edition-refused, unmarked-refused, refused-early, refused}
 use Rattle.origin.proofs.ReadBack.{fresh-back}
@@ -51,11 +51,11 @@ tests false false false false false false true =
 tests false false false false false false false =
     record { seventeen = λ e. absurd (omega arith); sixteen = λ e. absurd (omega arith); none = λ e. refl }
 
-no-bits : (settings : asked.Settings) (long : ℕ) → settings .encrypted ≡ false → bitsOf 11 (freshHeader settings long) ≡ Reserved 0
+no-bits : (settings : FreshSettings) (long : ℕ) → settings .encrypted ≡ false → bitsOf 11 (freshHeader settings long) ≡ Reserved 0
 unfolding freshHeader
 no-bits settings long e = rw e refl
 
-module _ (settings : asked.Settings) (payload : List ℕ) (room : ℕ) where
+module _ (settings : FreshSettings) (payload : List ℕ) (room : ℕ) where
   asked-tests : Tests (not (known (settings .edition))) (ltb 7 (settings .«hop_limit»)) (ltb 15 (settings .port)) (ltb 4095 (length payload))
       (settings .reliable && eqb (destinationFlag (settings .destination)) 0) (settings .encrypted && eqb (settings .edition) 11)
       (originationNumber settings payload room)
@@ -95,7 +95,7 @@ module _ (settings : asked.Settings) (payload : List ℕ) (room : ℕ) where
       ∙ ap (λ (bits : Bits). Pdu (shownWith bits header))
       (bits-of-wire 11 bytes ∙ ap (bitsOf 11) (sym (shown bytes header reads .is)) ∙ no-bits settings (length payload) (unmarked-11 done first))
 
-module _ (settings : asked.Settings) (payload output : List ℕ) where
+module _ (settings : FreshSettings) (payload output : List ℕ) where
   pub originated-17 : known (settings .edition) ≡ false
       → (originated settings payload (length output) ≡ record { number = 17; length = 0 }) × (originatedOutput settings payload output ≡ output)
   originated-17 e =
@@ -120,7 +120,7 @@ module _ (settings : asked.Settings) (payload output : List ℕ) where
   unfolding originated originatedOutput originationNumber settingsFault fresh freshHeader
   originated-same edition other one two = rw (one, two) (refl, refl)
 
-pub flag-alone : (settings : asked.Settings) (payload : List ℕ) (room : ℕ) → let plain = fresh (setTo 12 false settings) payload in
+pub flag-alone : (settings : FreshSettings) (payload : List ℕ) (room : ℕ) → let plain = fresh (setTo 12 false settings) payload in
     (originated (setTo 12 true settings) payload room ≡ originated (setTo 12 false settings) payload room)
     × (fresh (setTo 12 true settings) payload ≡ take 1 plain ++ (at plain 1 + 8) ∷ drop 2 plain)
 unfolding originated originationNumber settingsFault fresh freshHeader encode headerBytes

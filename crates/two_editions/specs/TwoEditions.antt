@@ -20,7 +20,7 @@ use Rattle.editions.specs.declared.Bits.the-variants.{Reserved, Flagged}
 use Rattle.editions.specs.declared.Shown.{Shown}
 use Rattle.editions.specs.declared.EditionReading.the-variants.{Pdu, Refused}
 use Rattle.editions.specs.Editions.{known, bitsUnder, shownWith, readUnder, wireOf, writeAgainUnder, writtenAgainUnder}
-use Rattle.origin.specs.declared.Settings as asked
+use Rattle.origin.specs.declared.FreshSettings.{FreshSettings}
 use Rattle.origin.specs.Origination.{freshHeader, fresh, originationNumber, originated, originatedOutput}
 use Rattle.lists.specs.Lists.{listsOf}
 use Rattle.decision.specs.Decision.{Node}
@@ -38,7 +38,7 @@ use Rattle.boundary.specs.Boundary.{headerInC, freshFromC}
 use Rattle.checked_by_hand.specs.Examples.{nodeAt}
 
 -- settings with another edition and another encrypted flag; all else in them is as it was
-abbrev pub setTo : ℕ → Bool → asked.Settings → asked.Settings
+abbrev pub setTo : ℕ → Bool → FreshSettings → FreshSettings
 setTo edition encrypted settings =
     record {
       edition = edition;
@@ -65,7 +65,7 @@ abbrev pub atFault : Node
 atFault = record { settings = nodeAt 2000 true false .settings; lists = listsOf (5 ∷ []) [] [] [] }
 
 -- settings with the edition, the encrypted flag, the hop limit and the reliable service that are asked, for everyone
-abbrev pub settingsFor : ℕ → Bool → ℕ → Bool → asked.Settings
+abbrev pub settingsFor : ℕ → Bool → ℕ → Bool → FreshSettings
 settingsFor edition encrypted hop reliable =
     record {
       edition = edition;
@@ -139,28 +139,28 @@ pub record TwoEditions : Type 0 where
   pub walks-empty : (edition : ℕ) (node : Node) (room : ℕ) → walkUnder edition node room [] ≡ record { number = 0; offsets = []; answers = []; end = 0 }
   pub walks-same : (edition : ℕ) (node : Node) (room : ℕ) (batch : List ℕ) → known edition ≡ true → walkUnder edition node room batch ≡ walk node room batch
   -- origination: 17 for exactly those editions, before 10 to 13; 16 where 1.1 is asked for the flag, after 13 and before 14, and nowhere else
-  pub originated-17 : (settings : asked.Settings) (payload output : List ℕ) → known (settings .edition) ≡ false
+  pub originated-17 : (settings : FreshSettings) (payload output : List ℕ) → known (settings .edition) ≡ false
       → (originated settings payload (length output) ≡ record { number = 17; length = 0 }) × (originatedOutput settings payload output ≡ output)
-  pub originated-17-only : (settings : asked.Settings) (payload : List ℕ) (room : ℕ) → originationNumber settings payload room ≡ 17
+  pub originated-17-only : (settings : FreshSettings) (payload : List ℕ) (room : ℕ) → originationNumber settings payload room ≡ 17
       → known (settings .edition) ≡ false
-  pub originated-16 : (settings : asked.Settings) (payload output : List ℕ) → settings .edition ≡ 11 → settings .encrypted ≡ true
+  pub originated-16 : (settings : FreshSettings) (payload output : List ℕ) → settings .edition ≡ 11 → settings .encrypted ≡ true
       → settings .«hop_limit» ≤ 7 → settings .port ≤ 15 → length payload ≤ 4095
       → (settings .reliable && eqb (destinationFlag (settings .destination)) 0) ≡ false
       → (originated settings payload (length output) ≡ record { number = 16; length = 0 }) × (originatedOutput settings payload output ≡ output)
-  pub originated-16-only : (settings : asked.Settings) (payload : List ℕ) (room : ℕ) → originationNumber settings payload room ≡ 16
+  pub originated-16-only : (settings : FreshSettings) (payload : List ℕ) (room : ℕ) → originationNumber settings payload room ≡ 16
       → (settings .edition ≡ 11) × (settings .encrypted ≡ true) × (settings .«hop_limit» ≤ 7) × (settings .port ≤ 15) × (length payload ≤ 4095)
       × ((settings .reliable && eqb (destinationFlag (settings .destination)) 0) ≡ false)
   -- without the flag, answer and output are the same under both; with it under 1.2, the answer is as without it, and byte 1 is larger by 8
-  pub originated-same : (settings : asked.Settings) (payload output : List ℕ) (edition other : ℕ) → known edition ≡ true → known other ≡ true
+  pub originated-same : (settings : FreshSettings) (payload output : List ℕ) (edition other : ℕ) → known edition ≡ true → known other ≡ true
       → (originated (setTo edition false settings) payload (length output) ≡ originated (setTo other false settings) payload (length output))
       × (originatedOutput (setTo edition false settings) payload output ≡ originatedOutput (setTo other false settings) payload output)
-  pub flag-alone : (settings : asked.Settings) (payload : List ℕ) (room : ℕ) → let plain = fresh (setTo 12 false settings) payload in
+  pub flag-alone : (settings : FreshSettings) (payload : List ℕ) (room : ℕ) → let plain = fresh (setTo 12 false settings) payload in
       (originated (setTo 12 true settings) payload room ≡ originated (setTo 12 false settings) payload room)
       × (fresh (setTo 12 true settings) payload ≡ take 1 plain ++ (at plain 1 + 8) ∷ drop 2 plain)
   -- what was originated shows the flag as it was set under 1.2, and no reserved bit under 1.1
-  pub fresh-12 : (settings : asked.Settings) (payload rest : List ℕ) (room : ℕ) → originationNumber settings payload room ≡ 0
+  pub fresh-12 : (settings : FreshSettings) (payload rest : List ℕ) (room : ℕ) → originationNumber settings payload room ≡ 0
       → readUnder 12 (fresh settings payload ++ rest) ≡ Pdu (shownWith (Flagged (settings .encrypted) 0) (freshHeader settings (length payload)))
-  pub fresh-11 : (settings : asked.Settings) (payload rest : List ℕ) (room : ℕ) → originationNumber settings payload room ≡ 0 → settings .edition ≡ 11
+  pub fresh-11 : (settings : FreshSettings) (payload rest : List ℕ) (room : ℕ) → originationNumber settings payload room ≡ 0 → settings .edition ≡ 11
       → readUnder 11 (fresh settings payload ++ rest) ≡ Pdu (shownWith (Reserved 0) (freshHeader settings (length payload)))
   -- II. CASE BY CASE, what the definitions say
   -- a header as it is shown: the three bits, and the other fields as the wire has them

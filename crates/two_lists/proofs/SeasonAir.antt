@@ -11,7 +11,7 @@ use lib.ListN.{length, getElem?, length-map}
 use Rattle.pdu.specs.declared.Destination.the-variants.{Everyone}
 use Rattle.pdu.specs.Sizes.{pathLimit}
 use Rattle.editions.specs.Editions.{known}
-use Rattle.origin.specs.declared.Settings as asked
+use Rattle.origin.specs.declared.FreshSettings.{FreshSettings}
 use Rattle.origin.specs.Origination.{fresh}
 use Rattle.node.specs.declared.Answer.{Answer}
 use Rattle.node.specs.Repeat.{repeated}
@@ -120,7 +120,7 @@ module _ (editionOf : ℕ → ℕ) (named : (a : ℕ) → known (editionOf a) �
 
 pub reached : (editionOf : ℕ → ℕ) → ((a : ℕ) → known (editionOf a) ≡ true) → (nodes : List SeasonRepeater) → Nodes (map asChosen nodes)
     → ((n : SeasonRepeater) → List·Memᴰ n nodes → eightFault (n .node .lists) ≡ 0)
-    → (settings : asked.Settings) (payload : List ℕ) (room : ℕ) → Originated settings payload room
+    → (settings : FreshSettings) (payload : List ℕ) (room : ℕ) → Originated settings payload room
     → let counted = others address (settings .source) (map asChosen nodes) in
     ((n : Repeater) → List·Memᴰ n counted → Open (n .node))
     → ((n : Repeater) → List·Memᴰ n counted → length (fresh settings payload) + 2 * terms (length counted) (settings .«hop_limit») ≤ n .room)
@@ -139,7 +139,7 @@ reached editionOf named nodes all clean settings payload room message free roomy
 
 pub schedule : (editionOf : ℕ → ℕ) → ((a : ℕ) → known (editionOf a) ≡ true) → (nodes : List SeasonRepeater) → Nodes (map asChosen nodes)
     → ((n : SeasonRepeater) → List·Memᴰ n nodes → eightFault (n .node .lists) ≡ 0)
-    → (settings : asked.Settings) (payload : List ℕ) (room : ℕ) → Originated settings payload room
+    → (settings : FreshSettings) (payload : List ℕ) (room : ℕ) → Originated settings payload room
     → (receptions : List Reception) × List·Nodup receptions × Complete (seasonSends editionOf) nodes (fresh settings payload ∷ []) receptions
 schedule editionOf named nodes all clean settings payload room message =
     let (receptions, once, complete) = demands .schedule (map asChosen nodes) all settings payload room message in

@@ -7,7 +7,7 @@ use lib.Dec.{eqb}
 use lib.ListN.{length, length-map}
 use Rattle.pdu.specs.Header.{sourceOf}
 use Rattle.editions.specs.Editions.{known}
-use Rattle.origin.specs.declared.Settings as asked
+use Rattle.origin.specs.declared.FreshSettings.{FreshSettings}
 use Rattle.origin.specs.Origination.{fresh}
 use Rattle.bound.specs.Bound.{bound, bytesBound}
 use Rattle.flood.specs.Flood.{Reception, total, others, Bounded}
@@ -81,7 +81,7 @@ begun-bounded editionOf named nodes all first begins receptions once =
     )
 
 pub bounded : (editionOf : ℕ → ℕ) → ((a : ℕ) → known (editionOf a) ≡ true) → (nodes : List SeasonRepeater) → Nodes (map asChosen nodes)
-    → (settings : asked.Settings) (payload : List ℕ) (room : ℕ) → Originated settings payload room → (receptions : List Reception) → List·Nodup receptions
+    → (settings : FreshSettings) (payload : List ℕ) (room : ℕ) → Originated settings payload room → (receptions : List Reception) → List·Nodup receptions
     → Bounded address pathOf (others address (settings .source) (map asChosen nodes)) (settings .«hop_limit»)
     (seasonAir editionOf nodes (fresh settings payload) receptions)
     × (total length (seasonAir editionOf nodes (fresh settings payload) receptions)

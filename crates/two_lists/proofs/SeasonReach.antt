@@ -8,7 +8,7 @@ use mathlib.Core.Option.{some}
 use mathlib.Core.Path.{_≡_, refl, ap, sym, subst, _∙_}
 use lib.ListN.{take, drop, getElem?}
 use Rattle.editions.specs.Editions.{known}
-use Rattle.origin.specs.declared.Settings as asked
+use Rattle.origin.specs.declared.FreshSettings.{FreshSettings}
 use Rattle.origin.specs.Origination.{fresh}
 use Rattle.node.specs.declared.Answer.{Answer}
 use Rattle.node.specs.Answers.{answerOf}
@@ -83,7 +83,7 @@ module _ (editionOf : ℕ → ℕ) (named : (a : ℕ) → known (editionOf a) �
 
 pub reach : (editionOf : ℕ → ℕ) → ((a : ℕ) → known (editionOf a) ≡ true) → (hears : ℕ → ℕ → Bool) (nodes : List SeasonRepeater)
     → ((n : SeasonRepeater) → List·Memᴰ n nodes → eightFault (n .node .lists) ≡ 0)
-    → (settings : asked.Settings) (payload : List ℕ) (room : ℕ) → Planned (map asChosen nodes) settings payload room
+    → (settings : FreshSettings) (payload : List ℕ) (room : ℕ) → Planned (map asChosen nodes) settings payload room
     → (receptions : List Reception) → Taken hears (map asChosen nodes) (fresh settings payload) receptions
     → (n : SeasonRepeater) → List·Memᴰ n nodes → own n ≢ settings .source
     → (j : ℕ) → j ≤ settings .«hop_limit» + 1 → Chain hears (map own nodes) (settings .source) (own n) j

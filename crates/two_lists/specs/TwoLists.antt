@@ -10,7 +10,7 @@ use Rattle.pdu.specs.declared.Sender.the-variants.{Unknown}
 use Rattle.pdu.specs.Header.{sourceOf}
 use Rattle.pdu.specs.Sizes.{pathLimit}
 use Rattle.editions.specs.Editions.{known}
-use Rattle.origin.specs.declared.Settings as asked
+use Rattle.origin.specs.declared.FreshSettings.{FreshSettings}
 use Rattle.origin.specs.Origination.{fresh}
 use Rattle.lists.specs.Lists.{faultOf, listsOf, listFault}
 use Rattle.decision.specs.Decision.{Node}
@@ -107,7 +107,7 @@ pub record TwoLists : Type 0 where
       take (answer .«delivered_length») (drop (answer .«delivered_place») received) ≡ delivered (chosenNode node) room received
   -- demand 3, over nodes with two lists of each kind, whatever these are and whatever is chosen, under edition 1.1 or 1.2 each
   pub bounded : (editionOf : ℕ → ℕ) → ((a : ℕ) → known (editionOf a) ≡ true) → (nodes : List SeasonRepeater) → Nodes (map asChosen nodes)
-      → (settings : asked.Settings) (payload : List ℕ) (room : ℕ) → Originated settings payload room → (receptions : List Reception) → List·Nodup receptions
+      → (settings : FreshSettings) (payload : List ℕ) (room : ℕ) → Originated settings payload room → (receptions : List Reception) → List·Nodup receptions
       → Bounded address pathOf (others address (settings .source) (map asChosen nodes)) (settings .«hop_limit»)
       (seasonAir editionOf nodes (fresh settings payload) receptions)
       × (total length (seasonAir editionOf nodes (fresh settings payload) receptions)
@@ -126,7 +126,7 @@ pub record TwoLists : Type 0 where
   -- node hears every transmission, the message is for everyone, and there are at most 255 others or its hop limit is below 7; and such receptions exist
   pub reached : (editionOf : ℕ → ℕ) → ((a : ℕ) → known (editionOf a) ≡ true) → (nodes : List SeasonRepeater) → Nodes (map asChosen nodes)
       → ((n : SeasonRepeater) → List·Memᴰ n nodes → eightFault (n .node .lists) ≡ 0)
-      → (settings : asked.Settings) (payload : List ℕ) (room : ℕ) → Originated settings payload room
+      → (settings : FreshSettings) (payload : List ℕ) (room : ℕ) → Originated settings payload room
       → let counted = others address (settings .source) (map asChosen nodes) in
       ((n : Repeater) → List·Memᴰ n counted → Open (n .node))
       → ((n : Repeater) → List·Memᴰ n counted → length (fresh settings payload) + 2 * terms (length counted) (settings .«hop_limit») ≤ n .room)
@@ -137,7 +137,7 @@ pub record TwoLists : Type 0 where
       ≡ bytesBound (length counted) (settings .«hop_limit») (length (fresh settings payload)))
   pub schedule : (editionOf : ℕ → ℕ) → ((a : ℕ) → known (editionOf a) ≡ true) → (nodes : List SeasonRepeater) → Nodes (map asChosen nodes)
       → ((n : SeasonRepeater) → List·Memᴰ n nodes → eightFault (n .node .lists) ≡ 0)
-      → (settings : asked.Settings) (payload : List ℕ) (room : ℕ) → Originated settings payload room
+      → (settings : FreshSettings) (payload : List ℕ) (room : ℕ) → Originated settings payload room
       → (receptions : List Reception) × List·Nodup receptions × Complete (seasonSends editionOf) nodes (fresh settings payload ∷ []) receptions
   -- II. CASE BY CASE, what the definitions of a step and of a walk say
   -- 17 comes before the lists
@@ -185,7 +185,7 @@ pub record TwoLists : Type 0 where
   -- chosen is
   pub reach : (editionOf : ℕ → ℕ) → ((a : ℕ) → known (editionOf a) ≡ true) → (hears : ℕ → ℕ → Bool) (nodes : List SeasonRepeater)
       → ((n : SeasonRepeater) → List·Memᴰ n nodes → eightFault (n .node .lists) ≡ 0)
-      → (settings : asked.Settings) (payload : List ℕ) (room : ℕ) → Planned (map asChosen nodes) settings payload room
+      → (settings : FreshSettings) (payload : List ℕ) (room : ℕ) → Planned (map asChosen nodes) settings payload room
       → (receptions : List Reception) → Taken hears (map asChosen nodes) (fresh settings payload) receptions
       → (n : SeasonRepeater) → List·Memᴰ n nodes → own n ≢ settings .source
       → (j : ℕ) → j ≤ settings .«hop_limit» + 1 → Chain hears (map own nodes) (settings .source) (own n) j
