@@ -1,39 +1,36 @@
 -- The table's one operation, asked what a delivered PDU asks, and the response to its effect, do what the definitions say.
 use native.Mathlib.Omega.{arith}
-use mathlib.Core.Path.{_≡_, refl, sym, _∙_, ap, subst}
-use Prim.Native.Nat.{ℕ, _+_, _<_, _≤_}
+use mathlib.Core.Path.{_≡_, refl, sym, _∙_, ap}
+use Prim.Native.Nat.{ℕ, _≤_}
 use native.Mathlib.Nat.{le-refl}
-use mathlib.Core.Bool.{Bool, true, false, not, cond, _&&_}
-use mathlib.Core.List.{List, [], _∷_, _++_, append-nil}
-use mathlib.Core.Logic.{_⊎_, inl, inr}
+use mathlib.Core.Bool.{Bool, true, false, cond, _&&_}
+use mathlib.Core.List.{List, [], _++_, append-nil}
 use lib.Dec.{eqb, leb, ltb}
 use lib.ListN.{length, set}
 use lib.Seq.{set-out}
-use borrow.Author.Tests.{eqb-true, ltb-false, le-leb, le-ltb, eq-eqb}
+use borrow.Author.Tests.{eqb-true, ltb-false, le-leb, le-ltb}
 use Rattle.octets.specs.Numbers.{_gives_, _orElse_}
 use Rattle.octets.specs.Octets.{over}
 use Rattle.octets.proofs.Numbering.{orElse-zero, gives-zero, gives-later, orElse-none, orElse-assoc}
-use Rattle.pdu.specs.declared.Header.{Header}
 use Rattle.pdu.specs.Header.{headerOf}
 use Rattle.pdu.specs.Sizes.{pathStart, pduLength}
 use Rattle.writing.specs.Writing.{headerBytes, pathBytes, encode, headerOutput}
 use Rattle.writing.proofs.Encoding.{header-done}
 use Rattle.writing.proofs.Within.{none-refused}
 use Rattle.answering.specs.declared.Sending.{Sending}
-use Rattle.retained.specs.declared.Names.{Names}
 use Rattle.retained.specs.declared.Retained.{Retained}
 use Rattle.deciding.specs.declared.Ask.{Ask}
 use Rattle.retained.specs.declared.Seek.{Seek}
 use Rattle.deciding.specs.declared.Effect.{Effect}
 use Rattle.retained.specs.declared.Outcome.{Outcome}
 use Rattle.deciding.specs.declared.Kind.the-variants.{Free, Nothing}
-use Rattle.retained.specs.Records.{namesOf, exchanged, isNamed, freedRecord}
+use Rattle.retained.specs.Records.{namesOf, exchanged, freedRecord}
 use Rattle.retained.specs.Table.{tableFault, first, has, freed, numberAlone, did}
 use Rattle.deciding.specs.Deciding.{kindNumber, decideNumber, stays, changes, effectOf, decideOf, effectOn}
 use Rattle.retained.specs.Searching.{foundIn}
 use Rattle.answering.specs.Delivered.{isAcknowledgement, isAnswered, ackHeader, acknowledgement, answered, acknowledgeNumber, matching}
 use Rattle.answering.specs.Delivered.{acknowledge, tableAcknowledged, outputAcknowledged}
-use Rattle.answering.specs.Responding.{earlyNumber, lateNumber, askAcknowledge, responds, response, responded}
+use Rattle.answering.specs.Responding.{lateNumber, askAcknowledge, response, responded}
 
 no-kind : (k : Bool) (a : Ask) (s : Seek) → kindNumber (cond k Free Nothing) a s ≡ 0
 no-kind true a s = refl

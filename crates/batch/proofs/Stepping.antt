@@ -20,7 +20,6 @@ use Rattle.decision.specs.Decision.{Node}
 use Rattle.node.specs.Answers.{listOrReadingFault, taken, answerOf, Hears}
 use Rattle.node.proofs.Answering.{refusal-number}
 use Rattle.batch.specs.declared.Cursor.{Cursor}
-use Rattle.batch.specs.declared.Stepped.{Stepped}
 use Rattle.batch.specs.declared.Stepped.the-variants.{TooLong, Ended, Answered}
 use Rattle.batch.specs.Walk.{batchLimit, isDone, stepOf, stepOutput, Steps}
 

@@ -1,6 +1,6 @@
 -- Stepping from the start gives exactly the walk; each answer in it is the node's for the bytes at its offset, and the offsets are the running sum of
 -- what the PDUs take.
-use Prim.Native.Nat.{ℕ, zero, suc, _+_, _-_, _≤_, _<_}
+use Prim.Native.Nat.{ℕ, zero, suc, _+_, _≤_, _<_}
 use native.Mathlib.Omega.{arith}
 use mathlib.Core.Bool.{Bool, true, false, not, cond}
 use mathlib.Core.List.{List, [], _∷_, map}
@@ -14,7 +14,7 @@ use Rattle.decision.specs.Decision.{Node}
 use Rattle.node.specs.Answers.{listOrReadingFault, taken, answerOf}
 use Rattle.batch.specs.declared.Cursor.{Cursor}
 use Rattle.batch.specs.declared.Stepped.{Stepped}
-use Rattle.batch.specs.declared.Stepped.the-variants.{TooLong, Ended, Answered}
+use Rattle.batch.specs.declared.Stepped.the-variants.{Ended, Answered}
 use Rattle.batch.specs.Walk.{batchLimit, isTooLong, isDone, nextCursor, stepOf, Walk, endingAt, before, walkFrom, walk, continued, steps}
 use Rattle.batch.proofs.Stepping.{taken-within}
 

@@ -1,7 +1,7 @@
 -- AES-128 in counter mode (SP 800-38A, 6.5), with the counter blocks of document 000, section 3.5, and document 002: the source address and the message
 -- number, then a number that counts up by one with every block.
 -- Assumes nothing.
-use Prim.Native.Nat.{ℕ, zero, suc, _+_, _-_, _*_, _/_, _%_, _^_}
+use Prim.Native.Nat.{ℕ, suc, _-_, _/_, _%_, _^_}
 use mathlib.Core.List.{List, [], _∷_, _++_}
 use Rattle.octets.specs.Octets.{at}
 use Rattle.field.specs.Field.{_⊕_}

@@ -10,7 +10,7 @@ use lib.Seq.{set-out}
 use native.Mathlib.Nat.{le-refl, le-trans}
 use borrow.Author.Tests.{ltb-false, eqb-true}
 use Rattle.octets.specs.Numbers.{_gives_, _orElse_}
-use Rattle.octets.specs.Octets.{placed, over}
+use Rattle.octets.specs.Octets.{over}
 use Rattle.octets.proofs.Numbering.{orElse-zero, gives-zero}
 use Rattle.octets.proofs.Placing.{placed-start}
 use Rattle.retained.specs.declared.Retained.{Retained}

@@ -7,7 +7,7 @@ use mathlib.Core.Logic.{_⊎_}
 use mathlib.Core.Path.{_≡_, refl, ap, sym, _∙_}
 use lib.Dec.{ltb}
 use lib.ListN.{length, take, drop}
-use borrow.Author.Tests.{ne-eqb, eqb-true, eqb-false, le-ltb}
+use borrow.Author.Tests.{ne-eqb, le-ltb}
 use Rattle.octets.specs.Octets.{AllBytes, over}
 use Rattle.pdu.specs.declared.Header.{Header}
 use Rattle.pdu.specs.declared.Reading.{Reading}
@@ -26,7 +26,6 @@ use Rattle.node.specs.declared.Answer.{Answer}
 use Rattle.node.specs.Answers.{listOrReadingFault, repeatNumber, answerOf, outputAfter}
 use Rattle.batch.specs.declared.Cursor.{Cursor}
 use Rattle.batch.specs.declared.Stepped.the-variants.{TooLong, Ended, Answered}
-use Rattle.batch.specs.declared.Stepped.{Stepped}
 use Rattle.batch.specs.Walk.{batchLimit, isTooLong, isDone, nextCursor, stepOf, stepOutput, endingAt, walkFrom, walk}
 use Rattle.origin.proofs.ReadBack.{fresh-back}
 use Rattle.origin.proofs.Deciding.{edition-refused, hop-refused, refused-early}

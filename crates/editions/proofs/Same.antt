@@ -16,7 +16,7 @@ use Rattle.pdu.proofs.Inversion.{shown}
 use Rattle.writing.specs.Writing.{writtenOf, outputOf, writeAgain, writtenAgain}
 use Rattle.writing.proofs.Same.{written-same}
 use Rattle.editions.specs.declared.Shown.{Shown}
-use Rattle.editions.specs.declared.EditionReading.the-variants.{Pdu, Refused}
+use Rattle.editions.specs.declared.EditionReading.the-variants.{Pdu}
 use Rattle.editions.specs.Editions.{known, bitsUnder, shownWith, showing, readUnder, wireOf}
 use Rattle.editions.specs.Editions.{shownWritten, shownOutput, writeAgainUnder, writtenAgainUnder}
 use Rattle.editions.proofs.Showing.{unknown-refused, known-shows, wire-back, seen-by}

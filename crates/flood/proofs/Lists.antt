@@ -1,6 +1,6 @@
 -- Lists: sums over them, lists without repetition, places, one entry more at the end. Assumes nothing.
 use mathlib.Core.Path.{_≡_, refl, sym, ap, subst, _∙_}
-use mathlib.Core.Logic.{_≢_, _⊎_, ⊎-elim, ∥∥₁-elim}
+use mathlib.Core.Logic.{_≢_, ⊎-elim, ∥∥₁-elim}
 use mathlib.Core.HLevel.{⊥-prop}
 use mathlib.Core.Option.{none, some, Option·none-ne-some, Option·some-injective}
 use mathlib.Core.List.{List, [], _∷_, _++_, map, concat-eq-append, concat-ne-nil, head-eq-of-cons-eq, tail-eq-of-cons-eq}

@@ -1,10 +1,10 @@
 -- Bytes put through the key stream part by part, and hashed.
-use Prim.Native.Nat.{ℕ, zero, suc, _+_, _-_, _≤_, _<_}
+use Prim.Native.Nat.{ℕ, zero, suc, _+_, _≤_, _<_}
 use native.Mathlib.Omega.{arith}
 use native.Mathlib.Nat.{zero-add, add-zero}
 use mathlib.Core.List.{List, [], _∷_, _++_}
 use mathlib.Core.Path.{_≡_, refl, ap, ap₂, sym, _∙_}
-use lib.ListN.{length, replicate, take, drop, length-drop, length-take, take-append-drop}
+use lib.ListN.{length, take, drop, length-drop, length-take, take-append-drop}
 use lib.Seq.{take-at, drop-at, take-add, take-all, length-take-le}
 use borrow.Rule.Slice.PartMut.{putMid}
 use Rattle.octets.specs.Octets.{over, placed, placeAfter}

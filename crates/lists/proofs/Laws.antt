@@ -11,7 +11,7 @@ use lib.Dec.{leb}
 use lib.ListN.{length, getD, drop, drop-of-length-le, length-drop}
 use lib.Seq.{drop-cons}
 use Rattle.octets.specs.Numbers.{_gives_, _orElse_}
-use Rattle.octets.proofs.Numbering.{orElse-zero, gives-here, gives-later}
+use Rattle.octets.proofs.Numbering.{gives-here, gives-later}
 use Rattle.octets.proofs.Tests.{both}
 use Rattle.lists.specs.Lists.{lowAboveHigh, faultOf, firstFault, holds}
 

@@ -1,14 +1,13 @@
 -- The hash fed part by part.
 use Prim.Native.Nat.{ℕ, _-_}
 use mathlib.Core.List.{List, [], _∷_, _++_}
-use mathlib.Core.Path.{_≡_, refl, ap, ap₂, _∙_}
+use mathlib.Core.Path.{_≡_, ap, ap₂, _∙_}
 use lib.ListN.{take, drop}
-use native.Mathlib.Omega.{arith}
 use Rattle.octets.specs.Octets.{at}
-use Rattle.pdu.specs.Header.{sourcePlace, pathCountPlace}
+use Rattle.pdu.specs.Header.{pathCountPlace}
 use Rattle.compression.specs.declared.Five.{Five}
 use Rattle.sha1.specs.declared.Running.{Running}
-use Rattle.sha1.specs.Sha1.{fourBytes, hashBegun, fed, finalHash, finished, sha1}
+use Rattle.sha1.specs.Sha1.{fourBytes, hashBegun, fed, finalHash, finished}
 use Rattle.sha1.proofs.Feeding.{fed-append, finished-fed}
 use Rattle.message.specs.Protection.{messageNumberBytes, maskedByte, hashedHeader, hashBytes}
 

@@ -3,7 +3,7 @@ use Prim.Native.Nat.{ℕ, _-_, _≤_, _<_}
 use native.Mathlib.Omega.{arith}
 use mathlib.Core.Bool.{Bool, true, false, not}
 use mathlib.Core.List.{List}
-use mathlib.Core.Path.{_≡_, refl, ap, sym, _∙_}
+use mathlib.Core.Path.{_≡_, ap, sym, _∙_}
 use lib.Dec.{ltb}
 use borrow.Author.Tests.{lt-ltb, le-ltb}
 use Rattle.octets.specs.Numbers.{_gives_, _orElse_}
@@ -12,7 +12,7 @@ use Rattle.pdu.specs.declared.Header.{Header}
 use Rattle.pdu.specs.Header.{headerOf, sourceOf}
 use Rattle.sources.specs.Sources.{sourceFault}
 use Rattle.message.specs.Protection.{addedLength}
-use Rattle.genuine.specs.Genuine.{plainLength, genuineUnder}
+use Rattle.genuine.specs.Genuine.{plainLength}
 use Rattle.opening.specs.Opening.{genuine, keylessFault, openNumber}
 use Rattle.opening.proofs.Sealed.{negated, affirmed}
 

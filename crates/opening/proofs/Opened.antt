@@ -8,7 +8,7 @@ use lib.Dec.{eqb, ltb}
 use lib.ListN.{length, take, drop, length-drop}
 use lib.Seq.{length-take-le}
 use borrow.Author.Tests.{ne-eqb, ltb-false}
-use Rattle.octets.specs.Numbers.{_gives_, _orElse_}
+use Rattle.octets.specs.Numbers.{_gives_}
 use Rattle.octets.specs.Octets.{over}
 use Rattle.octets.proofs.Numbering.{orElse-zero, gives-zero, orElse-first}
 use Rattle.aes.specs.Cipher.{keyExpansion}

@@ -6,7 +6,6 @@ use lib.Dec.{eqb, ltb}
 use lib.ListN.{length}
 use Rattle.octets.specs.Octets.{at}
 use Rattle.pdu.specs.declared.Extent.{Extent}
-use Rattle.pdu.specs.declared.Header.{Header}
 use Rattle.pdu.specs.declared.Refusal.{Refusal}
 use Rattle.pdu.specs.declared.Refusal.the-variants.{TooShort, WrongVersion, UnknownProtocol, NoDestination, HeaderCut, PayloadCut}
 use Rattle.pdu.specs.declared.Reading.{Reading}

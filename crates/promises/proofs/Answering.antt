@@ -1,5 +1,5 @@
 -- Every public function of `answering`: its promise asks nothing of the caller and determines what the caller sees.
-use mathlib.Core.Path.{refl, sym, _∙_}
+use mathlib.Core.Path.{sym, _∙_}
 use denote.Ref.{now}
 use Rattle.promises.specs.Promise.{Promised, PromisedWithOutput}
 use Rattle.answering.proofs.ask_acknowledge.Reads as ask-acknowledge-reads

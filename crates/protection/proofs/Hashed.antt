@@ -2,20 +2,20 @@
 use Prim.Native.Nat.{ℕ, _+_, _-_, _*_, _/_, _%_, _≤_, _<_}
 use native.Mathlib.Omega.{arith}
 use mathlib.Core.List.{List, [], _∷_, _++_, append-assoc}
-use mathlib.Core.Path.{_≡_, refl, ap, ap₂, sym, _∙_}
+use mathlib.Core.Path.{_≡_, ap, sym, _∙_}
 use lib.Dec.{eqb}
-use lib.ListN.{length, take, drop, length-append, take-append-drop}
+use lib.ListN.{length, drop, length-append, take-append-drop}
 use lib.Seq.{take-at}
 use Rattle.octets.specs.Numbers.{flag}
-use Rattle.octets.specs.Octets.{at, AllBytes, wordBytes}
+use Rattle.octets.specs.Octets.{AllBytes, wordBytes}
 use Rattle.octets.proofs.Tests.{flag-small}
 use Rattle.pdu.specs.declared.Header.{Header}
 use Rattle.pdu.specs.declared.Reading.the-variants.{Pdu}
 use Rattle.pdu.specs.Header.{hopLimit, sourcePlace, pathCountPlace}
-use Rattle.pdu.specs.Sizes.{destinationFlag, pathStart, pduLength}
+use Rattle.pdu.specs.Sizes.{destinationFlag, pduLength}
 use Rattle.pdu.specs.Reading.{readOf}
 use Rattle.pdu.specs.Parts.{pathIn, payloadIn}
-use Rattle.writing.specs.Writing.{destinationBytes, onlyIf, headerBytes, pathBytes, encode, WellFormed}
+use Rattle.writing.specs.Writing.{destinationBytes, onlyIf, headerBytes, pathBytes, encode}
 use Rattle.writing.proofs.Encoding.{length-destination, length-onlyIf}
 use Rattle.writing.proofs.Same.{written-same, shown-well-formed}
 use Rattle.message.specs.Protection.{maskedByte, hashedHeader}

@@ -3,16 +3,15 @@ use Prim.Native.Nat.{ℕ, suc, _≤_, _<_}
 use native.Mathlib.Omega.{arith}
 use mathlib.Core.Bool.{Bool, true, false}
 use mathlib.Core.List.{List, [], _∷_}
-use mathlib.Core.Path.{_≡_, refl, ap, sym, _∙_}
+use mathlib.Core.Path.{_≡_, refl, ap, _∙_}
 use lib.Dec.{eqb}
-use borrow.Author.Tests.{eqb-true, eq-eqb}
-use Rattle.octets.specs.Numbers.{_gives_, _orElse_}
+use borrow.Author.Tests.{eqb-true}
 use Rattle.octets.proofs.Numbering.{orElse-zero}
 use Rattle.pdu.specs.Header.{sourceOf}
 use Rattle.sources.specs.Sources.{recordIn, numberFault, sourceFault, withAccepted}
 use Rattle.sources.proofs.Noting.{nextNumber, record-accepted, taken-from, next-accepted, never-falls}
 use Rattle.genuine.specs.Genuine.{messageNumber}
-use Rattle.opening.specs.Opening.{keylessFault, openNumber, memoryAfterOpening}
+use Rattle.opening.specs.Opening.{openNumber, memoryAfterOpening}
 use Rattle.opening.proofs.Sealed.{is-sealed}
 use Rattle.protection.specs.Histories.{Opening, memoryAfterOne, memoryAfterAll}
 

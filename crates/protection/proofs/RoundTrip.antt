@@ -1,19 +1,17 @@
 -- Sealing and then opening under one key gives the payload back, and the header as it was sent.
-use Prim.Native.Nat.{ℕ, _+_, _-_, _*_, _/_, _%_, _≤_, _<_}
+use Prim.Native.Nat.{ℕ, _+_, _≤_}
 use native.Mathlib.Omega.{arith}
 use native.Mathlib.Nat.{div-div-eq-div-mul}
-use mathlib.Core.Bool.{Bool, true, false, not, _&&_}
-use mathlib.Core.List.{List, [], _∷_, _++_, append-assoc}
-use mathlib.Core.Path.{_≡_, refl, ap, ap₂, sym, _∙_}
-use lib.Dec.{eqb}
-use lib.ListN.{length, take, drop, length-append}
+use mathlib.Core.Bool.{true, false, not}
+use mathlib.Core.List.{List, _++_, append-assoc}
+use mathlib.Core.Path.{_≡_, refl, ap, sym, _∙_}
+use lib.ListN.{length, take, length-append}
 use lib.Seq.{take-at, drop-at}
 use borrow.Author.Tests.{le-ltb, eq-eqb}
-use Rattle.octets.specs.Numbers.{_gives_, _orElse_}
 use Rattle.octets.specs.Octets.{at, AllBytes}
 use Rattle.octets.proofs.Numbering.{orElse-later, gives-later, gives-none}
 use Rattle.aes.specs.Cipher.{keyExpansion}
-use Rattle.counter.specs.Counter.{stream, added, counterMode}
+use Rattle.counter.specs.Counter.{stream, counterMode}
 use Rattle.counter.proofs.Twice.{added-twice}
 use Rattle.sha1.specs.Sha1.{sha1}
 use Rattle.pdu.specs.declared.Header.{Header}

@@ -1,28 +1,26 @@
 -- A record is in use just where ten of its bytes and its length say so, and its PDU's names then stand at fixed places.
 use native.Mathlib.Omega.{arith}
-use mathlib.Core.Path.{_≡_, refl, sym, _∙_, ap, subst}
+use mathlib.Core.Path.{_≡_, refl, sym, _∙_, ap}
 use Prim.Native.Nat.{ℕ, zero, suc, _+_, _*_, _/_, _%_, _<_, _≤_}
 use mathlib.Core.Bool.{Bool, true, false, not, cond, _&&_}
 use mathlib.Core.List.{List}
-use lib.Dec.{eqb, leb, ltb}
-use lib.ListN.{length, take, getD, length-take}
+use lib.Dec.{eqb, leb}
+use lib.ListN.{length, take, length-take}
 use lib.Seq.{getD-take, length-take-le}
-use borrow.Author.Tests.{eqb-true, eqb-false, eq-eqb, ne-eqb, leb-true, le-leb, not-true, not-false}
-use Rattle.octets.specs.Numbers.{flag, _gives_, _orElse_}
+use borrow.Author.Tests.{eqb-true, eqb-false, eq-eqb, ne-eqb, leb-true, not-true, not-false}
+use Rattle.octets.specs.Numbers.{flag}
 use Rattle.octets.specs.Octets.{at, wordAt}
 use Rattle.octets.proofs.Numbering.{orElse-zero, gives-zero}
 use Rattle.octets.proofs.Tests.{both}
-use Rattle.pdu.specs.declared.Destination.the-variants.{Everyone, Address}
-use Rattle.pdu.specs.Header.{isSet, version, protocol, destinationBit, pathBit, payloadLength, headerOf}
+use Rattle.pdu.specs.Header.{isSet, pathBit, payloadLength, headerOf}
 use Rattle.pdu.specs.Sizes.{destinationFlag, pathEntries, pduLength}
 use Rattle.pdu.specs.Reading.{exactlyOne}
 use Rattle.pdu.proofs.Inversion.{Whole, read-whole, shown}
-use Rattle.pdu.proofs.Exact.{Exact, exact, is-exact}
-use Rattle.retained.specs.declared.Names.{Names}
+use Rattle.pdu.proofs.Exact.{exact, is-exact}
 use Rattle.retained.specs.declared.Retained.{Retained}
 use Rattle.retained.specs.declared.Seen.{Seen}
 use Rattle.retained.proofs.Laws.{by-path, unfit-0}
-use Rattle.retained.specs.Records.{recordLimit, isFirstSending, isRetainable, unfit, isUsed, pduOf, namesOf, isDue}
+use Rattle.retained.specs.Records.{isFirstSending, isRetainable, unfit, isUsed, pduOf, namesOf, isDue}
 use Rattle.retained.specs.Searching.{notes, seenOf}
 
 same : (a b : Bool) → (a ≡ true → b ≡ true) → (b ≡ true → a ≡ true) → a ≡ b

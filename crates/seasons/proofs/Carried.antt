@@ -7,7 +7,7 @@ use mathlib.Core.Path.{_≡_, refl, ap, sym, _∙_}
 use lib.Dec.{eqb}
 use lib.ListN.{length}
 use borrow.Author.Tests.{eqb-true, eqb-false}
-use Rattle.octets.specs.Numbers.{_orElse_, _gives_}
+use Rattle.octets.specs.Numbers.{_orElse_}
 use Rattle.pdu.specs.declared.Header.{Header}
 use Rattle.lists.specs.Lists.{firstFault, listFault, holds}
 use Rattle.editions.specs.Editions.{known}

@@ -2,16 +2,16 @@
 use Prim.Native.Nat.{ℕ, zero, suc, _+_, _-_, _*_, _≤_, _<_, min}
 use native.Mathlib.Omega.{arith}
 use mathlib.Core.Bool.{Bool, true, false, not, cond, _&&_}
-use mathlib.Core.List.{List, [], _∷_, _++_}
+use mathlib.Core.List.{List, [], _∷_}
 use mathlib.Core.Path.{_≡_, refl, ap, sym, _∙_}
-use lib.Dec.{eqb, ltb, leb}
+use lib.Dec.{eqb, leb}
 use lib.ListN.{length, getD, take, drop, set, length-append, length-drop}
 use lib.Seq.{getD-drop, drop-cons, length-take-le}
 use lib.ListN.{drop-of-length-le}
 use borrow.Author.Tests.{ltb-true, leb-false, lt-ltb, le-ltb, le-leb, lt-leb, eq-eqb, ne-eqb}
 use Rattle.octets.specs.Numbers.{_gives_}
 use Rattle.octets.specs.Octets.{at}
-use Rattle.sources.specs.Sources.{Accepted, capacity, entryFrom, entriesFrom, recordIn, placeOf, isHeld, lastNumber}
+use Rattle.sources.specs.Sources.{Accepted, capacity, entriesFrom, recordIn, placeOf, isHeld, lastNumber}
 use Rattle.sources.specs.Sources.{numberFault, sourceFault, withAccepted, memoryAccepted}
 
 abbrev pub none : Accepted

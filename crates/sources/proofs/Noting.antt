@@ -6,12 +6,9 @@ use mathlib.Core.List.{List, [], _∷_, _++_}
 use mathlib.Core.Path.{_≡_, refl, ap, ap₂, sym, subst, _∙_}
 use lib.Dec.{eqb, ltb, leb, leb·suc-suc}
 use lib.ListN.{length, getD, take, drop, set, length-set}
-use lib.Seq.{getD-set-other, getD-set-same}
 use borrow.Author.Tests.{lt-ltb, leb-false, eqb-true, eqb-false, eq-eqb, ne-eqb}
-use Rattle.octets.specs.Numbers.{_gives_}
-use Rattle.octets.specs.Octets.{at}
 use Rattle.octets.proofs.Numbering.{gives-zero}
-use Rattle.sources.specs.Sources.{Accepted, capacity, entryFrom, entriesFrom, recordIn, placeOf, isHeld, lastNumber}
+use Rattle.sources.specs.Sources.{Accepted, capacity, entriesFrom, recordIn, placeOf, isHeld, lastNumber}
 use Rattle.sources.specs.Sources.{numberFault, sourceFault, withAccepted, memoryAccepted}
 use Rattle.sources.proofs.Laws.{none, length-record, place-fits, place-within, length-accepted}
 

@@ -9,7 +9,7 @@ use lib.Dec.{eqb}
 use lib.ListN.{length, length-append, length-drop}
 use lib.Seq.{length-take-le}
 use borrow.Author.Tests.{lt-ltb, le-ltb, ne-eqb}
-use Rattle.octets.specs.Numbers.{flag, _gives_, _orElse_}
+use Rattle.octets.specs.Numbers.{flag}
 use Rattle.octets.specs.Octets.{wordAt, wordBytes, over, placed, placeAfter}
 use Rattle.octets.proofs.Placing.{Begins, first, more, room-after, is-after, placed-more, length-over, nothing-placed}
 use Rattle.octets.proofs.Numbering.{gives-last, gives-none, orElse-first, orElse-later}

@@ -1,21 +1,7 @@
 use Rattle.answering.specs.Responding.{askAcknowledge}
-use mathlib.Core.Path.{_≡_, refl, sym, _∙_, ap}
-use denote.Ref.{now}
-use borrow.Author.Tests.{eq-eqb, ne-eqb, not-true, not-false}
-use native.Mathlib.Omega.{arith}
 use borrow.Author.Needs.{needs}
 use Rattle.answering.proofs.ask_acknowledge.Statement.{statement}
 use Rattle.answering.proofs.ask_acknowledge.Tie as tie
-use Rattle.answering.proofs.ask_acknowledge.Reads as reads
-use Rattle.answering.proofs.ask_acknowledge.Lts as lts
-use Rattle.answering.proofs.ack_length.Reads as ack-length-reads
-use Rattle.answering.proofs.early_number.Reads as early-number-reads
-use Rattle.answering.proofs.is_answered.Reads as is-answered-reads
-use Rattle.answering.proofs.kind_for.Reads as kind-for-reads
-use Rattle.answering.proofs.late_number.Reads as late-number-reads
-use Rattle.pdu.proofs.header_of.Reads as header-of-reads
-use Rattle.retained.proofs.exchange.Reads as exchange-reads
-use Rattle.retained.proofs.names_of.Reads as names-of-reads
 
 header-of-requires : tie.Need-header-of-requires
 header-of-requires c κs = search needs

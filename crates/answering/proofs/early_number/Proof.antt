@@ -1,13 +1,6 @@
 use Rattle.answering.proofs.Laws.{early-10, early-11, early-0, early-none}
-use mathlib.Core.Path.{_≡_, refl, sym, _∙_, ap}
-use denote.Ref.{now}
-use borrow.Author.Tests.{eq-eqb, ne-eqb, not-true, not-false}
-use native.Mathlib.Omega.{arith}
-use borrow.Author.Needs.{needs}
 use Rattle.answering.proofs.early_number.Statement.{statement}
 use Rattle.answering.proofs.early_number.Tie as tie
-use Rattle.answering.proofs.early_number.Reads as reads
-use Rattle.answering.proofs.early_number.Lts as lts
 
 returns : tie.Need-returns
 returns c = let a = c .before .before .before .args in early-10 (a .sending) (a .due) (c .before .before .if1 .taken) (c .if2 .taken)

@@ -1,20 +1,8 @@
 use Rattle.answering.proofs.Laws.{in-bits, answers-it, leaves-it}
-use mathlib.Core.Path.{_≡_, refl, sym, _∙_, ap}
 use denote.Ref.{now}
-use borrow.Author.Tests.{eq-eqb, ne-eqb, not-true, not-false}
-use native.Mathlib.Omega.{arith}
 use borrow.Author.Needs.{needs}
 use Rattle.answering.proofs.respond.Statement.{statement}
 use Rattle.answering.proofs.respond.Tie as tie
-use Rattle.answering.proofs.respond.Reads as reads
-use Rattle.answering.proofs.respond.Lts as lts
-use Rattle.answering.proofs.ack_header.Reads as ack-header-reads
-use Rattle.answering.proofs.ack_length.Reads as ack-length-reads
-use Rattle.answering.proofs.is_answered.Reads as is-answered-reads
-use Rattle.answering.proofs.responds.Reads as responds-reads
-use Rattle.pdu.proofs.header_of.Reads as header-of-reads
-use Rattle.retained.proofs.names_of.Reads as names-of-reads
-use Rattle.writing.proofs.put_header.Reads as put-header-reads
 
 header-of-requires : tie.Need-header-of-requires
 header-of-requires c κs = search needs

@@ -1,13 +1,7 @@
 use Rattle.answering.proofs.Laws.{no-1, no-2, no-3, no-4}
-use mathlib.Core.Path.{_≡_, refl, sym, _∙_, ap}
-use denote.Ref.{now}
-use borrow.Author.Tests.{eq-eqb, ne-eqb, not-true, not-false}
-use native.Mathlib.Omega.{arith}
-use borrow.Author.Needs.{needs}
+use borrow.Author.Tests.{not-true, not-false}
 use Rattle.answering.proofs.responds.Statement.{statement}
 use Rattle.answering.proofs.responds.Tie as tie
-use Rattle.answering.proofs.responds.Reads as reads
-use Rattle.answering.proofs.responds.Lts as lts
 
 returns : tie.Need-returns
 returns c = let a = c .before .args in no-1 (a .number) (a .due) (a .sending .«hop_limit») (a .sending .port) (c .if1 .taken)

@@ -1,6 +1,6 @@
 -- `compression::compress` meets its contract: the loop keeps the words from the t-th on and the five variables after t steps.
 -- Assumes nothing.
-use mathlib.Core.Path.{ap, ap₂, _∙_}
+use mathlib.Core.Path.{ap, _∙_}
 use mathlib.Core.List.{List}
 use Prim.Native.Nat.{ℕ, _-_}
 use Rattle.compression.specs.Compression.{schedule, hashSteps, summed, compressed}

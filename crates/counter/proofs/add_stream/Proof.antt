@@ -1,6 +1,6 @@
 -- `counter::add_stream` meets its contract: the loop keeps that the first i bytes have the stream added.
 -- Assumes nothing.
-use mathlib.Core.Path.{_≡_, refl, ap, _∙_}
+use mathlib.Core.Path.{_≡_, ap, _∙_}
 use Prim.Native.Nat.{_+_, _-_, _%_}
 use native.Mathlib.Omega.{arith}
 use lib.ListN.{length}

@@ -1,12 +1,6 @@
-use mathlib.Core.Path.{_≡_, refl, sym, _∙_, ap}
-use native.Mathlib.Omega.{arith}
 use borrow.Author.Needs.{needs}
 use Rattle.deciding.proofs.ask_retain.Statement.{statement}
 use Rattle.deciding.proofs.ask_retain.Tie as tie
-use Rattle.deciding.proofs.ask_retain.Reads as reads
-use Rattle.deciding.proofs.ask_retain.Lts as lts
-use Rattle.retained.proofs.names_of.Reads as names-of-reads
-use Rattle.retained.proofs.unfit.Reads as unfit-reads
 
 unfit-requires : tie.Need-unfit-requires
 unfit-requires c κs = search needs

@@ -1,13 +1,8 @@
-use mathlib.Core.Path.{_≡_, refl, sym, _∙_, ap}
 use Rattle.pdu.specs.Header.{headerOf}
 use Rattle.retained.specs.Records.{namesOf}
-use native.Mathlib.Omega.{arith}
 use borrow.Author.Needs.{needs}
 use Rattle.deciding.proofs.begin_for.Statement.{statement}
 use Rattle.deciding.proofs.begin_for.Tie as tie
-use Rattle.deciding.proofs.begin_for.Reads as reads
-use Rattle.deciding.proofs.begin_for.Lts as lts
-use Rattle.deciding.proofs.no_names.Reads as no-names-reads
 
 no-names-requires : tie.Need-no-names-requires
 no-names-requires c κs = search needs

@@ -1,14 +1,8 @@
 use Rattle.deciding.proofs.Laws.{decide-refuses, decide-acts}
-use mathlib.Core.Path.{_≡_, refl, sym, _∙_, ap}
-use native.Mathlib.Omega.{arith}
+use mathlib.Core.Path.{_∙_}
 use borrow.Author.Needs.{needs}
 use Rattle.deciding.proofs.decide.Statement.{statement}
 use Rattle.deciding.proofs.decide.Tie as tie
-use Rattle.deciding.proofs.decide.Reads as reads
-use Rattle.deciding.proofs.decide.Lts as lts
-use Rattle.deciding.proofs.effect_of.Reads as effect-of-reads
-use Rattle.deciding.proofs.number_of.Reads as number-of-reads
-use Rattle.deciding.proofs.unchanged.Reads as unchanged-reads
 
 number-of-requires : tie.Need-number-of-requires
 number-of-requires c κs = search needs

@@ -1,14 +1,6 @@
-use mathlib.Core.Path.{_≡_, refl, sym, _∙_, ap}
-use native.Mathlib.Omega.{arith}
 use borrow.Author.Needs.{needs}
 use Rattle.deciding.proofs.effect_of.Statement.{statement}
 use Rattle.deciding.proofs.effect_of.Tie as tie
-use Rattle.deciding.proofs.effect_of.Reads as reads
-use Rattle.deciding.proofs.effect_of.Lts as lts
-use Rattle.deciding.proofs.free_effect.Reads as free-effect-reads
-use Rattle.deciding.proofs.retain_effect.Reads as retain-effect-reads
-use Rattle.deciding.proofs.step_effect.Reads as step-effect-reads
-use Rattle.deciding.proofs.unchanged.Reads as unchanged-reads
 
 enum-told : tie.Need-enum-told
 enum-told c = search needs

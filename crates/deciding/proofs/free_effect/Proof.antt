@@ -1,13 +1,8 @@
 use Rattle.deciding.proofs.Laws.{frees, ignores}
-use mathlib.Core.Path.{_≡_, refl, sym, _∙_, ap}
-use native.Mathlib.Omega.{arith}
+use mathlib.Core.Path.{_∙_}
 use borrow.Author.Needs.{needs}
 use Rattle.deciding.proofs.free_effect.Statement.{statement}
 use Rattle.deciding.proofs.free_effect.Tie as tie
-use Rattle.deciding.proofs.free_effect.Reads as reads
-use Rattle.deciding.proofs.free_effect.Lts as lts
-use Rattle.deciding.proofs.changed.Reads as changed-reads
-use Rattle.deciding.proofs.unchanged.Reads as unchanged-reads
 
 changed-requires : tie.Need-changed-requires
 changed-requires c κs = search needs

@@ -1,12 +1,6 @@
-use mathlib.Core.Path.{_≡_, refl, sym, _∙_, ap}
-use native.Mathlib.Omega.{arith}
 use borrow.Author.Needs.{needs}
 use Rattle.deciding.proofs.kind_number.Statement.{statement}
 use Rattle.deciding.proofs.kind_number.Tie as tie
-use Rattle.deciding.proofs.kind_number.Reads as reads
-use Rattle.deciding.proofs.kind_number.Lts as lts
-use Rattle.deciding.proofs.retain_number.Reads as retain-number-reads
-use Rattle.deciding.proofs.step_number.Reads as step-number-reads
 
 enum-told : tie.Need-enum-told
 enum-told c = search needs

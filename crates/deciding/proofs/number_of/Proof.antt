@@ -1,12 +1,8 @@
 use Rattle.deciding.proofs.Laws.{number-early, number-74, number-73, number-late, number-kind}
-use mathlib.Core.Path.{_≡_, refl, sym, _∙_, ap}
-use native.Mathlib.Omega.{arith}
+use mathlib.Core.Path.{sym, _∙_}
 use borrow.Author.Needs.{needs}
 use Rattle.deciding.proofs.number_of.Statement.{statement}
 use Rattle.deciding.proofs.number_of.Tie as tie
-use Rattle.deciding.proofs.number_of.Reads as reads
-use Rattle.deciding.proofs.number_of.Lts as lts
-use Rattle.deciding.proofs.kind_number.Reads as kind-number-reads
 
 returns : tie.Need-returns
 returns c = let a = c .before .before .args in number-early (a .a) (a .s) (c .if1 .taken)

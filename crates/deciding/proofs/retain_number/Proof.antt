@@ -1,11 +1,6 @@
 use Rattle.deciding.proofs.Laws.{retain-71, retain-0, retain-70}
-use mathlib.Core.Path.{_≡_, refl, sym, _∙_, ap}
-use native.Mathlib.Omega.{arith}
-use borrow.Author.Needs.{needs}
 use Rattle.deciding.proofs.retain_number.Statement.{statement}
 use Rattle.deciding.proofs.retain_number.Tie as tie
-use Rattle.deciding.proofs.retain_number.Reads as reads
-use Rattle.deciding.proofs.retain_number.Lts as lts
 
 returns : tie.Need-returns
 returns c = let a = c .before .before .args in retain-71 (a .a) (a .s) (c .if1 .taken)

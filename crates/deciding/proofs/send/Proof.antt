@@ -1,15 +1,9 @@
-use mathlib.Core.Path.{_≡_, refl, sym, _∙_, ap}
+use mathlib.Core.Path.{refl}
 use denote.Ref.{now}
 use Rattle.deciding.proofs.Laws.{resent, dropped}
-use native.Mathlib.Omega.{arith}
 use borrow.Author.Needs.{needs}
 use Rattle.deciding.proofs.send.Statement.{statement}
 use Rattle.deciding.proofs.send.Tie as tie
-use Rattle.deciding.proofs.send.Reads as reads
-use Rattle.deciding.proofs.send.Lts as lts
-use Rattle.octets.proofs.part.Reads as part-reads
-use Rattle.octets.proofs.put.Reads as put-reads
-use Rattle.retained.proofs.freed_record.Reads as freed-record-reads
 
 freed-record-requires : tie.Need-freed-record-requires
 freed-record-requires c κs = search needs

@@ -1,13 +1,8 @@
-use mathlib.Core.Path.{_≡_, refl, sym, _∙_, ap}
+use mathlib.Core.Path.{_∙_}
 use Rattle.deciding.proofs.Laws.{sends, drops, rests}
-use native.Mathlib.Omega.{arith}
 use borrow.Author.Needs.{needs}
 use Rattle.deciding.proofs.step_effect.Statement.{statement}
 use Rattle.deciding.proofs.step_effect.Tie as tie
-use Rattle.deciding.proofs.step_effect.Reads as reads
-use Rattle.deciding.proofs.step_effect.Lts as lts
-use Rattle.deciding.proofs.changed.Reads as changed-reads
-use Rattle.deciding.proofs.unchanged.Reads as unchanged-reads
 
 add-changed : tie.Need-add-changed
 add-changed c = search needs

@@ -1,11 +1,6 @@
 use Rattle.deciding.proofs.Laws.{step-77, step-fits, step-drops, step-none}
-use mathlib.Core.Path.{_≡_, refl, sym, _∙_, ap}
-use native.Mathlib.Omega.{arith}
-use borrow.Author.Needs.{needs}
 use Rattle.deciding.proofs.step_number.Statement.{statement}
 use Rattle.deciding.proofs.step_number.Tie as tie
-use Rattle.deciding.proofs.step_number.Reads as reads
-use Rattle.deciding.proofs.step_number.Lts as lts
 
 returns : tie.Need-returns
 returns c = let a = c .before .before .before .before .before .before .before .before .before .args in step-77 (a .a) (a .s)

@@ -1,6 +1,4 @@
-use mathlib.Core.Path.{refl, sym, ap, _∙_}
-use Prim.Native.Nat.{ℕ}
-use Rattle.octets.specs.Numbers.{_orElse_}
+use mathlib.Core.Path.{refl, sym, _∙_}
 use Rattle.octets.proofs.Numbering.{orElse-first, orElse-later}
 use Rattle.decision.specs.Decision.{dropFault}
 use borrow.Author.Needs.{needs}

@@ -1,14 +1,11 @@
 -- `field::all_substitutes` meets its contract: the table passes the test of its rule at each of its 256 entries.
 -- The table is read off the code: the value of local 0 once it is made. It stands in no file but the source.
 -- Assumes nothing.
-use borrow.Table.Row as Row
 use Rattle.field.specs.Field.{xtime, fieldProduct, _•_, raised, inverse, affineBit, gathered, affine, subByte}
 use Rattle.field.proofs.Table.{follows}
 use Rattle.field.proofs.Substitutes.{tabled}
 use Rattle.field.proofs.all_substitutes.Statement.{statement}
 use Rattle.field.proofs.all_substitutes.Tie as tie
-use Rattle.field.proofs.all_substitutes.Lts as lts
-use Rattle.field.proofs.all_substitutes.Reads as reads
 
 returns : tie.Need-returns
 unfolding follows xtime fieldProduct _•_ raised inverse affineBit gathered affine subByte

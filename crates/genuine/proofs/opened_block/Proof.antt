@@ -1,8 +1,7 @@
 use Prim.Native.Nat.{_-_}
 use Rattle.genuine.proofs.Deciphering.{block-size, block-opened}
 use Rattle.counter.specs.Counter.{stream}
-use lib.ListN.{replicate}
-use mathlib.Core.Path.{_≡_, refl, _∙_}
+use mathlib.Core.Path.{refl}
 use native.Mathlib.Omega.{arith}
 use borrow.Author.Needs.{needs}
 use Rattle.genuine.proofs.opened_block.Statement.{statement}

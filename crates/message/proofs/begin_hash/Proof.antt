@@ -1,6 +1,4 @@
 use Rattle.message.proofs.Hashing.{begun-with}
-use mathlib.Core.Path.{ap, _∙_}
-use native.Mathlib.Omega.{arith}
 use borrow.Author.Needs.{needs}
 use Rattle.message.proofs.begin_hash.Statement.{statement}
 use Rattle.message.proofs.begin_hash.Tie as tie

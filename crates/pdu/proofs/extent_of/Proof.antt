@@ -1,10 +1,10 @@
 use Prim.Native.Nat.{_<_, _≤_}
-use mathlib.Core.Path.{sym, ap, _∙_}
+use mathlib.Core.Path.{sym, _∙_}
 use denote.Ref.{now}
 use lib.ListN.{length}
 use Rattle.pdu.specs.Header.{headerOf}
 use Rattle.pdu.specs.Sizes.{headerLength, pduLength}
-use Rattle.pdu.specs.Reading.{readOf, extentOf}
+use Rattle.pdu.specs.Reading.{readOf}
 use Rattle.pdu.proofs.Inversion.{read-whole}
 use Rattle.pdu.proofs.Faults.{passes, first-byte-given, header-cut, payload-cut}
 use Rattle.pdu.proofs.Showing.{length-shown, pdu-length-shown}

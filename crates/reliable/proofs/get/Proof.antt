@@ -1,7 +1,7 @@
 -- `reliable::get` meets its contract: a walk of its MIR, by hand. The slice is looked into, element i is taken out of the row, copied whole, and put back.
 -- A record of plain data is Copy, so what it owns is had twice: once in the row, and once for the result.
 -- Assumes nothing.
-use mathlib.Core.Path.{_≡_, refl, sym}
+use mathlib.Core.Path.{refl, sym}
 use Prim.Native.Nat.{ℕ, _<_, _^_}
 use mathlib.Core.List.{List, [], _∷_}
 use lib.ListN.{length, getD}

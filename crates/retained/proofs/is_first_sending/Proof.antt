@@ -1,16 +1,10 @@
 use Rattle.retained.proofs.Laws.{other-protocol, with-ack, by-path}
-use mathlib.Core.Path.{_≡_, refl, sym, _∙_, ap}
-use denote.Ref.{now}
+use mathlib.Core.Path.{_∙_, ap}
 use lib.Dec.{eqb}
 use Prim.Native.Nat.{ℕ}
-use borrow.Author.Tests.{not-true, not-false}
-use native.Mathlib.Omega.{arith}
 use borrow.Author.Needs.{needs}
 use Rattle.retained.proofs.is_first_sending.Statement.{statement}
 use Rattle.retained.proofs.is_first_sending.Tie as tie
-use Rattle.retained.proofs.is_first_sending.Reads as reads
-use Rattle.retained.proofs.is_first_sending.Lts as lts
-use Rattle.pdu.proofs.Header.path_entries.Reads as path-entries-reads
 
 returns : tie.Need-returns
 returns c = other-protocol (c .before .before .args .header) (c .if1 .taken)

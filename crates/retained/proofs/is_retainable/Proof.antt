@@ -1,20 +1,10 @@
 use Rattle.retained.proofs.Laws.{not-read, not-exact, by-header}
 use Rattle.retained.specs.Records.{isFirstSending}
-use mathlib.Core.Path.{_≡_, refl, sym, _∙_, ap}
+use mathlib.Core.Path.{sym, _∙_, ap}
 use denote.Ref.{now}
-use lib.Dec.{eqb}
-use Prim.Native.Nat.{ℕ}
-use borrow.Author.Tests.{not-true, not-false}
-use native.Mathlib.Omega.{arith}
 use borrow.Author.Needs.{needs}
 use Rattle.retained.proofs.is_retainable.Statement.{statement}
 use Rattle.retained.proofs.is_retainable.Tie as tie
-use Rattle.retained.proofs.is_retainable.Reads as reads
-use Rattle.retained.proofs.is_retainable.Lts as lts
-use Rattle.pdu.proofs.fault.Reads as fault-reads
-use Rattle.pdu.proofs.header_of.Reads as header-of-reads
-use Rattle.pdu.proofs.pdu_length_in.Reads as pdu-length-in-reads
-use Rattle.retained.proofs.is_first_sending.Reads as is-first-sending-reads
 
 fault-requires : tie.Need-fault-requires
 fault-requires c κs = search needs

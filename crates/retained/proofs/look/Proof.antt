@@ -1,18 +1,8 @@
-use mathlib.Core.Path.{_≡_, refl, sym, _∙_, ap}
 use Rattle.retained.specs.Searching.{lookOf}
 use Rattle.retained.proofs.Used.{seen-due}
-use native.Mathlib.Omega.{arith}
 use borrow.Author.Needs.{needs}
 use Rattle.retained.proofs.look.Statement.{statement}
 use Rattle.retained.proofs.look.Tie as tie
-use Rattle.retained.proofs.look.Reads as reads
-use Rattle.retained.proofs.look.Lts as lts
-use Rattle.retained.proofs.in_use.is_due.Reads as is-due-reads
-use Rattle.retained.proofs.in_use.is_named.Reads as is-named-reads
-use Rattle.retained.proofs.in_use.is_used.Reads as is-used-reads
-use Rattle.retained.proofs.noted.Reads as noted-reads
-use Rattle.retained.proofs.in_use.see.Reads as see-reads
-use Rattle.retained.proofs.seen_noted.Reads as seen-noted-reads
 
 is-due-requires : tie.Need-is-due-requires
 is-due-requires c κs = search needs

@@ -1,12 +1,6 @@
-use mathlib.Core.Path.{_≡_, refl, sym, _∙_, ap}
-use denote.Ref.{now}
-use borrow.Author.Tests.{lt-ltb, le-ltb, le-leb, lt-leb, eq-eqb, ne-eqb}
-use native.Mathlib.Omega.{arith}
-use borrow.Author.Needs.{needs}
+use borrow.Author.Tests.{eq-eqb, ne-eqb}
 use Rattle.retained.proofs.seen_noted.Statement.{statement}
 use Rattle.retained.proofs.seen_noted.Tie as tie
-use Rattle.retained.proofs.seen_noted.Reads as reads
-use Rattle.retained.proofs.seen_noted.Lts as lts
 
 returns : tie.Need-returns
 returns c = simp (eq-eqb _ _ (c .before .if1 .taken), c .if2 .taken)

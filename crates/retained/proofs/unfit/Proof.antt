@@ -1,16 +1,8 @@
 use Rattle.retained.proofs.Laws.{unfit-75, unfit-72, unfit-0}
-use mathlib.Core.Path.{_≡_, refl, sym, _∙_, ap}
-use denote.Ref.{now}
-use lib.Dec.{eqb}
-use Prim.Native.Nat.{ℕ}
 use borrow.Author.Tests.{not-true, not-false}
-use native.Mathlib.Omega.{arith}
 use borrow.Author.Needs.{needs}
 use Rattle.retained.proofs.unfit.Statement.{statement}
 use Rattle.retained.proofs.unfit.Tie as tie
-use Rattle.retained.proofs.unfit.Reads as reads
-use Rattle.retained.proofs.unfit.Lts as lts
-use Rattle.retained.proofs.is_retainable.Reads as is-retainable-reads
 
 is-retainable-requires : tie.Need-is-retainable-requires
 is-retainable-requires c κs = search needs

@@ -1,6 +1,5 @@
 use Rattle.sealing.proofs.Laying.{enciphered}
 use Prim.Native.Nat.{_-_}
-use native.Mathlib.Omega.{arith}
 use borrow.Author.Needs.{needs}
 use Rattle.sealing.proofs.encipher.Statement.{statement}
 use Rattle.sealing.proofs.encipher.Tie as tie

@@ -1,5 +1,4 @@
 use Rattle.sealing.proofs.Laying.{head-put}
-use native.Mathlib.Omega.{arith}
 use borrow.Author.Needs.{needs}
 use Rattle.sealing.proofs.put_head.Statement.{statement}
 use Rattle.sealing.proofs.put_head.Tie as tie

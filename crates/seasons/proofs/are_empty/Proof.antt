@@ -3,7 +3,6 @@ use native.Mathlib.Omega.{arith}
 use mathlib.Core.Bool.{Bool, cond}
 use mathlib.Core.Path.{_≡_, ap}
 use borrow.Author.Tests.{eqb-true}
-use borrow.Author.Needs.{needs}
 use Rattle.seasons.proofs.are_empty.Statement.{statement}
 use Rattle.seasons.proofs.are_empty.Tie as tie
 

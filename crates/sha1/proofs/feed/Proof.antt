@@ -1,12 +1,11 @@
 -- `sha1::feed` meets its contract: the loop keeps what the first i bytes have come to.
 -- Assumes nothing.
-use mathlib.Core.Path.{_≡_, refl, ap, _∙_}
+use mathlib.Core.Path.{_≡_, refl, _∙_}
 use mathlib.Core.Logic.{⊎-elim}
 use Prim.Native.Nat.{_≤_, _-_, _%_}
 use native.Mathlib.Omega.{arith}
 use lib.ListN.{length, take, length-set}
 use Rattle.sha1.specs.declared.Running.{Running}
-use Rattle.compression.specs.Compression.{compressed}
 use Rattle.sha1.specs.Sha1.{fed}
 use Rattle.sha1.proofs.Feeding.{full, not-full, fed-more, fed-all}
 use borrow.Author.Needs.{needs}

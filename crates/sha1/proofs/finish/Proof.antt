@@ -1,7 +1,7 @@
 -- `sha1::finish` meets its contract: the marker and the length are the padding.
 -- Assumes nothing.
 use mathlib.Core.Path.{refl, ap, _∙_}
-use Prim.Native.Nat.{_+_, _-_, _%_}
+use Prim.Native.Nat.{_+_, _-_}
 use native.Mathlib.Omega.{arith}
 use Rattle.sha1.specs.Sha1.{eightBytes, zeros}
 use Rattle.sha1.proofs.Feeding.{marked, finished-by}

@@ -1,5 +1,4 @@
 use Rattle.sources.proofs.Laws.{new-taken, not-greater, greater}
-use mathlib.Core.Path.{_∙_}
 use native.Mathlib.Omega.{arith}
 use borrow.Author.Needs.{needs}
 use Rattle.sources.proofs.number_fault.Statement.{statement}

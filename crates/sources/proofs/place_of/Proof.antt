@@ -1,17 +1,13 @@
 use Rattle.sources.proofs.Laws.{source-at, found, not-found, nowhere}
 use Rattle.sources.specs.Sources.{recordIn, placeOf}
-use Prim.Native.Nat.{ℕ, _+_, _-_, _≤_}
+use Prim.Native.Nat.{_+_, _-_, _≤_}
 use native.Mathlib.Nat.{zero-add}
 use lib.ListN.{length, drop}
-use mathlib.Core.Path.{_≡_, refl, ap, sym, _∙_}
+use mathlib.Core.Path.{_≡_, sym, _∙_}
 use native.Mathlib.Omega.{arith}
 use borrow.Author.Needs.{needs}
 use Rattle.sources.proofs.place_of.Statement.{statement}
 use Rattle.sources.proofs.place_of.Tie as tie
-use Rattle.sources.proofs.place_of.Reads as reads
-use Rattle.sources.proofs.place_of.Lts as lts
-use Rattle.sources.proofs.held.Reads as held-reads
-use Rattle.sources.proofs.wide.Reads as wide-reads
 
 abbrev Inv-loop : tie.InvT-loop
 Inv-loop memory source end sought place₀ place =

@@ -1,5 +1,4 @@
 use Rattle.sources.proofs.Laws.{source-held, source-full, source-room}
-use mathlib.Core.Path.{_∙_}
 use native.Mathlib.Omega.{arith}
 use borrow.Author.Needs.{needs}
 use Rattle.sources.proofs.source_fault.Statement.{statement}

@@ -1,12 +1,8 @@
-use Prim.Native.Nat.{_+_}
-use mathlib.Core.Path.{_≡_, sym, _∙_}
+use mathlib.Core.Path.{sym, _∙_}
 use denote.Ref.{now}
 use borrow.Author.Tests.{not-true, not-false}
-use Rattle.pdu.specs.Header.{headerOf}
-use Rattle.pdu.specs.Sizes.{headerLength}
 use Rattle.mant.proofs.Fields.{six-within, header-within, sender-none, sender-first, sender-last, reaches}
 use native.Mathlib.Omega.{arith}
-use borrow.Author.Needs.{needs}
 use Rattle.mant.proofs.header.sender_in.Statement.{statement}
 use Rattle.mant.proofs.header.sender_in.Tie as tie
 

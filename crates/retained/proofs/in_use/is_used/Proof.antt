@@ -1,15 +1,9 @@
-use mathlib.Core.Path.{_≡_, refl, sym, _∙_, ap}
+use mathlib.Core.Path.{_≡_, _∙_}
 use lib.ListN.{length}
 use Rattle.retained.proofs.Used.{used-is}
-use native.Mathlib.Omega.{arith}
 use borrow.Author.Needs.{needs}
 use Rattle.retained.proofs.in_use.is_used.Statement.{statement}
 use Rattle.retained.proofs.in_use.is_used.Tie as tie
-use Rattle.retained.proofs.in_use.is_used.Reads as reads
-use Rattle.retained.proofs.in_use.is_used.Lts as lts
-use Rattle.retained.proofs.in_use.is_whole.Reads as is-whole-reads
-use Rattle.retained.proofs.in_use.path_entries.Reads as path-entries-reads
-use Rattle.retained.proofs.in_use.payload_length.Reads as payload-length-reads
 
 array-read-path-entries : tie.Need-array-read-path-entries
 array-read-path-entries c = search needs

@@ -1,13 +1,7 @@
 use borrow.Author.Tests.{eq-eqb, ne-eqb, le-leb, lt-leb}
-use mathlib.Core.Path.{_≡_, refl, sym, _∙_, ap}
-use native.Mathlib.Omega.{arith}
 use borrow.Author.Needs.{needs}
 use Rattle.retained.proofs.in_use.is_whole.Statement.{statement}
 use Rattle.retained.proofs.in_use.is_whole.Tie as tie
-use Rattle.retained.proofs.in_use.is_whole.Reads as reads
-use Rattle.retained.proofs.in_use.is_whole.Lts as lts
-use Rattle.octets.proofs.byte_value.Reads as byte-value-reads
-use Rattle.octets.proofs.word_value.Reads as word-value-reads
 
 returns : tie.Need-returns
 returns c = simp (ne-eqb _ _ (c .if1 .taken))

@@ -1,12 +1,7 @@
-use mathlib.Core.Path.{_≡_, refl, sym, _∙_, ap}
 use Rattle.retained.proofs.Used.{names-are}
-use native.Mathlib.Omega.{arith}
 use borrow.Author.Needs.{needs}
 use Rattle.retained.proofs.in_use.names_in.Statement.{statement}
 use Rattle.retained.proofs.in_use.names_in.Tie as tie
-use Rattle.retained.proofs.in_use.names_in.Reads as reads
-use Rattle.retained.proofs.in_use.names_in.Lts as lts
-use Rattle.retained.proofs.in_use.word_of.Reads as word-of-reads
 
 array-read-word-of : tie.Need-array-read-word-of
 array-read-word-of c = search needs

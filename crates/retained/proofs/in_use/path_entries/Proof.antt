@@ -1,11 +1,6 @@
-use borrow.Author.Tests.{eq-eqb, ne-eqb, le-leb, lt-leb}
-use mathlib.Core.Path.{_≡_, refl, sym, _∙_, ap}
-use native.Mathlib.Omega.{arith}
-use borrow.Author.Needs.{needs}
+use borrow.Author.Tests.{eq-eqb, ne-eqb}
 use Rattle.retained.proofs.in_use.path_entries.Statement.{statement}
 use Rattle.retained.proofs.in_use.path_entries.Tie as tie
-use Rattle.retained.proofs.in_use.path_entries.Reads as reads
-use Rattle.retained.proofs.in_use.path_entries.Lts as lts
 
 returns : tie.Need-returns
 returns c = simp (eq-eqb _ _ (c .if1 .taken))

@@ -1,13 +1,7 @@
 use Rattle.retained.proofs.Laws.{same-3}
-use mathlib.Core.Path.{_≡_, refl, sym, _∙_, ap}
-use denote.Ref.{now}
-use borrow.Author.Tests.{lt-ltb, le-ltb, le-leb, lt-leb, eq-eqb, ne-eqb}
-use native.Mathlib.Omega.{arith}
-use borrow.Author.Needs.{needs}
+use borrow.Author.Tests.{eq-eqb, ne-eqb}
 use Rattle.retained.proofs.in_use.same_names.Statement.{statement}
 use Rattle.retained.proofs.in_use.same_names.Tie as tie
-use Rattle.retained.proofs.in_use.same_names.Reads as reads
-use Rattle.retained.proofs.in_use.same_names.Lts as lts
 
 returns : tie.Need-returns
 returns c = simp (ne-eqb _ _ (c .if1 .taken))

@@ -1,11 +1,6 @@
-use mathlib.Core.Path.{_≡_, refl, sym, _∙_, ap}
-use native.Mathlib.Omega.{arith}
 use borrow.Author.Needs.{needs}
 use Rattle.retained.proofs.in_use.see.Statement.{statement}
 use Rattle.retained.proofs.in_use.see.Tie as tie
-use Rattle.retained.proofs.in_use.see.Reads as reads
-use Rattle.retained.proofs.in_use.see.Lts as lts
-use Rattle.retained.proofs.in_use.names_in.Reads as names-in-reads
 
 names-in-requires : tie.Need-names-in-requires
 names-in-requires c κs = search needs
