@@ -6,7 +6,7 @@ use Prim.Native.Nat.{ℕ, _+_, _≤_, _<_}
 use borrow.Author.Tests.{lt-ltb, le-ltb, le-leb, lt-leb}
 use lib.Dec.{leb}
 use lib.ListN.{length}
-use Rattle.chains.specs.Lengths.{nodeLimit, noChain, served, Found}
+use Rattle.chains.specs.Lengths.{nodeLimit, noChain, served, LengthsFound}
 use Rattle.chains.specs.Rounds.{beforeRounds, afterRound}
 use Rattle.chains.proofs.Rounds.{Known, known-first, known-after, all-told}
 
@@ -14,14 +14,14 @@ module _ (pairs : List ℕ) (from : ℕ) (before : List ℕ) where
   abbrev n : ℕ
   n = length before
 
-  refused : served n from ≡ false → Found pairs from before false before
+  refused : served n from ≡ false → LengthsFound pairs from before false before
   refused is =
       record { answer = sym is; size = refl; told = λ so. absurd (false≢true so); unchanged = λ so. refl }
 
-  pub too-many : nodeLimit < n → Found pairs from before false before
+  pub too-many : nodeLimit < n → LengthsFound pairs from before false before
   too-many many = refused (rw (lt-leb n nodeLimit many) refl)
 
-  pub not-a-node : n ≤ from → Found pairs from before false before
+  pub not-a-node : n ≤ from → LengthsFound pairs from before false before
   not-a-node past = refused (rw (le-ltb from n past) (and-false (leb n nodeLimit)))
 
   pub begun-known : (lengths : List ℕ) → from < n → lengths ≡ beforeRounds n from → Known pairs n from 0 lengths
@@ -33,7 +33,7 @@ module _ (pairs : List ℕ) (from : ℕ) (before : List ℕ) where
       subst (Known pairs n from (k + 1)) (sym is) (known-after pairs n from begins k lengths few known)
 
   pub all-found : (k : ℕ) (lengths : List ℕ) → from < n → n ≤ nodeLimit → n ≤ k + 1 → Known pairs n from k lengths
-      → Found pairs from before true lengths
+      → LengthsFound pairs from before true lengths
   all-found k lengths begins few enough known =
       let answered : served n from ≡ true = rw (le-leb n nodeLimit few) (lt-ltb from n begins) in
       record {

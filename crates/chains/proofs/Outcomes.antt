@@ -8,7 +8,7 @@ use native.Mathlib.Omega.{arith}
 use lib.ListN.{length}
 use lib.Seq.{ext-getD}
 use Rattle.octets.specs.Octets.{at}
-use Rattle.chains.specs.Lengths.{isHeard, placesOfNodes, Tells, Found}
+use Rattle.chains.specs.Lengths.{isHeard, placesOfNodes, Tells, LengthsFound}
 use Rattle.chains.proofs.Steps.{shortest-one}
 
 module _ (pairs : List ℕ) (from : ℕ) where
@@ -28,12 +28,12 @@ module _ (pairs : List ℕ) (from : ℕ) where
       t
 
   pub one-outcome : (before : List ℕ) (done done′ : Bool) (after after′ : List ℕ)
-      → Found pairs from before done after → Found pairs from before done′ after′ → (done ≡ done′) × (after ≡ after′)
+      → LengthsFound pairs from before done after → LengthsFound pairs from before done′ after′ → (done ≡ done′) × (after ≡ after′)
   one-outcome before done done′ after after′ f g =
       let same = f .answer ∙ sym (g .answer) in
-      (same, go done (subst (λ (b : Bool). Found pairs from before b after′) (sym same) g) f)
+      (same, go done (subst (λ (b : Bool). LengthsFound pairs from before b after′) (sym same) g) f)
     where
-      go : (b : Bool) → Found pairs from before b after′ → Found pairs from before b after → after ≡ after′
+      go : (b : Bool) → LengthsFound pairs from before b after′ → LengthsFound pairs from before b after → after ≡ after′
       go true g f =
           ext-getD 0 after after′ (f .size ∙ sym (g .size))
           (λ to below.

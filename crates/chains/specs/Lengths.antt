@@ -37,7 +37,7 @@ abbrev pub served : ℕ → ℕ → Bool
 served n from = leb n nodeLimit && ltb from n
 
 -- the outcome of finding the lengths, a byte for each node: all are told where the network is served, else nothing is changed
-pub record Found (pairs : List ℕ) (from : ℕ) (before : List ℕ) (done : Bool) (after : List ℕ) : Type 0 where
+pub record LengthsFound (pairs : List ℕ) (from : ℕ) (before : List ℕ) (done : Bool) (after : List ℕ) : Type 0 where
   pub answer : done ≡ served (length before) from
   pub size : length after ≡ length before
   pub told : done ≡ true → (to : ℕ) → to < length before → Tells pairs (length before) from to (at after to)

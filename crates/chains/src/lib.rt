@@ -2,7 +2,7 @@
 ghost use mathlib.Core.Path.{_≡_};
 ghost use Prim.Native.Nat.{_<_};
 ghost use lib.ListN.{length, replicate};
-ghost use Rattle.chains.specs.Lengths.{noChain, Found};
+ghost use Rattle.chains.specs.Lengths.{noChain, LengthsFound};
 ghost use Rattle.chains.specs.Reach.{isDelivered, isMissed, missed, leastHop};
 ghost use Rattle.chains.specs.Rounds.{beforeRounds, isTold, noted, afterRound};
 use octets::byte_value;
@@ -18,7 +18,7 @@ pub const NO_CHAIN: u8 = 255;
 // many nodes as `lengths` has bytes; `pairs` says who hears whom, a sender's place and then the place of one that hears it, and so on. A pair with a place
 // that no node has says nothing. Where there are more than 255 nodes, or none at `from`, the answer is false and nothing is written. Document 02, W-208.
 pub fn find_lengths(pairs: &[u8], from: usize, lengths: &mut [u8]) -> bool
-    ensures { λ r. ⌜ Found (now (pairs .entry)) from (now (lengths .entry)) r (now (lengths .exit)) ⌝ }
+    ensures { λ r. ⌜ LengthsFound (now (pairs .entry)) from (now (lengths .entry)) r (now (lengths .exit)) ⌝ }
 {
     let nodes = lengths.len();
     if nodes > NODE_LIMIT {

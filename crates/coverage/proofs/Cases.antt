@@ -25,7 +25,7 @@ use Rattle.flood.specs.Flood.{flood, answer}
 use Rattle.flood.proofs.Examples.{plain-nodes, plain-open, asked-taken}
 use Rattle.flood.proofs.Lists.{nodup-more}
 use Rattle.flood.proofs.Others.{others-are}
-use Rattle.coverage.specs.Hearing.{Taken, ByNoOther}
+use Rattle.coverage.specs.Hearing.{TakenByAll, ByNoOther}
 use Rattle.coverage.specs.Delivery.{Planned, Delivered}
 use Rattle.coverage.specs.Cases.{reportAsked, reading, repeater, tell, toldAlong, toldOfEach, nextInLine, lineAddresses, lineReceptions, lineAir}
 use Rattle.coverage.specs.Cases.{lineTold, written, twoWays, twoWaysAddresses, longerFirst}
@@ -114,7 +114,7 @@ unfolding areTaken distinct absent all below happens within lastOr written flood
     _gives_ _orElse_
 line-checked = each-hop LineChecked refl refl refl refl refl refl refl
 
-pub line-taken : (hop : ℕ) → hop ≤ 6 → Taken nextInLine (map repeater lineAddresses) (fresh (reportAsked hop) reading) (lineReceptions hop)
+pub line-taken : (hop : ℕ) → hop ≤ 6 → TakenByAll nextInLine (map repeater lineAddresses) (fresh (reportAsked hop) reading) (lineReceptions hop)
     × ByNoOther nextInLine (map repeater lineAddresses) (fresh (reportAsked hop) reading) (lineReceptions hop)
 line-taken hop few =
     checked (map repeater lineAddresses) nextInLine (fresh (reportAsked hop) reading) (lineReceptions hop) (lineAir hop)
@@ -140,7 +140,7 @@ unfolding areTaken distinct absent all below happens within lastOr written flood
     _gives_ _orElse_
 two-ways-checked = refl
 
-pub two-ways-taken : Taken twoWays (map repeater twoWaysAddresses) (fresh (reportAsked 6) reading) longerFirst
+pub two-ways-taken : TakenByAll twoWays (map repeater twoWaysAddresses) (fresh (reportAsked 6) reading) longerFirst
     × ByNoOther twoWays (map repeater twoWaysAddresses) (fresh (reportAsked 6) reading) longerFirst
 two-ways-taken =
     checked (map repeater twoWaysAddresses) twoWays (fresh (reportAsked 6) reading) longerFirst

@@ -12,11 +12,11 @@ use lib.Dec.{eqb, ltb}
 use lib.ListN.{length, getElem?}
 use Rattle.octets.proofs.Tests.{both}
 use Rattle.flood.specs.Air.{Repeater, sends, onTheAir}
-use Rattle.flood.specs.Complete.{Heard}
+use Rattle.flood.specs.Complete.{HasHeard}
 use Rattle.flood.specs.Flood.{Reception, flood}
 use Rattle.flood.proofs.Lists.{nodup-more}
 use Rattle.flood.proofs.Runs.{flood-append}
-use Rattle.coverage.specs.Hearing.{InHearing, Taken, ByNoOther}
+use Rattle.coverage.specs.Hearing.{InHearing, TakenByAll, ByNoOther}
 use Rattle.coverage.proofs.Schedule.{within, at-within}
 
 one-of : (a b : Bool) → (a || b) ≡ true → a ≡ false → b ≡ true
@@ -94,7 +94,7 @@ module _ (nodes : List Repeater) where
       (isAt node transmission r && ltb transmission (length log)) || happens (flood sends nodes log (r ∷ [])) later node transmission
 
   happens-heard : (log : List (List ℕ)) (rs : List Reception) (node transmission : ℕ) → happens log rs node transmission ≡ true
-      → Heard sends nodes log rs node transmission
+      → HasHeard sends nodes log rs node transmission
   unfolding happens flood
   happens-heard log [] node transmission e = absurd (false≢true e)
   happens-heard log (r ∷ later) node transmission e =
@@ -102,8 +102,8 @@ module _ (nodes : List Repeater) where
     where
       go : (t : Bool) → (isAt node transmission r && ltb transmission (length log)) ≡ t
           → (happens (flood sends nodes log (r ∷ [])) later node transmission ≡ true
-          → Heard sends nodes (flood sends nodes log (r ∷ [])) later node transmission)
-          → Heard sends nodes log (r ∷ later) node transmission
+          → HasHeard sends nodes (flood sends nodes log (r ∷ [])) later node transmission)
+          → HasHeard sends nodes log (r ∷ later) node transmission
       go true here rest =
           let (is, made) = both _ _ here in
           record {
@@ -157,7 +157,7 @@ module _ (nodes : List Repeater) where
       unfolding within
       within-told r w sent-at = (λ i. within hears nodes (w .node-at i) (sent-at i)) ∙ w .hears-sender
 
-      pub checked : areTaken ≡ true → Taken hears nodes first receptions × ByNoOther hears nodes first receptions
+      pub checked : areTaken ≡ true → TakenByAll hears nodes first receptions × ByNoOther hears nodes first receptions
       unfolding areTaken
       checked e =
           let (apart, rest) = both _ _ e in

@@ -19,7 +19,7 @@ use Rattle.flood.specs.Air.{Repeater, Open, Begins, address, hopOf}
 use Rattle.flood.specs.Flood.{Reception, others}
 use Rattle.flood.proofs.Fresh.{originated-begins, fresh-shows, fresh-source, fresh-hop, fresh-destination}
 use Rattle.flood.proofs.Lists.{at-mem}
-use Rattle.coverage.specs.Hearing.{Taken, ByNoOther}
+use Rattle.coverage.specs.Hearing.{TakenByAll, ByNoOther}
 use Rattle.coverage.specs.Delivery.{Planned, Delivered}
 use Rattle.coverage.specs.Reach.{Reach}
 use Rattle.coverage.proofs.Chaining.{shortest-of}
@@ -59,11 +59,11 @@ module _ (hears : ℕ → ℕ → Bool) (nodes : List Repeater) (settings : Fres
   roomy = rw (from, hop) (plan .others-roomy)
 
   -- THERE ARE SUCH RECEPTIONS
-  pub schedule : (receptions : List Reception) × Taken hears nodes (fresh settings payload) receptions
+  pub schedule : (receptions : List Reception) × TakenByAll hears nodes (fresh settings payload) receptions
       × ByNoOther hears nodes (fresh settings payload) receptions
   schedule = taken-exists hears nodes (plan .network) first begins
 
-  module _ (receptions : List Reception) (taken : Taken hears nodes (fresh settings payload) receptions) where
+  module _ (receptions : List Reception) (taken : TakenByAll hears nodes (fresh settings payload) receptions) where
     -- by the shortest chain
     pub by-shortest : (n : Repeater) → List·Memᴰ n nodes → address n ≢ settings .source → (k : ℕ) → k ≤ settings .«hop_limit» + 1
         → Shortest hears (map address nodes) (settings .source) (address n) k → Delivered nodes (fresh settings payload) receptions n payload (k - 1)

@@ -22,7 +22,7 @@ use Rattle.decision.proofs.Dropping.{passed}
 use Rattle.node.specs.Repeat.{repeated}
 use Rattle.node.specs.Answers.{stopFault, deliveryNumber, answerOf}
 use Rattle.flood.specs.Air.{Repeater, address, sends, pathOf, hopOf, onTheAir, Nodes, Open, Begins}
-use Rattle.flood.specs.Complete.{Heard}
+use Rattle.flood.specs.Complete.{HasHeard}
 use Rattle.flood.specs.Flood.{Reception, others}
 use Rattle.flood.proofs.Demand.{network}
 use Rattle.flood.proofs.Exact.{willing, counted, for-everyone}
@@ -31,7 +31,7 @@ use Rattle.flood.proofs.Lists.{mem-at, at-mem}
 use Rattle.flood.proofs.Network.{Network}
 use Rattle.flood.proofs.Others.{are-others}
 use Rattle.flood.proofs.Runs.{stays, heard-said}
-use Rattle.coverage.specs.Hearing.{senderOf, Taken, ByNoOther}
+use Rattle.coverage.specs.Hearing.{senderOf, TakenByAll, ByNoOther}
 use Rattle.coverage.specs.Delivery.{Delivered}
 use Rattle.coverage.proofs.Carried.{Carries, node-carries, delivers}
 
@@ -62,7 +62,7 @@ module _ (hears : ℕ → ℕ → Bool) (nodes : List Repeater) (all : Nodes nod
       }
 
   -- Any receptions by those who hear.
-  module _ (receptions : List Reception) (taken : Taken hears nodes first receptions) where
+  module _ (receptions : List Reception) (taken : TakenByAll hears nodes first receptions) where
     abbrev log : List (List ℕ)
     log = onTheAir nodes first receptions
 
@@ -130,7 +130,7 @@ module _ (hears : ℕ → ℕ → Bool) (nodes : List Repeater) (all : Nodes nod
         (Memᴰ·map address (at-mem nodes (r .node) n-at)) (taker-hears only r m n n-at t t-at)
 
     -- a reception that was taken happens
-    taken-happens : (r : Reception) → Heard sends nodes (first ∷ []) receptions (r .node) (r .transmission) → List·Memᴰ r receptions
+    taken-happens : (r : Reception) → HasHeard sends nodes (first ∷ []) receptions (r .node) (r .transmission) → List·Memᴰ r receptions
     taken-happens r h = subst (λ (l : List Reception). List·Memᴰ r l) (sym (h .split)) (Memᴰ·append-right (h .before) (List·Memᴰ·head refl))
 
     -- WHAT IS DELIVERED HAS COME ALONG A CHAIN of one hearing more than its path count, and of at most the hop limit and one
@@ -179,7 +179,7 @@ module _ (hears : ℕ → ℕ → Bool) (nodes : List Repeater) (all : Nodes nod
         new m = let (j, j-le, c) = t .near (address n) m in s .none-shorter j (omega arith) c
 
         lies : (r : ℕ) → getElem? nodes r ≡ some n → (i : ℕ) → getElem? log i ≡ some (t .sent)
-            → Heard sends nodes (first ∷ []) receptions r i
+            → HasHeard sends nodes (first ∷ []) receptions r i
         lies r n-at i t-at =
             taken .by-all (record { node = r; transmission = i }) (record {
               node = n;

@@ -12,7 +12,7 @@ use lib.ListN.{length, getElem?}
 use Rattle.pdu.specs.Header.{sourceOf}
 use Rattle.bound.specs.Bound.{bound}
 use Rattle.flood.specs.Air.{Repeater, address, sends, pathOf, hopOf, onTheAir, Nodes, Begins}
-use Rattle.flood.specs.Complete.{Heard}
+use Rattle.flood.specs.Complete.{HasHeard}
 use Rattle.flood.specs.Flood.{Reception, flood, answer, others}
 use Rattle.flood.proofs.Bounded.{flood-bounded}
 use Rattle.flood.proofs.Demand.{network}
@@ -21,7 +21,7 @@ use Rattle.flood.proofs.Network.{Network}
 use Rattle.flood.proofs.Rounds.{rounds, rounds-once}
 use Rattle.flood.proofs.Runs.{flood-grows, rounds-complete}
 use Rattle.flood.proofs.Sent.{Sound}
-use Rattle.coverage.specs.Hearing.{senderOf, InHearing, Taken, ByNoOther}
+use Rattle.coverage.specs.Hearing.{senderOf, InHearing, TakenByAll, ByNoOther}
 use Rattle.coverage.proofs.Chosen.{chosen, chosen-here, chosen-not, chosen-append, chosen-are, chosen-once}
 
 -- one reception, by what it answers
@@ -160,7 +160,7 @@ module _ (hears : ℕ → ℕ → Bool) (nodes : List Repeater) where
               }
 
       heard-all : (r : Reception) → InHearing hears nodes first heardOnly r
-          → Heard sends nodes (first ∷ []) heardOnly (r .node) (r .transmission)
+          → HasHeard sends nodes (first ∷ []) heardOnly (r .node) (r .transmission)
       unfolding within
       heard-all r w =
           let sent-at : getElem? sentInAll (r .transmission) ≡ some (w .sent) =
@@ -179,7 +179,7 @@ module _ (hears : ℕ → ℕ → Bool) (nodes : List Repeater) where
             made = subst (λ (l : List (List ℕ)). r .transmission < length l) (sym was) (c .made);
           }
 
-      pub rounds-taken : Taken hears nodes first (heardOnly)
+      pub rounds-taken : TakenByAll hears nodes first (heardOnly)
       rounds-taken = record { once = chosen-once (heardIn sentInAll) everything (rounds-once (length nodes) k); by-all = heard-all }
 
       pub rounds-only : ByNoOther hears nodes first (heardOnly)
@@ -187,7 +187,7 @@ module _ (hears : ℕ → ℕ → Bool) (nodes : List Repeater) where
 
 -- as many rounds as demand 3's bound are enough, whoever hears whom
 pub taken-exists : (hears : ℕ → ℕ → Bool) (nodes : List Repeater) → Nodes nodes → (first : List ℕ) → Begins first
-    → (receptions : List Reception) × Taken hears nodes first receptions × ByNoOther hears nodes first receptions
+    → (receptions : List Reception) × TakenByAll hears nodes first receptions × ByNoOther hears nodes first receptions
 taken-exists hears nodes all first begins =
     let net = network nodes all first begins in
     let heard : Network (onHearing hears nodes) address (sourceOf first) (Sound first) pathOf hopOf nodes first =

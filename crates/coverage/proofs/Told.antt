@@ -13,7 +13,7 @@ use lib.ListN.{length, getElem?, length-map}
 use Rattle.octets.specs.Octets.{at}
 use Rattle.octets.proofs.Tests.{both}
 use Rattle.chains.specs.Chains.{Shortest, Unreached}
-use Rattle.chains.specs.Lengths.{isHeard, placesOfNodes, noChain, Tells, Found}
+use Rattle.chains.specs.Lengths.{isHeard, placesOfNodes, noChain, Tells, LengthsFound}
 use Rattle.chains.specs.Reach.{isDelivered}
 use Rattle.chains.proofs.Steps.{chain-none, chain-is-none, shortest-one}
 use Rattle.origin.specs.declared.FreshSettings.{FreshSettings}
@@ -21,7 +21,7 @@ use Rattle.origin.specs.Origination.{fresh}
 use Rattle.flood.specs.Air.{Repeater, address}
 use Rattle.flood.specs.Flood.{Reception}
 use Rattle.flood.proofs.Lists.{at-mem, at-map}
-use Rattle.coverage.specs.Hearing.{Taken, ByNoOther}
+use Rattle.coverage.specs.Hearing.{TakenByAll, ByNoOther}
 use Rattle.coverage.specs.Delivery.{Planned, Delivered}
 use Rattle.coverage.specs.Reach.{Reach}
 use Rattle.coverage.specs.Told.{Says, Told}
@@ -44,7 +44,7 @@ missed-when h value e some-hearing chain =
     absurd (false≢true (sym e ∙ told)))
 
 module _ (hears : ℕ → ℕ → Bool) (nodes : List Repeater) (settings : FreshSettings) (payload : List ℕ) (room : ℕ)
-    (plan : Planned nodes settings payload room) (receptions : List Reception) (taken : Taken hears nodes (fresh settings payload) receptions)
+    (plan : Planned nodes settings payload room) (receptions : List Reception) (taken : TakenByAll hears nodes (fresh settings payload) receptions)
     (only : ByNoOther hears nodes (fresh settings payload) receptions)
     (pairs : List ℕ) (says : Says pairs hears nodes) (from : ℕ) (from-at : getElem? (map address nodes) from ≡ some (settings .source)) where
   abbrev addresses : List ℕ
@@ -117,7 +117,7 @@ module _ (hears : ℕ → ℕ → Bool) (nodes : List Repeater) (settings : Fres
         at-source s none =
             chain-is-none hears addresses (settings .source) (subst (λ (k : ℕ). Shortest hears addresses (settings .source) (address n) k) none s .chain)
 
-  pub told : (before lengths : List ℕ) → length before ≡ length nodes → Found pairs from before true lengths
+  pub told : (before lengths : List ℕ) → length before ≡ length nodes → LengthsFound pairs from before true lengths
       → Told nodes settings payload receptions lengths
   told before lengths size found =
       let tells : (place : ℕ) → place < length nodes → Tells pairs (length addresses) from place (at lengths place) =

@@ -10,7 +10,7 @@ use Rattle.origin.specs.declared.FreshSettings.{FreshSettings}
 use Rattle.origin.specs.Origination.{fresh}
 use Rattle.node.specs.Answers.{answerOf}
 use Rattle.flood.specs.Air.{Repeater, Nodes, Open, Originated, address, sends, onTheAir}
-use Rattle.flood.specs.Complete.{Heard}
+use Rattle.flood.specs.Complete.{HasHeard}
 use Rattle.flood.specs.Flood.{Reception, others}
 
 -- A fresh message with path, no destination and hop limit 0 to 6, among the originator and the other nodes: different addresses, echo on; the others
@@ -34,7 +34,7 @@ pub record Delivers (n : Repeater) (received payload : List ℕ) : Type 0 where
 -- Among the receptions there is one by that node, of a transmission already made, that delivers the payload and whose path count is that.
 pub record Delivered (nodes : List Repeater) (first : List ℕ) (receptions : List Reception) (n : Repeater) (payload : List ℕ) (count : ℕ) : Type 0 where
   pub reception : Reception
-  pub taken : Heard sends nodes (first ∷ []) receptions (reception .node) (reception .transmission)
+  pub taken : HasHeard sends nodes (first ∷ []) receptions (reception .node) (reception .transmission)
   pub node-at : getElem? nodes (reception .node) ≡ some n
   pub received : List ℕ
   pub received-at : getElem? (onTheAir nodes first receptions) (reception .transmission) ≡ some received

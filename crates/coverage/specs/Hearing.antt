@@ -9,7 +9,7 @@ use lib.ListN.{getElem?}
 use Rattle.pdu.specs.Header.{sourceOf}
 use Rattle.pdu.specs.Parts.{lastOr}
 use Rattle.flood.specs.Air.{Repeater, address, sends, pathOf, onTheAir}
-use Rattle.flood.specs.Complete.{Heard}
+use Rattle.flood.specs.Complete.{HasHeard}
 use Rattle.flood.specs.Flood.{Reception}
 
 -- who sent a transmission: the last path address, or the source if the path is empty (W-205)
@@ -26,10 +26,10 @@ module _ (hears : ℕ → ℕ → Bool) (nodes : List Repeater) (first : List �
     pub hears-sender : hears (senderOf sent) (address node) ≡ true
 
   -- Every transmission of the run is taken exactly once by every node that hears its sender, after it was made.
-  pub record Taken : Type 0 where
+  pub record TakenByAll : Type 0 where
     pub once : List·Nodup receptions
     pub by-all : (reception : Reception) → InHearing reception
-        → Heard sends nodes (first ∷ []) receptions (reception .node) (reception .transmission)
+        → HasHeard sends nodes (first ∷ []) receptions (reception .node) (reception .transmission)
 
   -- And by no other. That a node is not delivered a message needs this, that one is does not.
   abbrev pub ByNoOther : Type 0

@@ -8,7 +8,7 @@ use Prim.Native.Nat.{ℕ, _≤_, _<_}
 use native.Mathlib.Omega.{arith}
 use native.Mathlib.Decide.{decLt}
 use lib.ListN.{length, getElem?}
-use Rattle.flood.specs.Complete.{Heard, Complete}
+use Rattle.flood.specs.Complete.{HasHeard, Complete}
 use Rattle.flood.specs.Flood.{Reception, flood, answer}
 use Rattle.flood.proofs.Lists.{mem-at, at-past, at-before}
 use Rattle.flood.proofs.Rounds.{at, rounds, rounds-split}
@@ -83,7 +83,7 @@ module _ {Node Message : Type 0} (repeats : Node → Message → Option Message)
       ∙ nothing-made rs log (λ q m. all q (List·Memᴰ·tail m))
 
   -- a transmission that is heard after it was made is repeated, if the node repeats it
-  pub heard-said : (log : List Message) (rs : List Reception) (i t : ℕ) → Heard repeats nodes log rs i t → (n : Node) (m s : Message)
+  pub heard-said : (log : List Message) (rs : List Reception) (i t : ℕ) → HasHeard repeats nodes log rs i t → (n : Node) (m s : Message)
       → getElem? nodes i ≡ some n → getElem? (flood repeats nodes log rs) t ≡ some m → repeats n m ≡ some s
       → List·Memᴰ s (flood repeats nodes log rs)
   heard-said log rs i t l n m s n-at m-at e =

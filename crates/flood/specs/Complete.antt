@@ -8,7 +8,7 @@ use Rattle.flood.specs.Flood.{Reception, flood}
 
 module _ {Node Message : Type 0} (repeats : Node → Message → Option Message) (nodes : List Node) where
   -- among the receptions, that node hears that transmission, and it was made before
-  pub record Heard (log : List Message) (receptions : List Reception) (node transmission : ℕ) : Type 0 where
+  pub record HasHeard (log : List Message) (receptions : List Reception) (node transmission : ℕ) : Type 0 where
     pub before : List Reception
     pub after : List Reception
     pub split : receptions ≡ before ++ (record { node = node; transmission = transmission } ∷ after)
@@ -18,4 +18,4 @@ module _ {Node Message : Type 0} (repeats : Node → Message → Option Message)
   abbrev pub Complete : List Message → List Reception → Type 0
   Complete log receptions =
       (node transmission : ℕ) → node < length nodes → transmission < length (flood repeats nodes log receptions)
-      → Heard log receptions node transmission
+      → HasHeard log receptions node transmission

@@ -10,8 +10,8 @@ use borrow.Author.Tests.{ltb-false}
 use Rattle.octets.specs.Octets.{at, AllBytes, wordAt}
 use Rattle.octets.proofs.Numbering.{orElse-later}
 use Rattle.lists.specs.Lists.{firstFault, listFault}
-use Rattle.job.specs.declared.Head.{Head}
-use Rattle.job.specs.declared.Head.the-variants as head
+use Rattle.job.specs.declared.JobHead.{JobHead}
+use Rattle.job.specs.declared.JobHead.the-variants as head
 use Rattle.job.specs.declared.Section.{Section}
 use Rattle.job.specs.declared.Taken.{Taken}
 use Rattle.job.specs.declared.Taken.the-variants as taken
@@ -41,13 +41,13 @@ head-in bytes own flags e = go (ltb (length bytes) 3) (ltb 63 (at bytes 2)) refl
         record { is-own = cc; is-flags = is-flags; known = omega (arith, ltb-false 63 (at bytes 2) f) }
 
 -- own address and flags that were found on the way to a job
-record Began (bytes : List ℕ) (one : Head) (job : Job) : Type 0 where
+record Began (bytes : List ℕ) (one : JobHead) (job : Job) : Type 0 where
   own : ℕ
   flags : ℕ
   is : one ≡ head.Found own flags
   on : sectionsOf own flags bytes ≡ reading.Job job
 
-began : (bytes : List ℕ) (one : Head) (job : Job) → afterHead one bytes ≡ reading.Job job → Began bytes one job
+began : (bytes : List ℕ) (one : JobHead) (job : Job) → afterHead one bytes ≡ reading.Job job → Began bytes one job
 began bytes (head.Found own flags) job e = record { own = own; flags = flags; is = refl; on = e }
 began bytes (head.Refused number) job e = let z : _≡_ {A = ℕ} 0 1 = cc in absurd (omega arith)
 

@@ -13,8 +13,8 @@ use Rattle.octets.specs.Octets.{at, wordAt}
 use Rattle.octets.proofs.Numbering.{gives-here, gives-later, gives-none}
 use Rattle.lists.specs.Lists.{rangeLimit}
 use Rattle.batch.specs.Walk.{batchLimit}
-use Rattle.job.specs.declared.Head.{Head}
-use Rattle.job.specs.declared.Head.the-variants as head
+use Rattle.job.specs.declared.JobHead.{JobHead}
+use Rattle.job.specs.declared.JobHead.the-variants as head
 use Rattle.job.specs.declared.Section.{Section}
 use Rattle.job.specs.declared.Taken.{Taken}
 use Rattle.job.specs.declared.Taken.the-variants as taken
@@ -116,9 +116,9 @@ module _ (s t : List ℕ) (long-s : jobLimit < length s) (long-t : jobLimit < le
 
   job-same : jobOf s ≡ jobOf t
   unfolding jobOf
-  job-same = ap (λ (one : Head). afterHead one s) head-same ∙ after (jobHead t)
+  job-same = ap (λ (one : JobHead). afterHead one s) head-same ∙ after (jobHead t)
     where
-      after : (one : Head) → afterHead one s ≡ afterHead one t
+      after : (one : JobHead) → afterHead one s ≡ afterHead one t
       after (head.Found own flags) = sections-same own flags
       after (head.Refused number) = refl
 

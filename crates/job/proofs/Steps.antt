@@ -8,8 +8,8 @@ use lib.Dec.{ltb}
 use lib.ListN.{length}
 use borrow.Author.Tests.{lt-ltb, le-ltb}
 use Rattle.octets.specs.Octets.{at, wordAt}
-use Rattle.job.specs.declared.Head.{Head}
-use Rattle.job.specs.declared.Head.the-variants as head
+use Rattle.job.specs.declared.JobHead.{JobHead}
+use Rattle.job.specs.declared.JobHead.the-variants as head
 use Rattle.job.specs.declared.Section.{Section}
 use Rattle.job.specs.declared.Taken.{Taken}
 use Rattle.job.specs.declared.Taken.the-variants as taken
@@ -33,11 +33,11 @@ module _ (bytes : List ℕ) where
     unfolding jobHead
     found is-own right = rw (is-own, is-flags) (simp (le-ltb (length bytes) 3 h, le-ltb 63 (at bytes 2) (omega arith)))
 
-  pub head-refused : {one : Head} {number : ℕ} → one ≡ jobHead bytes → one ≡ head.Refused number → reading.Refused (headNumber one) ≡ jobOf bytes
+  pub head-refused : {one : JobHead} {number : ℕ} → one ≡ jobHead bytes → one ≡ head.Refused number → reading.Refused (headNumber one) ≡ jobOf bytes
   unfolding jobOf
   head-refused e was = rw (← e, was)
 
-  pub only-sections : {one : Head} {own flags : ℕ} → one ≡ jobHead bytes → one ≡ head.Found own flags → sectionsOf own flags bytes ≡ jobOf bytes
+  pub only-sections : {one : JobHead} {own flags : ℕ} → one ≡ jobHead bytes → one ≡ head.Found own flags → sectionsOf own flags bytes ≡ jobOf bytes
   unfolding jobOf
   only-sections e was = rw (← e, was)
 

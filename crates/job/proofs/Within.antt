@@ -9,8 +9,8 @@ use lib.ListN.{length}
 use borrow.Author.Tests.{eqb-true}
 use Rattle.octets.specs.Numbers.{_gives_, _orElse_}
 use Rattle.octets.specs.Octets.{at, wordAt}
-use Rattle.job.specs.declared.Head.{Head}
-use Rattle.job.specs.declared.Head.the-variants as head
+use Rattle.job.specs.declared.JobHead.{JobHead}
+use Rattle.job.specs.declared.JobHead.the-variants as head
 use Rattle.job.specs.declared.Section.{Section}
 use Rattle.job.specs.declared.Taken.{Taken}
 use Rattle.job.specs.declared.Taken.the-variants as taken
@@ -105,6 +105,6 @@ module _ (bytes : List ℕ) where
   unfolding jobOf
   number-within = go (jobHead bytes) head-within
     where
-      go : (one : Head) → headNumber one ≤ 54 → jobNumber (afterHead one bytes) ≤ 54
+      go : (one : JobHead) → headNumber one ≤ 54 → jobNumber (afterHead one bytes) ≤ 54
       go (head.Found own flags) h = sections-within own flags .most
       go (head.Refused number) h = h

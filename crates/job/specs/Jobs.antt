@@ -12,8 +12,8 @@ use Rattle.pdu.specs.Parts.{addressesAt}
 use Rattle.lists.specs.Lists.{rangeLimit, Lists, valueLimit}
 use Rattle.decision.specs.declared.Settings.{Settings}
 use Rattle.decision.specs.Decision.{Node, nodeOf}
-use Rattle.job.specs.declared.Head.{Head}
-use Rattle.job.specs.declared.Head.the-variants as head
+use Rattle.job.specs.declared.JobHead.{JobHead}
+use Rattle.job.specs.declared.JobHead.the-variants as head
 use Rattle.job.specs.declared.Section.{Section}
 use Rattle.job.specs.declared.Taken.{Taken}
 use Rattle.job.specs.declared.Taken.the-variants as taken
@@ -22,7 +22,7 @@ use Rattle.job.specs.declared.JobReading.{JobReading}
 use Rattle.job.specs.declared.JobReading.the-variants as reading
 
 -- the number that each answer has ("Numbers answered"): 0 where it shows own address and flags, a section or a job, else that of the refusal
-abbrev pub headNumber : Head → ℕ
+abbrev pub headNumber : JobHead → ℕ
 headNumber (head.Found own flags) = 0
 headNumber (head.Refused number) = number
 
@@ -35,7 +35,7 @@ jobNumber (reading.Job job) = 0
 jobNumber (reading.Refused number) = number
 
 -- own address and flags: 50 where they are cut short, 51 for flags above 63, which have bit 6 or 7 set
-unfoldable pub jobHead : List ℕ → Head
+unfoldable pub jobHead : List ℕ → JobHead
 jobHead bytes =
     cond (ltb (length bytes) 3) (head.Refused 50) (cond (ltb 63 (at bytes 2)) (head.Refused 51) (head.Found (wordAt bytes 0) (at bytes 2)))
 
@@ -100,7 +100,7 @@ sectionsOf own flags bytes =
     })))))))
 
 -- what follows own address and flags, or their refusal
-abbrev pub afterHead : Head → List ℕ → JobReading
+abbrev pub afterHead : JobHead → List ℕ → JobReading
 afterHead (head.Found own flags) bytes = sectionsOf own flags bytes
 afterHead (head.Refused number) bytes = reading.Refused number
 

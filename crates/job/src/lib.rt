@@ -11,7 +11,7 @@ ghost use Rattle.batch.specs.Walk.{batchLimit};
 ghost use Rattle.job.specs.Jobs.{settingsOf, valuesIn, paddedValues};
 
 // Own address and flags, or the number they were refused with.
-enum Head {
+enum JobHead {
     Found { own: u16, flags: u8 },
     Refused(u8),
 }
@@ -46,29 +46,29 @@ pub enum JobReading {
 }
 
 // Own address and flags: 50 where they are cut short, 51 for flags with bit 6 or 7 set.
-fn head_of(bytes: &[u8]) -> Head
+fn head_of(bytes: &[u8]) -> JobHead
     ensures { λ r. ⌜ r ≡ jobHead (now (bytes .entry)) ⌝ }
 {
     if bytes.len() < 3 {
-        return Head::Refused(50);
+        return JobHead::Refused(50);
     }
     let flags = bytes[2];
     if flags > 63 {
-        return Head::Refused(51);
+        return JobHead::Refused(51);
     }
-    Head::Found {
+    JobHead::Found {
         own: octets::word(bytes, 0),
         flags: flags,
     }
 }
 
 // The number of own address and flags; 0 where they were found.
-fn head_number(head: Head) -> u8
+fn head_number(head: JobHead) -> u8
     ensures { λ r. ⌜ r ≡ headNumber head ⌝ }
 {
     match head {
-        Head::Found { own: _, flags: _ } => 0,
-        Head::Refused(number) => number,
+        JobHead::Found { own: _, flags: _ } => 0,
+        JobHead::Refused(number) => number,
     }
 }
 
@@ -226,7 +226,7 @@ pub fn read(bytes: &[u8]) -> JobReading
     ensures { λ r. ⌜ r ≡ jobOf (now (bytes .entry)) ⌝ }
 {
     let head = head_of(bytes);
-    let Head::Found { own, flags } = head else {
+    let JobHead::Found { own, flags } = head else {
         return JobReading::Refused(head_number(head));
     };
     sections(bytes, own, flags)

@@ -7,7 +7,7 @@ use mathlib.Core.Path.{_≡_}
 use lib.Dec.{eqb}
 use lib.ListN.{length, take, drop, getElem?}
 use Rattle.chains.specs.Chains.{ends}
-use Rattle.chains.specs.Lengths.{isHeard, Found}
+use Rattle.chains.specs.Lengths.{isHeard, LengthsFound}
 use Rattle.origin.specs.declared.FreshSettings.{FreshSettings}
 use Rattle.origin.specs.Origination.{fresh}
 use Rattle.node.specs.declared.Answer.{Answer}
@@ -16,7 +16,7 @@ use Rattle.editions.specs.Editions.{known}
 use Rattle.hearing.specs.Hearing.{answerUnder, HearsUnder}
 use Rattle.flood.specs.Flood.{Reception}
 use Rattle.flood.specs.Air.{Repeater, address, sends, onTheAir}
-use Rattle.coverage.specs.Hearing.{Taken, ByNoOther}
+use Rattle.coverage.specs.Hearing.{TakenByAll, ByNoOther}
 use Rattle.coverage.specs.Delivery.{Planned, Delivers, Delivered}
 use Rattle.coverage.specs.Reach.{Reach}
 use Rattle.coverage.specs.Told.{Says, Told}
@@ -27,18 +27,18 @@ pub record LeastReach : Type 0 where
   -- I. WHAT 02 ASKS
   -- whoever hears whom, and in whatever order the receptions happen
   pub reach : (hears : ℕ → ℕ → Bool) (nodes : List Repeater) (settings : FreshSettings) (payload : List ℕ) (room : ℕ)
-      → Planned nodes settings payload room → (receptions : List Reception) → Taken hears nodes (fresh settings payload) receptions
+      → Planned nodes settings payload room → (receptions : List Reception) → TakenByAll hears nodes (fresh settings payload) receptions
       → Reach hears nodes settings payload receptions
   -- and such receptions exist
   pub schedule : (hears : ℕ → ℕ → Bool) (nodes : List Repeater) (settings : FreshSettings) (payload : List ℕ) (room : ℕ)
-      → Planned nodes settings payload room → (receptions : List Reception) × Taken hears nodes (fresh settings payload) receptions
+      → Planned nodes settings payload room → (receptions : List Reception) × TakenByAll hears nodes (fresh settings payload) receptions
       × ByNoOther hears nodes (fresh settings payload) receptions
   -- the lengths that the function `find_lengths` leaves, of pairs that say by places who hears whom, say who is delivered it, and with which path count
   pub told : (hears : ℕ → ℕ → Bool) (nodes : List Repeater) (settings : FreshSettings) (payload : List ℕ) (room : ℕ)
       → Planned nodes settings payload room
-      → (receptions : List Reception) → Taken hears nodes (fresh settings payload) receptions → ByNoOther hears nodes (fresh settings payload) receptions
+      → (receptions : List Reception) → TakenByAll hears nodes (fresh settings payload) receptions → ByNoOther hears nodes (fresh settings payload) receptions
       → (pairs : List ℕ) → Says pairs hears nodes → (from : ℕ) → getElem? (map address nodes) from ≡ some (settings .source)
-      → (before lengths : List ℕ) → length before ≡ length nodes → Found pairs from before true lengths
+      → (before lengths : List ℕ) → length before ≡ length nodes → LengthsFound pairs from before true lengths
       → Told nodes settings payload receptions lengths
   -- a pair is a sender's place, and then the place of a node that hears it
   pub pair : (isHeard (1 ∷ 2 ∷ []) 1 2 ≡ true) × (isHeard (1 ∷ 2 ∷ []) 2 1 ≡ false)
@@ -59,7 +59,7 @@ pub record LeastReach : Type 0 where
   -- a line of eight nodes, one-way, hop limits 0 to 6: the run is such as is asked, what goes out, who is delivered it and with what count. Hop limit h
   -- reaches h + 1 hearings and no further, which are h + 1 nodes here
   pub line-planned : (hop : ℕ) → hop ≤ 6 → Planned (map repeater lineAddresses) (reportAsked hop) reading 100
-  pub line-taken : (hop : ℕ) → hop ≤ 6 → Taken nextInLine (map repeater lineAddresses) (fresh (reportAsked hop) reading) (lineReceptions hop)
+  pub line-taken : (hop : ℕ) → hop ≤ 6 → TakenByAll nextInLine (map repeater lineAddresses) (fresh (reportAsked hop) reading) (lineReceptions hop)
       × ByNoOther nextInLine (map repeater lineAddresses) (fresh (reportAsked hop) reading) (lineReceptions hop)
   pub line-air : (hop : ℕ) → hop ≤ 6 → onTheAir (map repeater lineAddresses) (fresh (reportAsked hop) reading) (lineReceptions hop) ≡ lineAir hop
   pub line-told : (hop : ℕ) → hop ≤ 6 → toldOfEach (map repeater lineAddresses) hop (lineReceptions hop) ≡ lineTold hop
@@ -72,7 +72,7 @@ pub record LeastReach : Type 0 where
   -- two ways of different length, the longer played first: 9 is delivered the payload with path count 2, and then with 1, one less than its shortest
   -- chain; the originator, which hears 1, answers 42, and 9 its own repeats 30
   pub two-ways-planned : Planned (map repeater twoWaysAddresses) (reportAsked 6) reading 100
-  pub two-ways-taken : Taken twoWays (map repeater twoWaysAddresses) (fresh (reportAsked 6) reading) longerFirst
+  pub two-ways-taken : TakenByAll twoWays (map repeater twoWaysAddresses) (fresh (reportAsked 6) reading) longerFirst
       × ByNoOther twoWays (map repeater twoWaysAddresses) (fresh (reportAsked 6) reading) longerFirst
   pub two-ways-told : toldOfEach (map repeater twoWaysAddresses) 6 longerFirst
       ≡ (1 ∷ 0 ∷ 0 ∷ reading) ∷ (1000 ∷ 42 ∷ 1 ∷ []) ∷ (2 ∷ 0 ∷ 1 ∷ reading) ∷ (9 ∷ 0 ∷ 2 ∷ reading) ∷ (4 ∷ 0 ∷ 0 ∷ reading) ∷ (9 ∷ 0 ∷ 1 ∷ reading)

@@ -24,7 +24,7 @@ use Rattle.seasons.proofs.Carried.{answers-as-under, stands}
 use Rattle.bound.specs.Bound.{terms, bound, bytesBound}
 use Rattle.flood.specs.Flood.{Reception, answer, flood, total, others}
 use Rattle.flood.specs.Air.{Repeater, Nodes, Open, Originated, address, sends, onTheAir}
-use Rattle.flood.specs.Complete.{Heard, Complete}
+use Rattle.flood.specs.Complete.{HasHeard, Complete}
 use Rattle.demands.proofs.Demands.{bounded as demands}
 use Rattle.two_lists.specs.SeasonNetwork.{SeasonRepeater, own, asChosen, seasonSends, seasonAir}
 
@@ -86,8 +86,8 @@ module _ (editionOf : ℕ → ℕ) (named : (a : ℕ) → known (editionOf a) �
   same : (part : List Reception) → seasonAir editionOf nodes first part ≡ onTheAir (map asChosen nodes) first part
   same part = same-air editionOf named nodes clean first part
 
-  pub heard-as : {node transmission : ℕ} → Heard (seasonSends editionOf) nodes (first ∷ []) receptions node transmission
-      → Heard sends (map asChosen nodes) (first ∷ []) receptions node transmission
+  pub heard-as : {node transmission : ℕ} → HasHeard (seasonSends editionOf) nodes (first ∷ []) receptions node transmission
+      → HasHeard sends (map asChosen nodes) (first ∷ []) receptions node transmission
   heard-as {node} {transmission} h =
       record {
         before = h .before;
@@ -96,8 +96,8 @@ module _ (editionOf : ℕ → ℕ) (named : (a : ℕ) → known (editionOf a) �
         made = subst (λ (l : List (List ℕ)). transmission < length l) (same (h .before)) (h .made);
       }
 
-  pub heard-so : {node transmission : ℕ} → Heard sends (map asChosen nodes) (first ∷ []) receptions node transmission
-      → Heard (seasonSends editionOf) nodes (first ∷ []) receptions node transmission
+  pub heard-so : {node transmission : ℕ} → HasHeard sends (map asChosen nodes) (first ∷ []) receptions node transmission
+      → HasHeard (seasonSends editionOf) nodes (first ∷ []) receptions node transmission
   heard-so {node} {transmission} h =
       record {
         before = h .before;

@@ -20,7 +20,7 @@ use Rattle.flood.specs.Flood.{Reception}
 use Rattle.flood.specs.Air.{Nodes, address}
 use Rattle.flood.proofs.Lists.{at-mem, mem-at, at-map, same-place}
 use Rattle.chains.specs.Chains.{Chain, Shortest}
-use Rattle.coverage.specs.Hearing.{Taken}
+use Rattle.coverage.specs.Hearing.{TakenByAll}
 use Rattle.coverage.specs.Delivery.{Planned, Delivered}
 use Rattle.coverage.proofs.Covered as covered
 use Rattle.two_lists.specs.SeasonNetwork.{SeasonRepeater, own, asChosen, SeasonDelivered}
@@ -84,7 +84,7 @@ module _ (editionOf : ℕ → ℕ) (named : (a : ℕ) → known (editionOf a) �
 pub reach : (editionOf : ℕ → ℕ) → ((a : ℕ) → known (editionOf a) ≡ true) → (hears : ℕ → ℕ → Bool) (nodes : List SeasonRepeater)
     → ((n : SeasonRepeater) → List·Memᴰ n nodes → eightFault (n .node .lists) ≡ 0)
     → (settings : FreshSettings) (payload : List ℕ) (room : ℕ) → Planned (map asChosen nodes) settings payload room
-    → (receptions : List Reception) → Taken hears (map asChosen nodes) (fresh settings payload) receptions
+    → (receptions : List Reception) → TakenByAll hears (map asChosen nodes) (fresh settings payload) receptions
     → (n : SeasonRepeater) → List·Memᴰ n nodes → own n ≢ settings .source
     → (j : ℕ) → j ≤ settings .«hop_limit» + 1 → Chain hears (map own nodes) (settings .source) (own n) j
     → (k : ℕ) × Shortest hears (map own nodes) (settings .source) (own n) k

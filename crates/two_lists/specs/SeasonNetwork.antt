@@ -12,7 +12,7 @@ use Rattle.seasons.specs.Choosing.{SeasonNode, chosenNode}
 use Rattle.seasons.specs.Under.{seasonAnswerUnder}
 use Rattle.flood.specs.Flood.{Reception, flood}
 use Rattle.flood.specs.Air.{Repeater}
-use Rattle.flood.specs.Complete.{Heard}
+use Rattle.flood.specs.Complete.{HasHeard}
 
 -- a node of a network (demand 3) with two lists of each kind, and the bytes of its output; as a node of 01 with the lists chosen
 pub record SeasonRepeater : Type 0 where
@@ -40,7 +40,7 @@ seasonAir editionOf nodes first receptions = flood (seasonSends editionOf) nodes
 pub record SeasonDelivered (editionOf : ℕ → ℕ) (nodes : List SeasonRepeater) (first : List ℕ) (receptions : List Reception) (n : SeasonRepeater)
     (payload : List ℕ) (count : ℕ) : Type 0 where
   pub reception : Reception
-  pub taken : Heard (seasonSends editionOf) nodes (first ∷ []) receptions (reception .node) (reception .transmission)
+  pub taken : HasHeard (seasonSends editionOf) nodes (first ∷ []) receptions (reception .node) (reception .transmission)
   pub node-at : getElem? nodes (reception .node) ≡ some n
   pub received : List ℕ
   pub received-at : getElem? (seasonAir editionOf nodes first receptions) (reception .transmission) ≡ some received

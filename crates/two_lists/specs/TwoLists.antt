@@ -36,7 +36,7 @@ use Rattle.chains.specs.Chains.{Chain, Shortest}
 use Rattle.flood.specs.Flood.{Reception, total, others, Bounded}
 use Rattle.flood.specs.Air.{Repeater, Nodes, Open, Begins, Originated, address, pathOf, hopOf, onTheAir}
 use Rattle.flood.specs.Complete.{Complete}
-use Rattle.coverage.specs.Hearing.{Taken}
+use Rattle.coverage.specs.Hearing.{TakenByAll}
 use Rattle.coverage.specs.Delivery.{Planned, Delivers, Delivered}
 use Rattle.boundary.specs.declared.a_node.MantNode.{MantNode}
 use Rattle.boundary.specs.Boundary.{choiceFromC, nodeFromC}
@@ -186,7 +186,7 @@ pub record TwoLists : Type 0 where
   pub reach : (editionOf : ℕ → ℕ) → ((a : ℕ) → known (editionOf a) ≡ true) → (hears : ℕ → ℕ → Bool) (nodes : List SeasonRepeater)
       → ((n : SeasonRepeater) → List·Memᴰ n nodes → eightFault (n .node .lists) ≡ 0)
       → (settings : FreshSettings) (payload : List ℕ) (room : ℕ) → Planned (map asChosen nodes) settings payload room
-      → (receptions : List Reception) → Taken hears (map asChosen nodes) (fresh settings payload) receptions
+      → (receptions : List Reception) → TakenByAll hears (map asChosen nodes) (fresh settings payload) receptions
       → (n : SeasonRepeater) → List·Memᴰ n nodes → own n ≢ settings .source
       → (j : ℕ) → j ≤ settings .«hop_limit» + 1 → Chain hears (map own nodes) (settings .source) (own n) j
       → (k : ℕ) × Shortest hears (map own nodes) (settings .source) (own n) k
