@@ -13,8 +13,8 @@ use Rattle.counting.specs.Counting.{countNumber, memoryAfterCount}
 use Rattle.counting.specs.Removing.{memoryAfterRemoval}
 use Rattle.listening.specs.Listening.{wasRead, heardOf, answerNumber, memoryAfterAnswer}
 
--- what is done with a table: a PDU that was read is counted; bytes are heard, by any node, of any edition and with any lists, whose answer for them is
--- given; a station is removed
+-- what is done with a table: what was heard is counted, whatever it says; bytes are counted by an answer, that of any node for them, of any edition and
+-- with any lists, or any other; a station is removed
 pub data TableDeed : Type 0 where
   Counting : Heard → TableDeed
   Hearing : Answer → List ℕ → TableDeed

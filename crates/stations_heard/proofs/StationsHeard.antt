@@ -1,19 +1,22 @@
 -- W-201 from its parts.
-use Prim.Native.Nat.{ℕ, _<_}
+use Prim.Native.Nat.{ℕ, _≤_, _<_}
 use native.Mathlib.Omega.{arith}
 use mathlib.Core.Bool.{Bool, true, false, cond}
 use mathlib.Core.List.{List}
 use mathlib.Core.Path.{_≡_, refl}
+use lib.Dec.{ltb}
 use lib.ListN.{length}
-use borrow.Author.Tests.{lt-ltb, ne-eqb}
+use borrow.Author.Tests.{lt-ltb, le-ltb, ne-eqb}
+use Rattle.octets.specs.Octets.{at}
 use Rattle.node.specs.declared.Answer.{Answer}
-use Rattle.stations.specs.Table.{tableIn, stationAt}
-use Rattle.stations.specs.Asking.{foundAt}
-use Rattle.stations.proofs.Memory.{table-fits}
+use Rattle.stations.specs.declared.Station.{Station}
+use Rattle.stations.specs.Table.{tableIn, addresses, placeOf, isHeld}
+use Rattle.stations.specs.Asking.{foundIf, stationOf, foundAt}
+use Rattle.stations.proofs.Memory.{length-table, table-fits, length-addresses}
 use Rattle.counting.specs.Counting.{countNumber, memoryAfterCount}
 use Rattle.counting.proofs.Answers.{held-counts, room-counts, full-refuses, held-removed, absent-refused}
 use Rattle.listening.specs.Listening.{wasRead, heardOf, answerNumber, memoryAfterAnswer}
-use Rattle.listening.specs.History.{tableMemory}
+use Rattle.listening.specs.History.{tableMemory, Rises}
 use Rattle.listening.proofs.Judging.{read-judged, unread-judged, echo-judged}
 use Rattle.listening.proofs.Rising.{place-within, found-where, not-held}
 use Rattle.listening.proofs.Told.{history-told}
@@ -31,10 +34,21 @@ unchanged answer received memory e = go (wasRead answer) refl e
     go true f n = rw (ne-eqb number 0 (λ z. omega (arith, n, z)))
     go false f n = absurd (omega arith)
 
-listed-so : (memory : List ℕ) (i : ℕ) → i < length (tableIn memory)
-    → foundAt i (tableIn memory) ≡ record { number = 0; station = stationAt (tableIn memory) i }
-unfolding foundAt
-listed-so memory i h = rw (lt-ltb _ _ h)
+listed-so : (stations : List Station) → Rises (addresses stations) → length stations ≤ 128 → (i : ℕ)
+    → (i < length stations → foundAt i stations ≡ stationOf (at (addresses stations) i) stations)
+    × (length stations ≤ i → foundAt i stations .number ≡ 56)
+unfolding foundAt stationOf
+listed-so stations rises short i = (inside, λ h. rw (le-ltb i (length stations) h))
+  where
+    known : List ℕ
+    known = addresses stations
+
+    inside : i < length stations
+        → foundIf (ltb i (length stations)) stations i ≡ foundIf (isHeld (at known i) known) stations (placeOf (at known i) known)
+    inside h =
+        let long = length-addresses stations in
+        let found = found-where (at known i) known rises (omega (arith, long, short)) i (omega (arith, long, h)) refl in
+        rw (lt-ltb i (length stations) h, found .1, found .0)
 
 pub stations-heard : StationsHeard
 stations-heard =
@@ -44,7 +58,7 @@ stations-heard =
       read-only = unread-judged;
       counted-held = held-counts;
       counted-new = room-counts;
-      full = full-refuses;
+      full = λ heard memory e h. full-refuses heard memory e (omega (arith, h, length-table memory));
       full-unchanged = unchanged;
       removed = held-removed;
       not-removed = absent-refused;
@@ -52,8 +66,11 @@ stations-heard =
           let t = history-told memory e deeds in (t .says, omega (arith, t .says, table-fits (tableMemory memory deeds) .0));
       rises = λ memory e deeds. history-told memory e deeds .rises;
       shows = λ memory e deeds. history-told memory e deeds .told;
-      place = λ address known rises short. let w = place-within address known rises (omega arith) in (w .lower, λ i h l. w .upper i (omega arith) l);
+      place = λ address known rises short.
+          let w = place-within address known rises (omega arith) in (w .lower, λ i h l. w .upper i (omega arith) l, w .inside);
       held = λ address known rises short. found-where address known rises (omega arith);
       not-held = λ address known rises short. not-held address known rises (omega arith);
-      listed = listed-so;
+      listed = λ memory e deeds.
+          let now-held = tableIn (tableMemory memory deeds) in
+          listed-so now-held (history-told memory e deeds .rises) (table-fits (tableMemory memory deeds) .0);
     }

@@ -9,7 +9,7 @@ use Rattle.pdu.specs.Header.{headerOf}
 use Rattle.decision.specs.Decision.{Node, isEcho, isOwnReport}
 use Rattle.node.specs.declared.Answer.{Answer}
 use Rattle.node.specs.Answers.{listOrReadingFault, answerOf}
-use Rattle.stations.specs.Table.{capacity, tableIn, addresses, stationAt, placeOf, isHeld}
+use Rattle.stations.specs.Table.{capacity, tableIn, addresses, placeOf, isHeld}
 use Rattle.stations.specs.Asking.{stationOf, foundAt}
 use Rattle.counting.specs.declared.Heard.{Heard}
 use Rattle.counting.specs.Counting.{countNumber, memoryAfterCount}
@@ -26,11 +26,13 @@ pub record StationsHeard : Type 0 where
       × (heardOf (answerOf node room received) received .echo
       ≡ (isEcho (node .settings) (headerOf received) received || isOwnReport (node .settings) (headerOf received)))
   pub read-only : (node : Node) (room : ℕ) (received : List ℕ) → wasRead (answerOf node room received) ≡ true → listOrReadingFault node received ≡ 0
+  -- a memory of 513 words or more has room for 128 stations
+  pub room-for-128 : (memory : List ℕ) → 513 ≤ length memory → capacity memory ≡ 128
   -- one from a station that is held, or while there is room, is counted; any other is answered 55, and the table stays as it was
   pub counted-held : (heard : Heard) (memory : List ℕ) → isHeld (heard .source) (addresses (tableIn memory)) ≡ true → countNumber heard memory ≡ 0
   pub counted-new : (heard : Heard) (memory : List ℕ) → length (tableIn memory) < capacity memory → countNumber heard memory ≡ 0
   pub full : (heard : Heard) (memory : List ℕ) → isHeld (heard .source) (addresses (tableIn memory)) ≡ false
-      → length (tableIn memory) ≡ capacity memory → (countNumber heard memory ≡ 55) × (memoryAfterCount heard memory ≡ memory)
+      → capacity memory ≤ length (tableIn memory) → (countNumber heard memory ≡ 55) × (memoryAfterCount heard memory ≡ memory)
   pub full-unchanged : (answer : Answer) (received memory : List ℕ) → answerNumber answer received memory ≡ 55
       → memoryAfterAnswer answer received memory ≡ memory
   -- removing: 0 for a station that is held; else 56, and the table stays as it was
@@ -45,16 +47,17 @@ pub record StationsHeard : Type 0 where
   -- and every address shows what was counted from it since it was last taken in, or 56 where that is nothing
   pub shows : (memory : List ℕ) → at memory 0 ≡ 0 → (deeds : List TableDeed) (address : ℕ)
       → stationOf address (tableIn (tableMemory memory deeds)) ≡ shownBy address (since memory address deeds)
-  -- the listing shows the table's stations one after another
-  pub listed : (memory : List ℕ) (i : ℕ) → i < length (tableIn memory)
-      → foundAt i (tableIn memory) ≡ record { number = 0; station = stationAt (tableIn memory) i }
+  -- the listing has the stations in that order, each as its address shows it, and answers 56 past the last
+  pub listed : (memory : List ℕ) → at memory 0 ≡ 0 → (deeds : List TableDeed) (i : ℕ)
+      → let stations = tableIn (tableMemory memory deeds) in
+      (i < length stations → foundAt i stations ≡ stationOf (at (addresses stations) i) stations)
+      × (length stations ≤ i → foundAt i stations .number ≡ 56)
   -- II. CASE BY CASE, what the definitions say
-  -- a memory of 513 words or more has room for 128 stations
-  pub room-for-128 : (memory : List ℕ) → 513 ≤ length memory → capacity memory ≡ 128
-  -- among addresses that rise, the place of one has the lower ones before it and none of them behind it
+  -- among addresses that rise, the place of one has all the lower ones before it and none of them behind it
   pub place : (address : ℕ) (known : List ℕ) → Rises known → length known ≤ 128
       → ((i : ℕ) → i < placeOf address known → at known i < address)
       × ((i : ℕ) → placeOf address known ≤ i → i < length known → address ≤ at known i)
+      × (placeOf address known ≤ length known)
   -- it is held where it stands, and not where it stands nowhere
   pub held : (address : ℕ) (known : List ℕ) → Rises known → length known ≤ 128 → (i : ℕ) → i < length known → at known i ≡ address
       → (placeOf address known ≡ i) × (isHeld address known ≡ true)
