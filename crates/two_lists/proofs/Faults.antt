@@ -21,13 +21,14 @@ use Rattle.node.specs.Answers.{listOrReadingFault, stopFault, deliveryNumber, r
 use Rattle.node.proofs.Chain.{holds-stop, holds-delivery, holds-repeat}
 use Rattle.batch.specs.declared.Cursor.{Cursor}
 use Rattle.batch.specs.declared.Stepped.the-variants.{TooLong, Ended, Answered}
-use Rattle.batch.specs.Walk.{batchLimit, isDone, stepOf, stepOutput}
+use Rattle.batch.specs.Walk.{batchLimit, isDone, stepOf, stepOutput, endingAt, walkFrom, walk}
 use Rattle.hearing.specs.Hearing.{stepUnder, walkUnder}
+use Rattle.hearing.proofs.Known.{known-walk}
 use Rattle.seasons.specs.Choosing.{eightFault, SeasonNode, chosenNode}
 use Rattle.seasons.specs.Hearing.{seasonAnswer, seasonOutput, seasonStep, seasonStepOutput, seasonWalk}
 use Rattle.seasons.specs.Under.{seasonAnswerUnder, seasonOutputUnder, seasonStepUnder, seasonStepOutputUnder, seasonWalkUnder}
 use Rattle.seasons.proofs.Standing.{chosen-without-fault, standIn}
-use Rattle.seasons.proofs.Carried.{steps-as-under, step-leaves-as-under}
+use Rattle.seasons.proofs.Carried.{steps-as-under, step-leaves-as-under, walks-as-under}
 
 -- a node of 01 whose lists have no fault gives none of 20 to 22
 abbrev Other : ℕ → Type 0
@@ -155,6 +156,17 @@ module _ (edition : ℕ) (node : SeasonNode) where
         let within = le-ltb batchLimit (length batch) short in
         let e = ended-or-past batch cursor is in
         (as-stepped room batch cursor ∙ rw (within, e) refl, as-left batch cursor output ∙ rw (within, e) refl)
+
+    as-walked : (room : ℕ) (batch : List ℕ) → seasonWalkUnder edition node room batch ≡ walk (standIn node) room batch
+    as-walked room batch = walks-as-under edition node room batch ∙ known-walk edition (standIn node) named room batch
+
+    pub walk-after-54 : (room : ℕ) (batch : List ℕ) → batchLimit < length batch → seasonWalkUnder edition node room batch ≡ endingAt 54 0
+    unfolding walk
+    walk-after-54 room batch long = as-walked room batch ∙ rw (lt-ltb batchLimit (length batch) long) refl
+
+    pub walk-of-nothing : (room : ℕ) → seasonWalkUnder edition node room [] ≡ endingAt 0 0
+    unfolding walk walkFrom
+    walk-of-nothing room = as-walked room []
 
   pub at-fault-only : (room : ℕ) (received : List ℕ) (number : ℕ) → 20 ≤ number → number ≤ 22
       → (seasonAnswerUnder edition node room received .delivery ≡ number) ⊎ (seasonAnswerUnder edition node room received .repeat ≡ number)

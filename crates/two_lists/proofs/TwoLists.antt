@@ -38,10 +38,12 @@ use Rattle.demands.proofs.Demands.{total}
 use Rattle.transmit_queue.proofs.TransmitQueue.{transmit-queue}
 use Rattle.two_lists.specs.SeasonNetwork.{SeasonRepeater, asChosen}
 use Rattle.two_lists.specs.TwoLists.{TwoLists}
-use Rattle.two_lists.proofs.Faults.{after-17, steps-after-17, at-fault, step-at-fault, walk-at-fault, after-54, at-fault-only, after-the-end}
+use Rattle.two_lists.proofs.Faults.{after-17, steps-after-17, at-fault, at-fault-only, step-at-fault, walk-at-fault}
+use Rattle.two_lists.proofs.Faults.{after-54, after-the-end, walk-after-54, walk-of-nothing}
 use Rattle.two_lists.proofs.SeasonAir.{same-air, reached, schedule}
 use Rattle.two_lists.proofs.SeasonBound.{bounded, begun-bounded}
 use Rattle.two_lists.proofs.SeasonReach.{reach, as-delivered}
+use Rattle.two_lists.proofs.SeasonRead.{read, read-only}
 
 module _ (edition : ℕ) (node : SeasonNode) where
   part : known edition ≡ true → (room : ℕ) (received : List ℕ) → eightFault (node .lists) ≡ 0
@@ -114,6 +116,7 @@ two-lists =
       without-fault = λ lists. none-anywhere (inOrderOfKinds lists);
       first-fault = λ lists. first-at (inOrderOfKinds lists);
       order = λ a b c d e f g h. refl;
+      kinds = λ a b c d e f g h. (refl, refl, refl, refl);
       after-17 = after-17;
       steps-after-17 = steps-after-17;
       at-fault = λ edition settings lists received output named. at-fault edition (seasonNodeOf settings lists) named received output;
@@ -124,6 +127,10 @@ two-lists =
           walk-at-fault edition (seasonNodeOf settings lists) named room byte bytes;
       after-54 = λ edition node room batch cursor output named. after-54 edition node named room batch cursor output;
       after-the-end = λ edition node room batch cursor output named. after-the-end edition node named room batch cursor output;
+      walk-after-54 = λ edition node room batch named. walk-after-54 edition node named room batch;
+      walk-of-nothing = λ edition node room named. walk-of-nothing edition node named room;
+      read = read;
+      read-only = read-only;
       nothing-counted = λ number received memory. (refl, refl);
       chosen-without-fault = chosen-without-fault;
       answers = λ edition node room received output clean.

@@ -1,24 +1,25 @@
 -- Document 02, W-211, as one record; `proofs/TwoLists.antt` gives it from its parts. The edition is W-209's, and a variable wherever it does not matter.
 use Prim.Native.Nat.{ℕ, _+_, _*_, _-_, _<_, _≤_}
-use mathlib.Core.Bool.{Bool, true, false}
+use mathlib.Core.Bool.{Bool, true, false, _||_}
 use mathlib.Core.List.{List, [], _∷_, map, flatten, List·Memᴰ, List·Nodup}
 use mathlib.Core.Logic.{_⊎_, _≢_}
 use mathlib.Core.Path.{_≡_}
 use lib.ListN.{length, take, drop}
 use Rattle.pdu.specs.declared.Destination.the-variants.{Everyone}
 use Rattle.pdu.specs.declared.Sender.the-variants.{Unknown}
-use Rattle.pdu.specs.Header.{sourceOf}
+use Rattle.pdu.specs.Header.{headerOf, sourceOf}
+use Rattle.pdu.specs.Reading.{readOf, readingNumber}
 use Rattle.pdu.specs.Sizes.{pathLimit}
 use Rattle.editions.specs.Editions.{known}
 use Rattle.origin.specs.declared.FreshSettings.{FreshSettings}
 use Rattle.origin.specs.Origination.{fresh}
 use Rattle.lists.specs.Lists.{faultOf, listsOf, listFault}
-use Rattle.decision.specs.Decision.{Node}
+use Rattle.decision.specs.Decision.{Node, isEcho, isOwnReport}
 use Rattle.node.specs.declared.Answer.{Answer}
 use Rattle.node.specs.Answers.{delivered, twice}
 use Rattle.batch.specs.declared.Cursor.{Cursor}
 use Rattle.batch.specs.declared.Stepped.the-variants.{TooLong, Ended, Answered}
-use Rattle.batch.specs.Walk.{batchLimit}
+use Rattle.batch.specs.Walk.{batchLimit, endingAt}
 use Rattle.hearing.specs.Hearing.{answerUnder, outputUnder, stepUnder, stepOutputUnder, walkUnder}
 use Rattle.seasons.specs.declared.Choice.{Choice}
 use Rattle.seasons.specs.declared.Choice.the-variants.{First, Second, Neither}
@@ -28,7 +29,7 @@ use Rattle.seasons.specs.Choosing.{SeasonNode, seasonNodeOf, chosenNode, withFi
 use Rattle.seasons.specs.Under.{seasonAnswerUnder, seasonOutputUnder, SeasonHears, seasonStepUnder, seasonStepOutputUnder, seasonWalkUnder, seasonStepsUnder}
 use Rattle.job.specs.declared.Job.{Job}
 use Rattle.job.specs.Jobs.{nodeIn}
-use Rattle.listening.specs.Listening.{answerNumber, memoryAfterAnswer}
+use Rattle.listening.specs.Listening.{wasRead, heardOf, answerNumber, memoryAfterAnswer}
 use Rattle.queue.specs.Queue.{heldIn, front}
 use Rattle.transmit.specs.History.{places, allReadable}
 use Rattle.bound.specs.Bound.{terms, bound, bytesBound}
@@ -50,8 +51,10 @@ pub record TwoLists : Type 0 where
   pub without-fault : (lists : EightLists) → ((k : ℕ) → k < 8 → faultOf (listInOrder lists k) ≡ 0) → eightFault lists ≡ 0
   pub first-fault : (lists : EightLists) (k : ℕ) → k < 8 → ((j : ℕ) → j < k → faultOf (listInOrder lists j) ≡ 0) → (faultOf (listInOrder lists k) ≡ 0 → ⊥)
       → eightFault lists ≡ faultOf (listInOrder lists k)
-  -- their order: kind by kind as in 01, the first list before the second
+  -- their order: kind by kind as in 01, the first list before the second; and which of them are of which kind
   pub order : (a b c d e f g h : List ℕ) → inOrderOfKinds (eightInOrder a b c d e f g h) ≡ a ∷ b ∷ c ∷ d ∷ e ∷ f ∷ g ∷ h ∷ []
+  pub kinds : (a b c d e f g h : List ℕ) → let lists = eightInOrder a b c d e f g h in
+      (lists .sourcePass ≡ two a b) × (lists .sourceReject ≡ two c d) × (lists .destinationPass ≡ two e f) × (lists .destinationReject ≡ two g h)
   -- a fault is answered whatever is chosen, as both numbers, with nothing taken and the output as it was
   pub at-fault : (edition : ℕ) (settings : SeasonSettings) (lists : EightLists) (received output : List ℕ) → known edition ≡ true
       → (eightFault lists ≡ 0 → ⊥)
@@ -158,18 +161,30 @@ pub record TwoLists : Type 0 where
       → (eightFault lists ≡ 0 → ⊥) → length (byte ∷ bytes) ≤ batchLimit
       → seasonWalkUnder edition (seasonNodeOf settings lists) room (byte ∷ bytes)
       ≡ record { number = 0; offsets = 0 ∷ []; answers = twice (eightFault lists) 0 Unknown ∷ []; end = 0 }
-  -- 54 and the end of a walk come before it
+  -- 54 and the end of a walk come before it, in a step and in a whole walk
   pub after-54 : (edition : ℕ) (node : SeasonNode) (room : ℕ) (batch : List ℕ) (cursor : Cursor) (output : List ℕ) → known edition ≡ true
       → batchLimit < length batch
       → (seasonStepUnder edition node room batch cursor ≡ TooLong) × (seasonStepOutputUnder edition node batch cursor output ≡ output)
   pub after-the-end : (edition : ℕ) (node : SeasonNode) (room : ℕ) (batch : List ℕ) (cursor : Cursor) (output : List ℕ) → known edition ≡ true
       → length batch ≤ batchLimit → (cursor .ended ≡ true) ⊎ (length batch ≤ cursor .place)
       → (seasonStepUnder edition node room batch cursor ≡ Ended) × (seasonStepOutputUnder edition node batch cursor output ≡ output)
+  pub walk-after-54 : (edition : ℕ) (node : SeasonNode) (room : ℕ) (batch : List ℕ) → known edition ≡ true → batchLimit < length batch
+      → seasonWalkUnder edition node room batch ≡ endingAt 54 0
+  pub walk-of-nothing : (edition : ℕ) (node : SeasonNode) (room : ℕ) → known edition ≡ true → seasonWalkUnder edition node room [] ≡ endingAt 0 0
   -- stepping over a batch gives exactly its walk
   pub stepping-walks : (edition : ℕ) (node : SeasonNode) (room : ℕ) (batch : List ℕ)
       → seasonStepsUnder edition node room batch (length batch) (record { place = 0; ended = false }) ≡ seasonWalkUnder edition node room batch
   -- III. BESIDE OTHER REQUESTS, AND IN C
-  -- W-201: with a fault of the lists, as with any number that takes nothing, nothing is counted
+  -- W-201: a PDU was read where the edition is known, none of the eight lists has a fault and reading refused nothing, and nowhere else; it is an echo
+  -- where echo dropped it, by its path or, W-203, by its source
+  pub read : (edition : ℕ) (node : SeasonNode) (room : ℕ) (received : List ℕ) → known edition ≡ true → eightFault (node .lists) ≡ 0
+      → readingNumber (readOf received) ≡ 0
+      → let answer = seasonAnswerUnder edition node room received in let settings = chosenNode node .settings in
+      (wasRead answer ≡ true)
+      × (heardOf answer received .echo ≡ (isEcho settings (headerOf received) received || isOwnReport settings (headerOf received)))
+  pub read-only : (edition : ℕ) (node : SeasonNode) (room : ℕ) (received : List ℕ) → wasRead (seasonAnswerUnder edition node room received) ≡ true
+      → (known edition ≡ true) × (eightFault (node .lists) ≡ 0) × (readingNumber (readOf received) ≡ 0)
+  -- with a fault of the lists, as with any number that takes nothing, nothing is counted
   pub nothing-counted : (number : ℕ) (received memory : List ℕ)
       → (answerNumber (twice number 0 Unknown) received memory ≡ 0) × (memoryAfterAnswer (twice number 0 Unknown) received memory ≡ memory)
   -- W-206: the walk of such a node reads each batch taken from a queue to its end
@@ -180,9 +195,9 @@ pub record TwoLists : Type 0 where
   pub open-nodes : (node : SeasonNode) → eightFault (node .lists) ≡ 0 → node .settings .repeating ≡ true → node .settings .«source_pass» ≡ Neither
       → node .settings .«source_reject» ≡ Neither → node .settings .«destination_pass» ≡ Neither → node .settings .«destination_reject» ≡ Neither
       → Open (chosenNode node)
-  -- among nodes whose lists have no fault, each that is reached from the originator by a chain of at most h + 1 hearings is delivered the payload by its
-  -- own answer, in a transmission whose path count is one less than its shortest chain; and whatever such a node is delivered, W-208's node with the lists
-  -- chosen is
+  -- the message and the nodes are as W-208 asks: with path, no destination and a hop limit h of at most 6; different addresses and echo on; each of the
+  -- others with repeating on, no list chosen and room. Then, where none of the eight lists of any node has a fault, each that is reached from the originator
+  -- by a chain of at most h + 1 hearings is delivered the payload by its own answer, in a transmission whose path count is one less than its shortest chain
   pub reach : (editionOf : ℕ → ℕ) → ((a : ℕ) → known (editionOf a) ≡ true) → (hears : ℕ → ℕ → Bool) (nodes : List SeasonRepeater)
       → ((n : SeasonRepeater) → List·Memᴰ n nodes → eightFault (n .node .lists) ≡ 0)
       → (settings : FreshSettings) (payload : List ℕ) (room : ℕ) → Planned (map asChosen nodes) settings payload room
@@ -191,10 +206,12 @@ pub record TwoLists : Type 0 where
       → (j : ℕ) → j ≤ settings .«hop_limit» + 1 → Chain hears (map own nodes) (settings .source) (own n) j
       → (k : ℕ) × Shortest hears (map own nodes) (settings .source) (own n) k
       × SeasonDelivered editionOf nodes (fresh settings payload) receptions n payload (k - 1)
+  -- and whatever is chosen, where no list has a fault, what such a node is delivered is delivered to 01's node with the lists chosen
   pub reach-only : (editionOf : ℕ → ℕ) → ((a : ℕ) → known (editionOf a) ≡ true) → (nodes : List SeasonRepeater)
       → ((n : SeasonRepeater) → List·Memᴰ n nodes → eightFault (n .node .lists) ≡ 0) → (first : List ℕ) (receptions : List Reception)
       → (n : SeasonRepeater) (what : List ℕ) (count : ℕ) → SeasonDelivered editionOf nodes first receptions n what count
       → Delivered (map asChosen nodes) first receptions (asChosen n) what count
+  -- and where 01's node with the lists chosen is delivered a payload, the answer of a call that hears as such a node does has delivery number 0 and names it
   pub answered : (edition : ℕ) (n : SeasonRepeater) (received output left payload : List ℕ) (answer : Answer) → known edition ≡ true
       → eightFault (n .node .lists) ≡ 0 → length output ≡ n .room → SeasonHears edition (n .node) received output answer left
       → Delivers (asChosen n) received payload
