@@ -33,7 +33,7 @@ eightOf a b c d = record { sourcePass = a; sourceReject = b; destinationPass = c
 abbrev pub eightInOrder : List ℕ → List ℕ → List ℕ → List ℕ → List ℕ → List ℕ → List ℕ → List ℕ → EightLists
 eightInOrder a b c d e f g h = eightOf (two a b) (two c d) (two e f) (two g h)
 
--- a list that a caller lends, as a contract names it: on entry and at exit; and the eight that a node is lent, in the same order
+-- a list that a caller lends, as a contract names it: on entry and at exit; and the eight that a node is lent, in the same order, as they are on entry
 abbrev pub Lent : Type 0
 Lent = Both (RefT (List ℕ)) (RefT (List ℕ))
 
