@@ -108,27 +108,33 @@ static MantList *list_at(MantLists *lists, size_t place)
     return place % 2 == 0 ? &kinds[place / 2]->first : &kinds[place / 2]->second;
 }
 
-/* All eight lists are checked, kind by kind, first before second, whatever is chosen. */
+/* Whether every call that is given these lists answers that fault of them, whatever is chosen, takes nothing and ends a walk. */
+static bool is_fault(const MantLists *lists, uint8_t number)
+{
+    const MantNode choosing = {.own = 2000, .source_pass = MANT_SECOND_LIST, .destination_reject = MANT_FIRST_LIST};
+    uint8_t output[22];
+    MantStep s = mant_step(EDITION, choosing, lists, example, 20, (MantCursor){0, false}, output, sizeof output);
+    return mant_list_fault(lists) == number && mant_hear(EDITION, node, lists, example, 20, output, sizeof output).delivery == number
+           && mant_hear(EDITION, choosing, lists, example, 20, output, sizeof output).repeat == number
+           && mant_hear_and_count(EDITION, choosing, lists, example, 20, output, sizeof output, NULL, 0).answer.repeat == number
+           && s.kind == MANT_ANSWERED && s.answer.delivery == number && s.answer.taken == 0 && s.next.place == 0 && s.next.ended;
+}
+
+/* All eight lists are checked, kind by kind, first before second, whatever is chosen. At each place a list with 20 stands before lists with 21, so that a
+   call that took two of its lists in each other's place would answer 21. */
 static void eight_lists(void)
 {
     const uint16_t values[2] = {2, 1};
-    const MantNode choosing = {.own = 2000, .source_pass = MANT_SECOND_LIST, .destination_reject = MANT_FIRST_LIST};
-    uint8_t output[22];
     for (size_t i = 0; i < 8; i++) {
         MantLists lists = {0};
         *list_at(&lists, i) = (MantList){values, 2};
-        CHECK(mant_list_fault(&lists) == MANT_LOW_ABOVE_HIGH);
-        CHECK(mant_hear(EDITION, node, &lists, example, 20, output, sizeof output).delivery == 20);
-        CHECK(mant_hear(EDITION, choosing, &lists, example, 20, output, sizeof output).repeat == 20);
-        MantStep s = mant_step(EDITION, choosing, &lists, example, 20, (MantCursor){0, false}, output, sizeof output);
-        CHECK(s.kind == MANT_ANSWERED && s.answer.delivery == 20 && s.answer.taken == 0 && s.next.place == 0 && s.next.ended);
-        CHECK(mant_hear_and_count(EDITION, choosing, &lists, example, 20, output, sizeof output, NULL, 0).answer.repeat == 20);
+        CHECK(is_fault(&lists, MANT_LOW_ABOVE_HIGH));
         for (size_t k = i + 1; k < 8; k++) {
             *list_at(&lists, k) = (MantList){values, 1};
         }
-        CHECK(mant_list_fault(&lists) == 20);
+        CHECK(is_fault(&lists, MANT_LOW_ABOVE_HIGH));
         *list_at(&lists, i) = (MantList){NULL, 0};
-        CHECK(mant_list_fault(&lists) == (i == 7 ? 0 : MANT_LIST_ODD));
+        CHECK(i == 7 ? mant_list_fault(&lists) == 0 : is_fault(&lists, MANT_LIST_ODD));
     }
     CHECK(mant_list_fault(NULL) == 0);
 }
