@@ -7,13 +7,12 @@ use pdu::Header;
 use retained::Names;
 use retained::Outcome;
 ghost use mathlib.Core.Path.{_≡_};
-ghost use mathlib.Core.Bool.{not, _&&_};
+ghost use mathlib.Core.Bool.{_&&_};
 ghost use Prim.Native.Nat.{_≤_};
 ghost use lib.Dec.{eqb, leb};
 ghost use lib.ListN.{length};
 ghost use Rattle.pdu.specs.Sizes.{pduLength};
-ghost use Rattle.retained.specs.Table.{did};
-ghost use Rattle.answering.specs.Delivered.{isAcknowledgement, isAnswered, ackHeader, answered};
+ghost use Rattle.answering.specs.Delivered.{isAnswered, ackHeader};
 ghost use Rattle.answering.specs.Responding.{kindFor, earlyNumber, lateNumber, askAcknowledge, responds, response, responded};
 
 // What an acknowledgement is sent with. Hop limit and port are wider than their bits, so that a number too large arrives whole and is refused.

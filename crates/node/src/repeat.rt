@@ -3,7 +3,6 @@ use decision::Settings;
 use pdu::Header;
 ghost use mathlib.Core.Path.{_≡_};
 ghost use mathlib.Core.Bool.{true, cond};
-ghost use mathlib.Core.List.{List};
 ghost use Prim.Native.Nat.{_+_, _-_, _<_, _≤_};
 ghost use lib.ListN.{length, set};
 ghost use Rattle.octets.specs.Octets.{wordBytes, over, placed, placeAfter};

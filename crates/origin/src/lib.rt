@@ -7,7 +7,7 @@ ghost use mathlib.Core.Bool.{cond, _&&_};
 ghost use Prim.Native.Nat.{_≤_};
 ghost use lib.Dec.{eqb};
 ghost use lib.ListN.{length};
-ghost use Rattle.pdu.specs.Sizes.{payloadLimit, destinationFlag, pduLength};
+ghost use Rattle.pdu.specs.Sizes.{payloadLimit, destinationFlag};
 ghost use Rattle.origin.specs.Origination.{freshHeader, settingsFault, originated, originatedOutput};
 
 // What a caller asks of a fresh PDU. Edition, hop limit and port are wider than what they hold, so that a number too large arrives whole and is refused.

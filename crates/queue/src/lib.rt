@@ -1,7 +1,7 @@
 // The transmit queue: PDUs back to back in memory that the caller lends, and its level, kept there and found by a walk.
 ghost use mathlib.Core.Path.{_≡_};
 ghost use mathlib.Core.Bool.{cond, _&&_};
-ghost use Prim.Native.Nat.{_+_, _-_, _≤_};
+ghost use Prim.Native.Nat.{_-_, _≤_};
 ghost use lib.Dec.{eqb, leb};
 ghost use lib.ListN.{length};
 ghost use Rattle.octets.specs.Octets.{placed, IsPart};

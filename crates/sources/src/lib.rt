@@ -1,8 +1,8 @@
 // The numbers last accepted from each source: a record in memory that the caller lends.
 ghost use mathlib.Core.Path.{_≡_};
 ghost use Prim.Native.Nat.{_+_, _-_, _*_, _≤_, _<_};
-ghost use lib.ListN.{length, set};
-ghost use Rattle.sources.specs.Sources.{capacity, recordIn, placeOf, lastNumber, numberFault, sourceFault, memoryAccepted};
+ghost use lib.ListN.{length};
+ghost use Rattle.sources.specs.Sources.{capacity, recordIn, placeOf, numberFault, sourceFault, memoryAccepted};
 
 // The most sources that a record holds. Document 02, W-212.
 const LIMIT: usize = 64;
