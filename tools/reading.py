@@ -14,6 +14,7 @@ CALL = re.compile(r'\b(\w+)::(?:\w+::)*(\w+)\(')
 BELIEVED_WHOLE = ('audit', 'promises')  # crates whose definitions are what is claimed, and the form of a promise
 CALLED_FROM_OUTSIDE = 'mant'
 TESTS = ('cases', 'vectors')  # programs that only try the others
+TYPE = re.compile(r'^ *pub (?:struct|enum) (\w+)', re.M)
 
 
 def key_of(file):
@@ -90,3 +91,14 @@ def skipped(top):
         if left:
             names = 'all' if left == there else ', '.join(f'`{name}`' for name in left)
             yield f'| `crates/{crate}/specs/{file}.antt` | {names} |'
+
+
+def namesakes(top):
+    """The names that more than one file defines, of definitions and of the types that src declares for them, each with its files."""
+    files = {}
+    for crate, file, name in Reading(top).under:
+        files.setdefault(name.strip('_'), set()).add(f'crates/{crate}/specs/{file}.antt')
+    for file in top.glob('crates/*/src/**/*.rt'):
+        for name in TYPE.findall(file.read_text()):
+            files.setdefault(name, set()).add(str(file.relative_to(top)))
+    return {name: sorted(there) for name, there in sorted(files.items()) if len(there) > 1}
