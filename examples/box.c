@@ -8,8 +8,6 @@
 #include "mant.h"
 
 /* What the box is set to. */
-#define EDITION MANT_EDITION_1_2
-#define OWN 2000      /* its address */
 #define BASE 1600     /* whom it alarms */
 #define HOP_LIMIT 3   /* of what it sends itself */
 #define SLOT 10       /* seconds from one slot to the next */
@@ -18,8 +16,9 @@
 #define TRIES 2       /* times that it is sent again */
 
 static const uint16_t left_to_others[] = {1300, 1399};
-static const MantLists lists = {.source_reject = {.first = {left_to_others, 2}}};
-static const MantNode node = {.own = OWN, .echo = true, .repeating = true, .source_reject = MANT_FIRST_LIST};
+static const MantLists wanted = {.source_reject = {.first = {left_to_others, 2}}};
+static MantListBlock lists;             /* what is wanted, laid in main */
+static MantNode node = MANT_NODE(2000); /* address 2000, edition 1.2, echo and repeating on */
 static const MantSending sending = {.hop_limit = HOP_LIMIT, .with_path = true};
 static const MantKey key = {{'k', 'e', 'e', 'p', ' ', 'm', 'e', ' ', 's', 'e', 'c', 'r', 'e', 't', '!', '!'}};
 
@@ -98,7 +97,7 @@ static bool open_sealed(const uint8_t *pdu, MantHeader header)
 /* What is delivered here; whether to acknowledge it. What is not sealed is a report: anyone can send it, and it may come twice, by two ways. */
 static bool deliver(const uint8_t *pdu, MantAnswer answer)
 {
-    MantHeader header = mant_read(EDITION, pdu, answer.taken);
+    MantHeader header = mant_read(node.edition, pdu, answer.taken);
     if (header.encrypted) {
         return open_sealed(pdu, header);
     }
@@ -120,7 +119,7 @@ static bool note(MantOutcome outcome)
 /* The PDU at the start of the bytes; gives its length, or 0 where it cannot be read. */
 static size_t hear(const uint8_t *pdu, size_t length)
 {
-    MantListened heard = mant_hear_and_count(EDITION, node, &lists, pdu, length, output, sizeof output, stations, MANT_STATION_WORDS);
+    MantListened heard = mant_hear_and_count(node, lists.words, MANT_LIST_WORDS, pdu, length, output, sizeof output, stations, MANT_STATION_WORDS);
     MantAnswer answer = heard.answer;
     done("table of stations", heard.table_number);
     if (done("repeat", answer.repeat)) {
@@ -146,8 +145,8 @@ static void hear_frame(const uint8_t *bytes, size_t length)
 /* Begins the slot with the alarms that were raised, and gives their bytes. What is not retained is not sent, and waits for the next slot. */
 static size_t begin_with_alarms(uint64_t now)
 {
-    const MantFresh fresh = {.edition = EDITION, .source = OWN, .has_destination = true, .destination = BASE, .hop_limit = HOP_LIMIT, .with_path = true,
-                             .reliable = true, .pdu_id = alarm_id};
+    const MantFresh fresh = {.edition = node.edition, .source = node.own, .has_destination = true, .destination = BASE, .hop_limit = HOP_LIMIT,
+                             .with_path = true, .reliable = true, .pdu_id = alarm_id};
     MantWritten written = mant_originate(fresh, &raised, 1, slot, sizeof slot);
     if (!done("alarm", written.number) || !note(mant_retain(alarms, MANT_RECORDS, last_time, now, slot, written.length))) {
         return 0;
@@ -179,7 +178,8 @@ static void send_slot(uint64_t now)
 
 int main(void)
 {
-    if (!done("lists", mant_list_fault(&lists))) {
+    node.source_reject = MANT_FIRST_LIST;
+    if (!done("lists", mant_lay_lists(&lists, &wanted).number)) {
         return 1;
     }
     for (uint64_t now = 1, next = 0; now <= 40; now++) { /* a box goes on */

@@ -18,7 +18,7 @@ typedef struct {
     uint64_t last;
 } Site;
 
-static Site base = {.node = {.own = 1000, .echo = true}}, gate = {.node = {.own = 1600, .echo = true}};
+static Site base = {.node = MANT_NODE(1000)}, gate = {.node = MANT_NODE(1600)};
 static const MantSending sending = {.hop_limit = 1, .with_path = true};
 
 static void print_outcome(const char *name, MantOutcome outcome)
@@ -59,7 +59,7 @@ static size_t step(uint64_t time, uint8_t *output)
 /* A site hears a PDU; gives the bytes of the acknowledgement to be sent, if any. A gate would act on what is delivered to it. */
 static size_t hear(const char *name, Site *site, const uint8_t *pdu, size_t length, uint8_t *output)
 {
-    MantAnswer answer = mant_hear(MANT_EDITION_1_2, site->node, NULL, pdu, length, NULL, 0);
+    MantAnswer answer = mant_hear(site->node, NULL, 0, pdu, length, NULL, 0);
     MantOutcome outcome = mant_acknowledge(site->table, MANT_RECORDS, site->last, pdu, length, answer, sending, output, MANT_RETAINED_LIMIT);
 
     printf("%s, payload bytes delivered: %zu\n", name, answer.delivered_length);
@@ -71,6 +71,7 @@ int main(void)
 {
     uint8_t command[MANT_RETAINED_LIMIT], acknowledgement[MANT_RETAINED_LIMIT], none[MANT_RETAINED_LIMIT];
 
+    base.node.repeating = gate.node.repeating = false; /* so mant_hear needs no output */
     give(7, 100, command); /* sent, and lost on its way */
     step(129, command);
     size_t length = step(130, command);

@@ -32,17 +32,19 @@ static void print_sender(const char *name, bool known, uint16_t address)
     }
 }
 
-/* Gauge 1000 passes in the flood season alone. To change over is to change one number. */
+/* Gauge 1000 passes in the flood season alone. First lists are for the dry season, second lists for the flood season. Every destination passes. */
 static void print_seasons(MantNode node, const uint8_t *pdu, size_t length)
 {
-    const uint16_t dry[] = {1001, 1999}, flood[] = {1000, 1999, 3000, 3999};
-    const MantLists lists = {.source_pass = {.first = {dry, 2}, .second = {flood, 4}}};
+    const uint16_t dry[] = {1001, 1999}, flood[] = {1000, 1999, 3000, 3999}, all[] = {0, 65535};
+    const MantLists wanted = {.source_pass = {.first = {dry, 2}, .second = {flood, 4}}, .destination_pass = {.first = {all, 2}, .second = {all, 2}}};
+    static MantListBlock lists;
     uint8_t repeated[MANT_PDU_LIMIT];
 
-    node.source_pass = MANT_FIRST_LIST;
-    print_number("in the dry season", mant_hear(MANT_EDITION_1_2, node, &lists, pdu, length, repeated, sizeof repeated).repeat);
-    node.source_pass = MANT_SECOND_LIST;
-    print_number("in the flood season", mant_hear(MANT_EDITION_1_2, node, &lists, pdu, length, repeated, sizeof repeated).repeat);
+    print_number("lists laid", mant_lay_lists(&lists, &wanted).number);
+    node = mant_change_over(node, MANT_FIRST_LIST);
+    print_number("in the dry season", mant_hear(node, lists.words, MANT_LIST_WORDS, pdu, length, repeated, sizeof repeated).repeat);
+    node = mant_change_over(node, MANT_SECOND_LIST);
+    print_number("in the flood season", mant_hear(node, lists.words, MANT_LIST_WORDS, pdu, length, repeated, sizeof repeated).repeat);
 }
 
 int main(void)
@@ -60,8 +62,8 @@ int main(void)
     print_number("hop limit 1", written.number);
     print_hex("originated", fresh, written.length);
 
-    const MantNode node = {.own = 2000, .echo = true, .repeating = true};
-    MantAnswer answer = mant_hear(MANT_EDITION_1_2, node, NULL, fresh, written.length, repeated, sizeof repeated);
+    const MantNode node = MANT_NODE(2000);
+    MantAnswer answer = mant_hear(node, NULL, 0, fresh, written.length, repeated, sizeof repeated);
     print_number("delivery at node 2000", answer.delivery);
     print_number("repeat at node 2000", answer.repeat);
     print_sender("node 2000 heard it", answer.has_last_sender, answer.last_sender);
@@ -73,7 +75,7 @@ int main(void)
     print_sender("the repeat is heard", header.has_last_sender, header.last_sender);
 
     /* The node hears its own repeat. */
-    answer = mant_hear(MANT_EDITION_1_2, node, NULL, repeated, answer.repeated_length, fresh, sizeof fresh);
+    answer = mant_hear(node, NULL, 0, repeated, answer.repeated_length, fresh, sizeof fresh);
     print_number("repeat of the repeat", answer.repeat);
 
     print_seasons(node, fresh, written.length);

@@ -38,7 +38,7 @@ int main(void)
 {
     const uint8_t command[] = {0x70, 0x01, 0x08, 0x12, 0x12, 0x03, 0x24, 0x13, 0x22, 0x02, 0x76};
     const MantFresh settings = {.edition = MANT_EDITION_1_2, .source = 1000, .has_destination = true, .destination = 1600, .hop_limit = 1, .with_path = true};
-    const MantNode node = {.own = 2000, .echo = true, .repeating = true};
+    const MantNode node = MANT_NODE(2000);
     uint8_t fresh[MANT_PDU_LIMIT], sealed[MANT_PDU_LIMIT], repeated[MANT_PDU_LIMIT];
 
     MantWritten written = mant_originate(settings, command, sizeof command, fresh, sizeof fresh);
@@ -47,7 +47,7 @@ int main(void)
     print_hex("sealed", sealed, written.length);
 
     /* Node 2000 has no key and needs none. */
-    MantAnswer answer = mant_hear(MANT_EDITION_1_2, node, NULL, sealed, written.length, repeated, sizeof repeated);
+    MantAnswer answer = mant_hear(node, NULL, 0, sealed, written.length, repeated, sizeof repeated);
     print_hex("repeated", repeated, answer.repeated_length);
 
     repeated[answer.repeated_length - 1] ^= 1;

@@ -1,10 +1,10 @@
 /*
  * mant.h: the MANT layer of ALERT2 for C, linked from libmant.a (rt staticlib mant).
  *
- * Every call answers for every input: nothing has to be checked before it. What each answers is proved of the code in the library, against the
- * definitions in the crates' specs/ folders; this header declares it, and for a node hands its lists on from a struct. No call keeps anything between
- * calls, allocates, or does input or output, so two may run at once unless they share memory that one of them changes. The library needs memcpy, memmove
- * and memset, and no other function of the C library.
+ * Every call returns a result for every input: nothing has to be checked before it. What each returns is proved of the code in the library, against the
+ * definitions in the crates' specs/ folders. Two functions are in this header and so outside the proof: mant_lay_lists hands the lists of a struct on to
+ * mant_lay_eight, and mant_meaning has the words of a number. No call keeps anything between calls, allocates, or does input or output. So two may run at
+ * once unless they share memory that one of them changes. The library needs memcpy and memset, and no other function of the C library.
  *
  * The groups, by what a box does:
  *
@@ -28,30 +28,32 @@
  *
  * What a caller owes, since no code can look whether it holds. A pointer with a length other than 0 points to that many elements, aligned as C aligns their
  * type, which nothing else changes during the call; with length 0 it may be anything, NULL too, and is not followed. An output shares no memory with another
- * slice of the call, nor does memory that is lent. Structs are those declared here, passed by value and so aligned by the compiler, MantLists by its
- * address; a bool in them holds 0 or 1, as C's does unless it was written by other means, such as memcpy.
+ * slice of the call, nor does memory that is lent. Structs are those declared here. They are passed by value and so aligned by the compiler. MantLists and
+ * MantListBlock are passed by address, and only that of a MantLists may be NULL. A bool in a struct holds 0 or 1, as C's does unless it was written by other
+ * means, such as memcpy.
  *
- * Slices. A slice is passed as a pointer and then a length, which counts elements: bytes, the uint16_t values of a list, the words of a table, records. Only
- * so many elements are ever read or written.
+ * Slices. A slice is passed as a pointer and then a length, which counts elements: bytes, the values of a list, the words of a block of lists or of a table,
+ * records. Only so many elements are ever read or written.
  *
  * Output. It changes only where a PDU, its plain payload, an exchange or what was taken from a queue is written (number 0), or, at a node, where the repeat
  * number is 0. It then begins with that, and keeps its bytes past the end of it. With every other number the output is left as it was. MANT_PDU_LIMIT
  * bytes are room for every PDU, MANT_EXCHANGE_LIMIT for every exchange, MANT_QUEUE_BYTES for all that a queue holds.
  *
  * Lent memory. What a box remembers lies in arrays of the caller's, who lends one to each call that needs it and keeps it from call to call: a table of
- * stations, a queue, a table of retained PDUs, a record of message numbers. Each is empty when it is all zeros. With a refusal nothing in it changes. Memory
- * put together by hand, or not set at all, gets an answer too, which its group tells. Over a restart a box must keep the record, and beside it what it counts
- * itself, the message number and the PDU ID that it used last; the rest may begin empty again.
+ * stations, a queue, a table of retained PDUs, a record of message numbers. Each is empty when it is all zeros. With a refusal nothing in it changes. Every
+ * call is defined for arbitrary memory contents: each group says what it returns for malformed memory. A block of address lists is lent too. Only laying
+ * writes it, also when a list has a fault. Over a restart a box must keep the record, and beside it what it counts itself, the message number and the PDU ID
+ * that it used last. The rest may begin empty again, and lists are laid again.
  *
  * Edition. In edition 1.1 of the protocol the three bits after the port are one reserved number; in 1.2 the first of them is the encrypted flag
- * (document 02, W-209). What shows a header, writes one or hears as a node takes the edition as a number, MANT_EDITION_1_1 or MANT_EDITION_1_2. Any
- * other number, also one that would be 11 or 12 if it were cut to fewer bits, is answered 17 before all else is looked at. A node answers and repeats
- * the same, byte for byte, under both. Paths, stations, exchanges, queues and retained PDUs show none of these bits, an acknowledgement has them clear, and
- * sealing is of 1.2 alone, so these take no edition.
+ * (document 02, W-209). The edition is a number, MANT_EDITION_1_1 or MANT_EDITION_1_2. It is a parameter of mant_read and mant_write_again, and a setting of
+ * a fresh PDU and of a node. Any other number is refused with 17 before all else is looked at, also one that would be 11 or 12 if it were cut to fewer bits.
+ * A node answers and repeats the same, byte for byte, under both. Paths, stations, exchanges, queues and retained PDUs show none of these bits, an
+ * acknowledgement has them clear, and sealing is of 1.2 alone, so these take no edition.
  *
  * Stack. Bytes below the caller's stack pointer, return address included: the most of the calls that tests/stack.c tries of each. tests/run_boundary measures
  * them, compiled by gcc -O2, and fails where one is above its limit (docs/PERFORMANCE.md) or more than 64 bytes from the figure here. No way through the
- * library's code takes more than that limit, counted in its disassembly, apart from what the C library's three functions take. Two things come on top,
+ * library's code takes more than that limit, counted in its disassembly, apart from what the C library's two functions take. Two things come on top,
  * measured there too. For its arguments a caller compiled by another -O takes up to 64 bytes more, and one without -O up to 256 bytes more. And where the
  * loader binds memcpy and its like at their first call, as it does unless told otherwise, that call takes up to 4,096 bytes more: link with
  * -Wl,-z,now or -static where that is too much.
@@ -164,7 +166,7 @@ MANT_SIZE(MantWritten, 16);
  * What the bytes of a PDU say: each field of its header, its path, who sent it last, where its payload lies; and the PDU written again from that.
  * Memory: none.
  * Numbers: 17, 1 to 6; in writing again also 14.
- * Stack: mant_read 72, mant_path_address 136, mant_path_has 136, mant_write_again 232.
+ * Stack: mant_read 176, mant_path_address 136, mant_path_has 136, mant_write_again 232.
  */
 
 /* Sizes in bytes; the path's in addresses. */
@@ -232,7 +234,7 @@ MantWritten mant_write_again(uint64_t edition, const uint8_t *bytes, size_t byte
  * A fresh PDU, as a gauge or a base sends it: from settings and a payload.
  * Memory: none.
  * Numbers: 17, 10 to 13, 16, 14.
- * Stack: mant_originate 88.
+ * Stack: mant_originate 72.
  */
 
 /* What is asked of a fresh PDU. Edition, hop limit and port are wider than they need be, so that 263 arrives as 263 and is refused. An edition that
@@ -269,20 +271,29 @@ MantWritten mant_originate(MantFresh settings, const uint8_t *payload, size_t pa
 
 /* ---- A node ----
  *
- * What is delivered and what is repeated at a box, for one PDU (mant_hear) or for PDUs that lie back to back (mant_step). No call remembers what was
- * delivered: the same PDU heard by two ways is delivered twice, and repeated twice, unless the path shows that this node had it. Where that matters the box
- * remembers it.
- * Memory: no call changes any. A node has eight address lists, two of each kind, such as one for the dry season and one for floods (document 02, W-211).
- *     They stay the caller's, together in a struct MantLists that is passed by its address, NULL for eight empty lists. Which of them a node reads is
- *     chosen in its settings, for each kind by itself; to change over is to change those choices and nothing else. All eight are checked at every call,
- *     whatever is chosen.
+ * What is delivered and what is repeated at a box, for one PDU (mant_hear) or for PDUs that lie back to back (mant_step). A node is its settings, a MantNode,
+ * and its address lists. No call remembers what was delivered: the same PDU heard by two ways is delivered twice, and repeated twice, unless its path shows
+ * that this node had it. If that matters, the box remembers it.
+ * Memory: a block of address lists that the caller keeps, or none. A node has eight lists, two of each kind, such as one for the dry season and one for
+ *     floods (document 02, W-211). A block is one slice of uint16_t words: first the eight lengths in the order of enum MantListPlace, then the values of the
+ *     eight lists in the same order, with nothing between them. There are three ways to give a node its lists:
+ *     1. No block. Pass NULL and 0: all eight lists are empty.
+ *     2. A block laid once, at set-up. Describe the lists in a MantLists. mant_lay_lists writes them to a MantListBlock, which is MANT_LIST_WORDS words or
+ *        2,080 bytes. Lists of any length can be laid. One of more than MANT_LIST_LIMIT values has fault 22, and has it in the block too. That includes a
+ *        list of 65,536 values, a length that no word holds.
+ *     3. A constant block, written with the array designators of C99. C++ has none, so lay the lists there. A length that is not named is 0:
+ *            static const uint16_t lists[] = {[MANT_SOURCE_PASS_FIRST] = 2, [MANT_LIST_VALUES] = 1001, 1999};
+ *        A wrong length gives every later list the wrong values, and may give no fault. So lay the lists unless they must be a constant.
+ *     Every slice is a block. A length that lies past the end of the slice is 0, and a list ends at the latest where the slice ends. A block of zeros holds
+ *     eight empty lists. The calls that hear check all eight lists each time, whatever is chosen. Only laying changes a block.
  * Numbers: for delivery and repeating alike 17, 20 to 22, 1 to 6, 30, 42, 31 to 34 and 40; for delivery alone 35 and 39; for repeating alone 36 to 38 and
  *     41; for a batch above the size limit 54.
- * Stack: mant_list_fault 88, mant_list_holds 8, mant_hear 456, mant_step 520.
+ * Stack: mant_change_over 8, mant_list_holds 8, mant_list_fault 8, mant_lay_lists 168, mant_hear 272, mant_step 336.
  */
 
-/* Values in a list, bytes in a batch. */
+/* Values in a list, words in a block that lists are laid into, bytes in a batch. */
 #define MANT_LIST_LIMIT 128
+#define MANT_LIST_WORDS 1040
 #define MANT_BATCH_LIMIT 16384
 
 /* Which of a kind's two lists a node reads. Any other number chooses none, as 0 does. */
@@ -292,10 +303,12 @@ enum MantChoice {
     MANT_SECOND_LIST = 2
 };
 
-/* What a node is set to. What is not set is off, echo and repeating too (in Python both are on by default). A pass list that is chosen and empty passes
-   nothing; with none chosen the kind is off and stops nothing. */
+/* What a node is set to. Begin with MANT_NODE and change what differs. In a struct that is initialized otherwise, what is not set is 0 or off, and edition 0
+   is refused with 17. Each kind of list has a choice of its own. A pass list that is chosen and empty passes nothing. If no list of a kind is chosen, that
+   kind is off and stops nothing. */
 typedef struct MantNode {
-    uint16_t own;
+    uint64_t edition;         /* MANT_EDITION_1_1 or MANT_EDITION_1_2 */
+    uint16_t own;             /* its address */
     bool echo;                /* drop a PDU whose path holds the own address, or whose source it is */
     bool repeating;
     uint8_t source_pass;      /* a MantChoice, as the three below */
@@ -303,7 +316,28 @@ typedef struct MantNode {
     uint8_t destination_pass;
     uint8_t destination_reject;
 } MantNode;
-MANT_SIZE(MantNode, 8);
+MANT_SIZE(MantNode, 16);
+
+/* Initializes the node of an address: edition 1.2, echo and repeating on, no list chosen. In C++ the address is a constant or a uint16_t. */
+#define MANT_NODE(own) {MANT_EDITION_1_2, (own), true, true, MANT_NO_LIST, MANT_NO_LIST, MANT_NO_LIST, MANT_NO_LIST}
+
+/* Returns the same node with all four kinds set to one choice, to change over between the first lists and the second by one setting. A number other than 1
+   and 2 chooses no list, also one that would be 1 or 2 if it were cut to fewer bits, such as 257. A kind that was off is set too, and a pass list that is
+   then chosen and empty passes nothing. So give a pass list that is to stop nothing the range 0 to 65,535. */
+MantNode mant_change_over(MantNode node, uint64_t choice);
+
+/* The places of the eight lists, in the order in which they are checked and in which they lie in a block: kind by kind, first before second. */
+enum MantListPlace {
+    MANT_SOURCE_PASS_FIRST = 0,
+    MANT_SOURCE_PASS_SECOND = 1,
+    MANT_SOURCE_REJECT_FIRST = 2,
+    MANT_SOURCE_REJECT_SECOND = 3,
+    MANT_DESTINATION_PASS_FIRST = 4,
+    MANT_DESTINATION_PASS_SECOND = 5,
+    MANT_DESTINATION_REJECT_FIRST = 6,
+    MANT_DESTINATION_REJECT_SECOND = 7,
+    MANT_LIST_VALUES = 8      /* where the values begin in a block; in a MantListFault: no list */
+};
 
 /* A list: low, high, low, high and so on, both ends included, in any order; overlaps are allowed. The length counts values. */
 typedef struct MantList {
@@ -318,7 +352,7 @@ typedef struct MantTwoLists {
 } MantTwoLists;
 MANT_SIZE(MantTwoLists, 32);
 
-/* The lists of a node, two of each kind; those that are not set are empty. */
+/* The lists of a node, two of each kind, as mant_lay_lists takes them. Those that are not set are empty. */
 typedef struct MantLists {
     MantTwoLists source_pass;
     MantTwoLists source_reject;
@@ -326,6 +360,19 @@ typedef struct MantLists {
     MantTwoLists destination_reject;
 } MantLists;
 MANT_SIZE(MantLists, 128);
+
+/* Room for eight laid lists. Pass `words` and MANT_LIST_WORDS to the calls that hear. */
+typedef struct MantListBlock {
+    uint16_t words[MANT_LIST_WORDS];
+} MantListBlock;
+MANT_SIZE(MantListBlock, 2080);
+
+/* What is wrong with the lists of a block. */
+typedef struct MantListFault {
+    uint8_t number;           /* of the first list that has a fault: 22, 21 or 20, the first that applies; 0 if none has one */
+    uint8_t list;             /* which list that is, a MantListPlace, 0 to 7; MANT_LIST_VALUES, 8, if none has a fault */
+} MantListFault;
+MANT_SIZE(MantListFault, 2);
 
 /* What a node answers for one PDU. Places count from the PDU's first byte. */
 typedef struct MantAnswer {
@@ -361,42 +408,35 @@ typedef struct MantStep {
 } MantStep;
 MANT_SIZE(MantStep, 64);
 
-/* Whether an address is in some range of a list. An empty list holds none; a last value without a partner is no range. */
+/* Whether an address is in some range of one list. The slice is the list's values alone, not a block. An empty list holds none; a last value without a
+   partner is no range. */
 bool mant_list_holds(const uint16_t *list, size_t list_length, uint16_t address);
 
-/* The library's own calls of a node take each list as a pointer and a length, in this order. Call the functions below instead: each hands the lists of a
-   struct on to one of these, and does nothing else. */
-#define MANT_EIGHT_LISTS                                                                                                                        \
-    const uint16_t *source_pass_first, size_t source_pass_first_length, const uint16_t *source_pass_second, size_t source_pass_second_length,   \
-        const uint16_t *source_reject_first, size_t source_reject_first_length, const uint16_t *source_reject_second,                           \
-        size_t source_reject_second_length, const uint16_t *destination_pass_first, size_t destination_pass_first_length,                       \
-        const uint16_t *destination_pass_second, size_t destination_pass_second_length, const uint16_t *destination_reject_first,               \
-        size_t destination_reject_first_length, const uint16_t *destination_reject_second, size_t destination_reject_second_length
-uint8_t mant_list_fault_eight(MANT_EIGHT_LISTS);
-MantAnswer mant_hear_eight(uint64_t edition, MantNode settings, MANT_EIGHT_LISTS, const uint8_t *received, size_t received_length, uint8_t *output,
-                           size_t output_length);
-MantStep mant_step_eight(uint64_t edition, MantNode settings, MANT_EIGHT_LISTS, const uint8_t *batch, size_t batch_length, MantCursor cursor,
-                         uint8_t *output, size_t output_length);
+/* What is wrong with the lists of a block: the number of the first of the eight that has a fault, and which list that is. */
+MantListFault mant_list_fault(const uint16_t *lists, size_t lists_length);
 
-/* The lists at the address, or eight that are empty where it is NULL. */
-static inline const MantLists *mant_lists_at(const MantLists *lists)
+/* The library's own call for laying. It takes the block as a pointer to MANT_LIST_WORDS words, and each list as a pointer and a length. Call mant_lay_lists
+   instead. */
+MantListFault mant_lay_eight(uint16_t *block, const uint16_t *source_pass_first, size_t source_pass_first_length, const uint16_t *source_pass_second,
+                             size_t source_pass_second_length, const uint16_t *source_reject_first, size_t source_reject_first_length,
+                             const uint16_t *source_reject_second, size_t source_reject_second_length, const uint16_t *destination_pass_first,
+                             size_t destination_pass_first_length, const uint16_t *destination_pass_second, size_t destination_pass_second_length,
+                             const uint16_t *destination_reject_first, size_t destination_reject_first_length,
+                             const uint16_t *destination_reject_second, size_t destination_reject_second_length);
+
+/* Lays lists of any length into a block, and returns what mant_list_fault returns for the block. If `lists` is NULL, it lays eight empty lists. With number 0
+   the block holds exactly these lists, and the originals are no longer needed. With another number the block is written too. The calls that hear then give
+   that number, unless 17, 54 or the end of a walk comes first. Of a list of more than MANT_LIST_LIMIT values the block holds the first MANT_LIST_LIMIT + 1,
+   so that it still has fault 22. Words behind the values are kept as they were. The block shares no memory with a list. */
+static inline MantListFault mant_lay_lists(MantListBlock *block, const MantLists *lists)
 {
     static const MantLists empty = {{{NULL, 0}, {NULL, 0}}, {{NULL, 0}, {NULL, 0}}, {{NULL, 0}, {NULL, 0}}, {{NULL, 0}, {NULL, 0}}};
-    return lists != NULL ? lists : &empty;
-}
-
-#define MANT_LIST(list) (list).values, (list).length
-#define MANT_TWO_LISTS(two) MANT_LIST((two).first), MANT_LIST((two).second)
-#define MANT_SPREAD(lists)                                                                                                      \
-    MANT_TWO_LISTS((lists)->source_pass), MANT_TWO_LISTS((lists)->source_reject), MANT_TWO_LISTS((lists)->destination_pass),    \
-        MANT_TWO_LISTS((lists)->destination_reject)
-
-/* What is wrong with the lists of a node: the number of the first of the eight that has a fault, or 0. They are looked at kind by kind in the order of
-   the struct, first before second; in each list 22, 21, then 20. */
-static inline uint8_t mant_list_fault(const MantLists *lists)
-{
-    lists = mant_lists_at(lists);
-    return mant_list_fault_eight(MANT_SPREAD(lists));
+    const MantLists *l = lists != NULL ? lists : &empty;
+    return mant_lay_eight(block->words, l->source_pass.first.values, l->source_pass.first.length, l->source_pass.second.values,
+                          l->source_pass.second.length, l->source_reject.first.values, l->source_reject.first.length, l->source_reject.second.values,
+                          l->source_reject.second.length, l->destination_pass.first.values, l->destination_pass.first.length,
+                          l->destination_pass.second.values, l->destination_pass.second.length, l->destination_reject.first.values,
+                          l->destination_reject.first.length, l->destination_reject.second.values, l->destination_reject.second.length);
 }
 
 /* What a node answers for the PDU at the start of the received bytes: a number for delivery and one for repeating. 17, faults of the lists (20 to 22),
@@ -411,39 +451,39 @@ static inline uint8_t mant_list_fault(const MantLists *lists)
    one with a hop limit that is one lower, but 7 stays 7, and with the path bit the own address behind the others, which makes it 2 bytes longer: room
    for received_length + 2 bytes is enough. The last sender is told with every number but 17 and those of the lists and of reading, so also where the PDU
    is dropped (document 02, W-205). */
-static inline MantAnswer mant_hear(uint64_t edition, MantNode settings, const MantLists *lists, const uint8_t *received, size_t received_length,
-                                   uint8_t *output, size_t output_length)
-{
-    lists = mant_lists_at(lists);
-    return mant_hear_eight(edition, settings, MANT_SPREAD(lists), received, received_length, output, output_length);
-}
+MantAnswer mant_hear(MantNode node, const uint16_t *lists, size_t lists_length, const uint8_t *received, size_t received_length, uint8_t *output,
+                     size_t output_length);
 
 /* One step of the walk over PDUs that lie back to back: what mant_hear answers for the PDU at the cursor, whose first byte is
    batch[cursor.place], and the cursor of the next. After 17, a list fault or a PDU that can't be read the next cursor has ended, at the same
    place. Any cursor may be given; one past the end, or one that has ended, gets MANT_ENDED. A batch over the size limit gets MANT_REFUSED at every
-   cursor, so go on only while the kind is MANT_ANSWERED. 17 comes before that: under another number than 11 and 12 a cursor
-   with a byte left is answered 17, and MANT_ENDED after it. The output is changed as by mant_hear, and left alone with kinds 1 and 2.
+   cursor, so go on only while the kind is MANT_ANSWERED. 17 comes before that: under an edition other than 11 and 12 a cursor
+   with a byte left gets 17, and the next one MANT_ENDED. The output is changed as by mant_hear, and left alone with kinds 1 and 2.
 
    The PDU that a step s answered began at s.next.place - s.answer.taken, also where taken is 0. The places in the answer count from there: a delivered
    payload begins at batch + (s.next.place - s.answer.taken) + s.answer.delivered_place. */
-static inline MantStep mant_step(uint64_t edition, MantNode settings, const MantLists *lists, const uint8_t *batch, size_t batch_length,
-                                 MantCursor cursor, uint8_t *output, size_t output_length)
-{
-    lists = mant_lists_at(lists);
-    return mant_step_eight(edition, settings, MANT_SPREAD(lists), batch, batch_length, cursor, output, output_length);
-}
+MantStep mant_step(MantNode node, const uint16_t *lists, size_t lists_length, const uint8_t *batch, size_t batch_length, MantCursor cursor,
+                   uint8_t *output, size_t output_length);
 
-/* Example: node 2000 in the flood season walks over the reports of two gauges, of which its list passes the first.
+/* Example: gauges 1000 and 3000 report to node 2000. In the dry season its lists stop gauge 1000. In the flood season it walks over both reports, and its
+   lists pass that of gauge 1000 alone.
 
-       const uint16_t dry[] = {1001, 1999}, flood[] = {1000, 1999};
-       const MantLists lists = {.source_pass = {.first = {dry, 2}, .second = {flood, 2}}};
-       const MantNode node = {.own = 2000, .echo = true, .repeating = true, .source_pass = MANT_SECOND_LIST};
+       const uint16_t dry[] = {1001, 1999}, flood[] = {1000, 1999}, all[] = {0, 65535};
+       const MantLists wanted = {.source_pass = {{dry, 2}, {flood, 2}}, .destination_pass = {{all, 2}, {all, 2}}};
+       static MantListBlock lists;
+       MantListFault fault = mant_lay_lists(&lists, &wanted);
+       assert(fault.number == MANT_DONE && fault.list == MANT_LIST_VALUES);
+       MantNode node = MANT_NODE(2000);
        const uint8_t batch[] = {0x02, 0x00, 0x10, 0x01, 0x03, 0xE8, 0x00, 0x2A, 0x02, 0x00, 0x10, 0x01, 0x0B, 0xB8, 0x00, 0x2B};
        uint8_t repeated[MANT_PDU_LIMIT];
+       node = mant_change_over(node, MANT_FIRST_LIST);
+       MantAnswer answer = mant_hear(node, lists.words, MANT_LIST_WORDS, batch, 8, repeated, sizeof repeated);
+       assert(answer.delivery == MANT_SOURCE_NOT_PASSED && answer.repeat == MANT_SOURCE_NOT_PASSED && answer.last_sender == 1000);
+       node = mant_change_over(node, MANT_SECOND_LIST);
        unsigned repeats = 0;
        MantCursor cursor = {0, false};
        for (;;) {
-           MantStep step = mant_step(MANT_EDITION_1_2, node, &lists, batch, sizeof batch, cursor, repeated, sizeof repeated);
+           MantStep step = mant_step(node, lists.words, MANT_LIST_WORDS, batch, sizeof batch, cursor, repeated, sizeof repeated);
            if (step.kind != MANT_ANSWERED) {
                break;
            }
@@ -452,9 +492,7 @@ static inline MantStep mant_step(uint64_t edition, MantNode settings, const Mant
            }
            cursor = step.next;
        }
-       assert(repeats == 1 && cursor.place == sizeof batch);
-       MantAnswer answer = mant_hear(MANT_EDITION_1_2, node, &lists, batch + 8, 8, repeated, sizeof repeated);
-       assert(answer.delivery == MANT_SOURCE_NOT_PASSED && answer.repeat == MANT_SOURCE_NOT_PASSED && answer.last_sender == 3000); */
+       assert(repeats == 1 && cursor.place == sizeof batch); */
 
 /* ---- Stations heard ----
  *
@@ -468,7 +506,7 @@ static inline MantStep mant_step(uint64_t edition, MantNode settings, const Mant
  *     there may not be found.
  * Numbers: 55, 56.
  * Stack: mant_stations_capacity 8, mant_stations_held 8, mant_station_at 8, mant_station_of 56, mant_remove_station 56, mant_count_heard 104,
- *     mant_count_answer 104, mant_hear_and_count 536.
+ *     mant_count_answer 104, mant_hear_and_count 352.
  */
 
 #define MANT_STATION_LIMIT 128
@@ -535,25 +573,19 @@ uint8_t mant_count_answer(uint16_t *table, size_t table_words, const uint8_t *re
 
 /* What mant_hear answers and writes to the output, and the PDU counted in the table as by mant_count_answer, so that no PDU is forgotten. Every PDU
    that could be read is counted, also one that a list then stops and one for whose repeat the output is too short. With table number 55 the PDU is
-   delivered and repeated all the same. It hands its lists on as mant_hear does. */
-MantListened mant_hear_and_count_eight(uint64_t edition, MantNode settings, MANT_EIGHT_LISTS, const uint8_t *received, size_t received_length,
-                                       uint8_t *output, size_t output_length, uint16_t *table, size_t table_words);
-static inline MantListened mant_hear_and_count(uint64_t edition, MantNode settings, const MantLists *lists, const uint8_t *received,
-                                               size_t received_length, uint8_t *output, size_t output_length, uint16_t *table, size_t table_words)
-{
-    lists = mant_lists_at(lists);
-    return mant_hear_and_count_eight(edition, settings, MANT_SPREAD(lists), received, received_length, output, output_length, table, table_words);
-}
+   delivered and repeated all the same. */
+MantListened mant_hear_and_count(MantNode node, const uint16_t *lists, size_t lists_length, const uint8_t *received, size_t received_length,
+                                 uint8_t *output, size_t output_length, uint16_t *table, size_t table_words);
 
 /* Example: node 2000 hears gauge 1000 twice, the second time as an echo of its own repeat.
 
        static uint16_t table[MANT_STATION_WORDS];
-       const MantNode node = {.own = 2000, .echo = true, .repeating = true};
+       const MantNode node = MANT_NODE(2000);
        const uint8_t report[] = {0x02, 0x00, 0x10, 0x01, 0x03, 0xE8, 0x00, 0x2A};
        uint8_t repeated[10], output[MANT_PDU_LIMIT];
-       MantListened heard = mant_hear_and_count(MANT_EDITION_1_2, node, NULL, report, 8, repeated, 10, table, MANT_STATION_WORDS);
+       MantListened heard = mant_hear_and_count(node, NULL, 0, report, 8, repeated, 10, table, MANT_STATION_WORDS);
        assert(heard.answer.repeat == MANT_DONE && heard.table_number == MANT_DONE);
-       heard = mant_hear_and_count(MANT_EDITION_1_2, node, NULL, repeated, 10, output, sizeof output, table, MANT_STATION_WORDS);
+       heard = mant_hear_and_count(node, NULL, 0, repeated, 10, output, sizeof output, table, MANT_STATION_WORDS);
        assert(heard.answer.delivery == MANT_ECHO);
        for (size_t i = 0; i < mant_stations_held(table, MANT_STATION_WORDS); i++) {
            MantStation station = mant_station_at(table, MANT_STATION_WORDS, i).station;
@@ -573,7 +605,7 @@ static inline MantListened mant_hear_and_count(uint64_t edition, MantNode settin
  *     mant_queue_clear does not look at them, and mant_queue_level answers the two numbers as they stand. So clear memory first that was not zeroed, or
  *     what it happens to hold is sent.
  * Numbers: 60 to 62.
- * Stack: mant_queue_add 88, mant_queue_level 8, mant_queue_take 136, mant_queue_clear 8.
+ * Stack: mant_queue_add 144, mant_queue_level 8, mant_queue_take 224, mant_queue_clear 8.
  */
 
 #define MANT_QUEUE_PDUS 32
@@ -767,7 +799,8 @@ MantOutcome mant_acknowledge(MantRetained *table, size_t records, uint64_t last,
 
        static MantRetained table[MANT_RECORDS], at_gate[MANT_RECORDS];
        const MantFresh command = {.edition = MANT_EDITION_1_2, .source = 1000, .has_destination = true, .destination = 1600, .reliable = true, .pdu_id = 7};
-       const MantNode base = {.own = 1000, .echo = true}, gate = {.own = 1600, .echo = true};
+       MantNode base = MANT_NODE(1000), gate = MANT_NODE(1600);
+       base.repeating = gate.repeating = false;
        const MantSending sending = {.hop_limit = 1};
        uint8_t sent[MANT_RETAINED_LIMIT], reply[MANT_RETAINED_LIMIT];
        size_t length = mant_originate(command, NULL, 0, sent, sizeof sent).length;
@@ -776,10 +809,10 @@ MantOutcome mant_acknowledge(MantRetained *table, size_t records, uint64_t last,
        outcome = mant_retry(table, MANT_RECORDS, outcome.last, 130, 30, 2, sent, sizeof sent);
        assert(outcome.deed == MANT_DEED_SENT_AGAIN && outcome.length == length && outcome.last == 130);
        uint64_t last = outcome.last;
-       MantAnswer answer = mant_hear(MANT_EDITION_1_2, gate, NULL, sent, length, NULL, 0);
+       MantAnswer answer = mant_hear(gate, NULL, 0, sent, length, NULL, 0);
        outcome = mant_acknowledge(at_gate, MANT_RECORDS, 0, sent, length, answer, sending, reply, sizeof reply);
        assert(outcome.deed == MANT_DEED_ACKNOWLEDGED);
-       answer = mant_hear(MANT_EDITION_1_2, base, NULL, reply, outcome.length, NULL, 0);
+       answer = mant_hear(base, NULL, 0, reply, outcome.length, NULL, 0);
        outcome = mant_acknowledge(table, MANT_RECORDS, last, reply, outcome.length, answer, sending, sent, sizeof sent);
        assert(outcome.deed == MANT_DEED_FREED && outcome.names.pdu_id == 7); */
 
@@ -798,7 +831,7 @@ MantOutcome mant_acknowledge(MantRetained *table, size_t records, uint64_t last,
  *     together by hand the first entry of a source counts, and an address above 65,535 is no source's. To seal, none, but the caller counts the message
  *     numbers.
  * Numbers: in sealing 1 to 6, 88, 85, 86 and 87; in opening 1 to 6, 80 to 84 and 87.
- * Stack: mant_seal 1,480, mant_open 1,504.
+ * Stack: mant_seal 1,464, mant_open 1,504.
  */
 
 #define MANT_SOURCE_LIMIT 64
@@ -960,10 +993,6 @@ static inline const char *mant_meaning(uint8_t number)
     }
 }
 
-#undef MANT_EIGHT_LISTS
-#undef MANT_LIST
-#undef MANT_TWO_LISTS
-#undef MANT_SPREAD
 #undef MANT_SIZE
 
 #ifdef __cplusplus

@@ -11,9 +11,9 @@ in MANT_LIB. Bytes go in as anything like bytes, and come out as bytes.
 >>> answer.delivery, answer.repeat, answer.repeated.hex()
 (<Number.FOR_ANOTHER: 39>, <Number.DONE: 0>, '0300000b03e806400107d07001081212032413220276')
 
-It can read a PDU (`read`, `path`), make one (`originate`), be a node (`hear`, `walk`, `list_fault`, `list_holds`), plan (`most_transmissions`, `most_bytes`,
-`reach`), exchange with a decoder (`read_exchange`, `write_exchange`), seal a payload (`seal`) and open it once, against a `Record` (`mant.open`, not below,
-since `from mant import *` leaves Python's own `open` in its place; see `help(mant.open)`).
+It can read a PDU (`read`, `path`), make one (`originate`), be a node (`hear`, `walk`, `change_over`, `list_fault`, `list_holds`), plan
+(`most_transmissions`, `most_bytes`, `reach`), exchange with a decoder (`read_exchange`, `write_exchange`), seal a payload (`seal`) and open it once, against
+a `Record` (`mant.open`, not below, since `from mant import *` leaves Python's own `open` in its place; see `help(mant.open)`).
 
 >>> import mant
 >>> key, record = b'sixteen  letters', mant.Record()
@@ -46,15 +46,15 @@ from mant_c import LibraryMissing, library
 from mant_numbers import Number, Refused
 from mant_reach import ProgramMissing, Reach, Reached, reach
 from mant_types import (ADDRESS, BYTE, EDITION_1_1, EDITION_1_2, EXCHANGE_LIMIT, FIRST_LIST, NO_LIST, SECOND_LIST, SOURCE_WORDS, WORD_64, Answer, Exchange,
-                        Header, Limits, Lists, Node, Record, Step, flag, whole)
+                        Header, Limits, ListFault, Lists, Node, Record, Step, flag, whole)
 
 # `open` is left out, so that `from mant import *` does not take the place of Python's own
-__all__ = ['Answer', 'EDITION_1_1', 'EDITION_1_2', 'Exchange', 'FIRST_LIST', 'Header', 'LibraryMissing', 'Limits', 'Lists', 'NO_LIST', 'Node',
-           'Number', 'ProgramMissing', 'Reach', 'Reached', 'Record', 'Refused', 'SECOND_LIST', 'Step', 'hear', 'limits', 'list_fault', 'list_holds',
-           'most_bytes', 'most_transmissions', 'originate', 'path', 'reach', 'read', 'read_exchange', 'seal', 'walk', 'write_exchange']
+__all__ = ['Answer', 'EDITION_1_1', 'EDITION_1_2', 'Exchange', 'FIRST_LIST', 'Header', 'LibraryMissing', 'Limits', 'ListFault', 'Lists', 'NO_LIST', 'Node',
+           'Number', 'ProgramMissing', 'Reach', 'Reached', 'Record', 'Refused', 'SECOND_LIST', 'Step', 'change_over', 'hear', 'limits', 'list_fault',
+           'list_holds', 'most_bytes', 'most_transmissions', 'originate', 'path', 'reach', 'read', 'read_exchange', 'seal', 'walk', 'write_exchange']
 
 # known by this module's name, whichever file they stand in
-for _known in (Answer, Exchange, Header, LibraryMissing, Limits, Lists, Node, Number, ProgramMissing, Reach, Reached, Record, Refused, Step, reach):
+for _known in (Answer, Exchange, Header, LibraryMissing, Limits, ListFault, Lists, Node, Number, ProgramMissing, Reach, Reached, Record, Refused, Step, reach):
     _known.__module__ = 'mant'
 
 
@@ -121,14 +121,26 @@ def originate(payload, *, source, hop_limit, destination=None, port=0, time_stam
 
 
 def list_fault(lists):
-    """The number of what is wrong with a node's lists, the first of the eight that has a fault, or 0.
+    """What is wrong with a node's lists: the number of the first fault, and the list that has it.
 
     >>> list_fault(Lists(source_pass=[1000, 1999]))
-    <Number.DONE: 0>
-    >>> list_fault(Lists(source_pass=[1999, 1000]))
-    <Number.LOW_ABOVE_HIGH: 20>
+    ListFault(number=<Number.DONE: 0>, list=None)
+    >>> list_fault(Lists(source_pass_second=[1999, 1000]))
+    ListFault(number=<Number.LOW_ABOVE_HIGH: 20>, list='source_pass_second')
     """
-    return Number(library().mant_list_fault_eight(*given.eight(lists)))
+    found = library().mant_list_fault(*given.block(lists))
+    return ListFault(Number(found.number), dataclasses.fields(Lists)[found.list].name if found.number else None)
+
+
+def change_over(node, choice):
+    """Returns the same node with this choice for all four kinds of list: FIRST_LIST, SECOND_LIST or NO_LIST. A kind that was off is set too, and a pass
+    list that is then chosen and empty passes nothing.
+
+    >>> change_over(Node(own=2000, source_pass=FIRST_LIST), SECOND_LIST).source_pass
+    2
+    """
+    found = library().mant_change_over(given.node(node), whole('choice', choice, SECOND_LIST))
+    return Node(**{field.name: getattr(found, field.name) for field in dataclasses.fields(Node)})
 
 
 def list_holds(values, address):
@@ -148,7 +160,7 @@ def _answer(found, received, output):
         last_sender=found.last_sender if found.has_last_sender else None, taken=found.taken)
 
 
-def hear(received, node, lists=Lists(), edition=EDITION_1_2):
+def hear(received, node, lists=Lists()):
     """What a node answers for the PDU at the start of the received bytes. An answer has two numbers, so that nothing is raised by one.
 
     >>> answer = hear(originate(b'rain', source=1000, hop_limit=3), Node(own=2000, repeating=False))
@@ -158,11 +170,11 @@ def hear(received, node, lists=Lists(), edition=EDITION_1_2):
     <Number.TOO_SHORT: 1>
     """
     received, output = given.content('received', received), given.room()
-    found = library().mant_hear_eight(whole('edition', edition, WORD_64), given.node(node), *given.eight(lists), received, len(received), *output)
+    found = library().mant_hear(given.node(node), *given.block(lists), received, len(received), *output)
     return _answer(found, received, output)
 
 
-def walk(batch, node, lists=Lists(), edition=EDITION_1_2) -> Iterator[Step]:
+def walk(batch, node, lists=Lists()) -> Iterator[Step]:
     """A node's answer for each PDU of a batch, in order. The walk ends after the first whose `taken` is 0: one that cannot be read, or the first of all
     where a list has a fault or there is no such edition. A batch of more than 16,384 bytes is refused with 54 before the first.
 
@@ -173,13 +185,13 @@ def walk(batch, node, lists=Lists(), edition=EDITION_1_2) -> Iterator[Step]:
     10 b'wind' 0 37
     20 None 1 1
     """
-    return _steps(given.content('batch', batch), (whole('edition', edition, WORD_64), given.node(node), *given.eight(lists)))
+    return _steps(given.content('batch', batch), (given.node(node), *given.block(lists)))
 
 
 def _steps(batch, settings):
     output, cursor = given.room(), mant_c.Cursor()
     while True:
-        found = library().mant_step_eight(*settings, batch, len(batch), cursor, *output)
+        found = library().mant_step(*settings, batch, len(batch), cursor, *output)
         if found.kind == mant_c.REFUSED:
             raise Refused(found.answer.delivery)
         if found.kind == mant_c.ENDED:

@@ -28,8 +28,9 @@ Fresh = struct(
     'MantFresh', edition=c_uint64, source=c_uint16, has_destination=c_bool, destination=c_uint16, hop_limit=c_uint64, port=c_uint64,
     time_stamp_request=c_bool, with_path=c_bool, reliable=c_bool, pdu_id=c_uint8, encrypted=c_bool)
 Node = struct(
-    'MantNode', own=c_uint16, echo=c_bool, repeating=c_bool, source_pass=c_uint8, source_reject=c_uint8, destination_pass=c_uint8,
+    'MantNode', edition=c_uint64, own=c_uint16, echo=c_bool, repeating=c_bool, source_pass=c_uint8, source_reject=c_uint8, destination_pass=c_uint8,
     destination_reject=c_uint8)
+ListFault = struct('MantListFault', number=c_uint8, list=c_uint8)
 Answer = struct(
     'MantAnswer', delivery=c_uint8, repeat=c_uint8, has_last_sender=c_bool, last_sender=c_uint16, delivered_place=c_size_t, delivered_length=c_size_t,
     repeated_length=c_size_t, taken=c_size_t)
@@ -44,16 +45,17 @@ Limits = struct('MantLimits', fixed=c_size_t, payload=c_size_t, path=c_size_t, h
 ANSWERED, ENDED, REFUSED = 0, 1, 2  # enum MantKind
 
 SLICE = (c_void_p, c_size_t)
-EIGHT_LISTS = SLICE * 8
 # of each function what it answers, and then what it takes
 FUNCTIONS = {
     'mant_read': (Header, c_uint64, *SLICE),
     'mant_path_address': (c_uint16, *SLICE, c_size_t),
     'mant_originate': (Written, Fresh, *SLICE, *SLICE),
     'mant_list_holds': (c_bool, *SLICE, c_uint16),
-    'mant_list_fault_eight': (c_uint8, *EIGHT_LISTS),
-    'mant_hear_eight': (Answer, c_uint64, Node, *EIGHT_LISTS, *SLICE, *SLICE),
-    'mant_step_eight': (Step, c_uint64, Node, *EIGHT_LISTS, *SLICE, Cursor, *SLICE),
+    'mant_list_fault': (ListFault, *SLICE),
+    'mant_lay_eight': (ListFault, c_void_p, *SLICE * 8),
+    'mant_change_over': (Node, Node, c_uint64),
+    'mant_hear': (Answer, Node, *SLICE, *SLICE, *SLICE),
+    'mant_step': (Step, Node, *SLICE, *SLICE, Cursor, *SLICE),
     'mant_read_exchange': (Exchange, *SLICE),
     'mant_write_exchange': (Written, *SLICE, *SLICE),
     'mant_seal': (Written, Key, c_uint64, *SLICE, *SLICE),

@@ -1,10 +1,9 @@
 """What a caller gives, as the library takes it, and what the library wrote."""
 import ctypes
-import dataclasses
 
 import mant_c
 from mant_numbers import Refused
-from mant_types import ADDRESS, CHOICES, Lists, Node, flag, whole
+from mant_types import ADDRESS, CHOICES, LIST_WORDS, WORD_64, Lists, Node, flag, in_c, values_of, whole
 
 
 def kind_of(value):
@@ -34,19 +33,19 @@ def sliced(name, value):
 
 def listed(name, values):
     """A list's values with their count."""
-    values = [whole(f'a value of {name}', value, ADDRESS) for value in values]
-    return (ctypes.c_uint16 * len(values))(*values), len(values)
+    return in_c(values_of(name, values))
 
 
-def eight(lists):
-    a(Lists, 'lists', lists)
-    return [part for field in dataclasses.fields(lists) for part in listed(field.name, getattr(lists, field.name))]
+def block(lists):
+    """The block of a node's lists, with the count of its words."""
+    return a(Lists, 'lists', lists)._laid, LIST_WORDS
 
 
 def node(settings):
     a(Node, 'node', settings)
     choices = {name: getattr(settings, name) for name in CHOICES}
-    return mant_c.Node(own=whole('own', settings.own, ADDRESS), echo=flag('echo', settings.echo), repeating=flag('repeating', settings.repeating), **choices)
+    return mant_c.Node(edition=whole('edition', settings.edition, WORD_64), own=whole('own', settings.own, ADDRESS), echo=flag('echo', settings.echo),
+                       repeating=flag('repeating', settings.repeating), **choices)
 
 
 def key(value):

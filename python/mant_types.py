@@ -1,15 +1,18 @@
 """What the functions of mant.py take and answer, and the settings that C can hold."""
 import ctypes
+import dataclasses
+import functools
 import operator
 from dataclasses import dataclass
 from typing import Optional, Sequence, Tuple
 
+import mant_c
 from mant_numbers import Number
 
 EDITION_1_1, EDITION_1_2 = 11, 12
 NO_LIST, FIRST_LIST, SECOND_LIST = 0, 1, 2
 CHOICES = ('source_pass', 'source_reject', 'destination_pass', 'destination_reject')
-EXCHANGE_LIMIT, SOURCE_WORDS = 4626, 129  # those of C without MANT_
+EXCHANGE_LIMIT, LIST_WORDS, SOURCE_WORDS = 4626, 1040, 129  # those of C without MANT_
 BYTE, ADDRESS, WORD_32, WORD_64 = 2**8 - 1, 2**16 - 1, 2**32 - 1, 2**64 - 1  # the most that a C type holds
 
 
@@ -57,6 +60,7 @@ class Node:
     """What a node is set to. Each of the last four chooses one of the two lists of its kind, FIRST_LIST or SECOND_LIST, or none.
 
     own        its address
+    edition    EDITION_1_1 or EDITION_1_2
     echo       whether it drops a PDU whose path or source is its own address
     repeating  whether it repeats at all
 
@@ -66,6 +70,7 @@ class Node:
     ValueError: source_pass is 3; it can be 0 to 2
     """
     own: int
+    edition: int = EDITION_1_2
     echo: bool = True
     repeating: bool = True
     source_pass: int = NO_LIST
@@ -80,7 +85,12 @@ class Node:
 
 @dataclass(frozen=True)
 class Lists:
-    """The address lists of a node, two of each kind. Each is low, high, low, high and so on, both ends included."""
+    """The address lists of a node, two of each kind. Each is low, high, low, high and so on, both ends included. Make them once: the values are copied here,
+    and laid into one block at the first call that uses them.
+
+    >>> Lists(source_pass=[1000, 1999]).source_pass
+    (1000, 1999)
+    """
     source_pass: Sequence[int] = ()
     source_pass_second: Sequence[int] = ()
     source_reject: Sequence[int] = ()
@@ -89,6 +99,31 @@ class Lists:
     destination_pass_second: Sequence[int] = ()
     destination_reject: Sequence[int] = ()
     destination_reject_second: Sequence[int] = ()
+
+    def __post_init__(self):
+        for field in dataclasses.fields(self):
+            object.__setattr__(self, field.name, values_of(field.name, getattr(self, field.name)))
+
+    @functools.cached_property
+    def _laid(self):
+        block = (ctypes.c_uint16 * LIST_WORDS)()
+        lists = (part for field in dataclasses.fields(self) for part in in_c(getattr(self, field.name)))
+        mant_c.library().mant_lay_eight(block, *lists)
+        return block
+
+
+@dataclass(frozen=True)
+class ListFault:
+    """What is wrong with a node's lists. It is false if no list has a fault.
+
+    number  22, 21 or 20, or 0 if no list has a fault
+    list    the name in Lists of the first list that has a fault, or None
+    """
+    number: Number
+    list: Optional[str]
+
+    def __bool__(self):
+        return self.number != Number.DONE
 
 
 @dataclass(frozen=True)
@@ -155,6 +190,16 @@ class Record:
     @property
     def words(self):
         return tuple(self._words)
+
+
+def values_of(name, values):
+    """The values of a list, each one that C can hold."""
+    return tuple(whole(f'a value of {name}', value, ADDRESS) for value in values)
+
+
+def in_c(values):
+    """Values as C takes them, with their count."""
+    return (ctypes.c_uint16 * len(values))(*values), len(values)
 
 
 def whole(name, value, most):

@@ -9,7 +9,7 @@
 #include "boundary/boundary.h"
 
 const uint8_t example[20] = {0x03, 0x00, 0x10, 0x0B, 0x03, 0xE8, 0x06, 0x40, 0x00, 0x70, 0x01, 0x08, 0x12, 0x12, 0x03, 0x24, 0x13, 0x22, 0x02, 0x76};
-const MantNode node = {.own = 2000, .echo = true, .repeating = true};
+const MantNode node = MANT_NODE(2000);
 static int passed, failed;
 
 void check(bool holds, const char *fact, const char *file, int line)
@@ -27,6 +27,7 @@ int main(void)
     reading();
     originating();
     a_node();
+    address_lists();
     stations_heard();
     the_transmit_queue();
     the_serial_exchange();

@@ -20,32 +20,34 @@ static void check(bool holds, const char *fact)
 static const uint8_t report[8] = {0x02, 0x00, 0x10, 0x01, 0x03, 0xE8, 0x00, 0x2A};
 static const uint16_t dry[2] = {1001, 1999}, flood[2] = {1000, 1999};
 
-static MantNode node_with(uint8_t choice)
+static MantNode node_of(uint16_t own)
 {
-    MantNode node = {};
-    node.own = 2000;
-    node.echo = node.repeating = true;
-    node.source_pass = choice;
-    return node;
+    return MANT_NODE(own);
 }
 
-// The four functions of the header that hand lists on, each with lists and without.
+// A node, its lists laid, and the calls that hear, with lists and without.
 static void hearing()
 {
-    MantLists lists = {};
-    lists.source_pass.first = MantList{dry, 2};
-    lists.source_pass.second = MantList{flood, 2};
+    const MantNode node = node_of(report[4] == 3 ? 2000 : 0), same = MANT_NODE(2000);
+    MantLists wanted = {};
+    wanted.source_pass.first = MantList{dry, 2};
+    wanted.source_pass.second = MantList{flood, 2};
+    static MantListBlock lists;
+    const uint16_t *words = lists.words;
     uint8_t output[MANT_PDU_LIMIT];
     uint16_t table[MANT_STATION_WORDS] = {};
     const MantCursor start = {0, false};
-    const MantNode passing = node_with(MANT_SECOND_LIST), stopping = node_with(MANT_FIRST_LIST);
+    const MantNode passing = mant_change_over(node, MANT_SECOND_LIST), stopping = mant_change_over(node, MANT_FIRST_LIST);
 
-    CHECK(mant_list_fault(&lists) == MANT_DONE && mant_list_fault(nullptr) == MANT_DONE);
-    CHECK(mant_hear(MANT_EDITION_1_2, passing, &lists, report, sizeof report, output, sizeof output).repeated_length == 10);
-    CHECK(mant_hear(MANT_EDITION_1_2, stopping, &lists, report, sizeof report, output, sizeof output).repeat == MANT_SOURCE_NOT_PASSED);
-    CHECK(mant_hear(MANT_EDITION_1_2, node_with(MANT_NO_LIST), nullptr, report, sizeof report, output, sizeof output).repeat == MANT_DONE);
-    CHECK(mant_step(MANT_EDITION_1_2, passing, &lists, report, sizeof report, start, output, sizeof output).next.place == sizeof report);
-    CHECK(mant_hear_and_count(MANT_EDITION_1_2, stopping, &lists, report, 8, output, 10, table, MANT_STATION_WORDS).table_number == MANT_DONE);
+    CHECK(node.own == 2000 && same.own == 2000 && same.edition == MANT_EDITION_1_2 && same.echo && same.repeating);
+    CHECK(mant_lay_lists(&lists, nullptr).list == MANT_LIST_VALUES && mant_lay_lists(&lists, &wanted).number == MANT_DONE);
+    CHECK(words[MANT_SOURCE_PASS_SECOND] == 2 && words[MANT_LIST_VALUES + 2] == 1000 && mant_list_fault(words, MANT_LIST_WORDS).number == MANT_DONE);
+    CHECK(mant_list_fault(nullptr, 0).list == MANT_LIST_VALUES);
+    CHECK(mant_hear(passing, words, MANT_LIST_WORDS, report, sizeof report, output, sizeof output).repeated_length == 10);
+    CHECK(mant_hear(stopping, words, MANT_LIST_WORDS, report, sizeof report, output, sizeof output).repeat == MANT_SOURCE_NOT_PASSED);
+    CHECK(mant_hear(node, nullptr, 0, report, sizeof report, output, sizeof output).repeat == MANT_DONE);
+    CHECK(mant_step(passing, words, MANT_LIST_WORDS, report, sizeof report, start, output, sizeof output).next.place == sizeof report);
+    CHECK(mant_hear_and_count(stopping, words, MANT_LIST_WORDS, report, 8, output, 10, table, MANT_STATION_WORDS).table_number == MANT_DONE);
     CHECK(mant_station_of(table, MANT_STATION_WORDS, 1000).station.reads == 1);
 }
 

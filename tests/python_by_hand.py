@@ -1,5 +1,6 @@
 """Every function of the library from Python on examples worked out by hand, for tests/run_python."""
 import array
+import dataclasses
 
 import mant
 
@@ -89,24 +90,42 @@ def hearing():
         answer = mant.hear(pdu, node)
         same(f'a path of {count}', (answer.repeat, answer.repeated and len(mant.path(answer.repeated))), (repeat, None if repeat else 255))
     same('nothing', mant.hear(b'', node), mant.Answer(1, 1, None, None, None, 0))
-    same('no edition', mant.hear(EXAMPLE, node, edition=13).repeat, 17)
-    for number, values in ((0, [7] * 128), (22, [7] * 129), (21, [7] * 127), (20, [3, 9, 5, 4])):
+    same('no edition', mant.hear(EXAMPLE, mant.Node(2000, 13)).repeat, 17)
+    same('edition 1.1', mant.hear(EXAMPLE, mant.Node(2000, mant.EDITION_1_1)), mant.hear(EXAMPLE, node))
+    for number, values in ((0, [7] * 128), (22, [7] * 129), (22, [7] * 65536), (22, [7] * 65538), (21, [7] * 127), (20, [3, 9, 5, 4])):
         for field in ('source_pass', 'destination_reject_second'):
-            lists = mant.Lists(**{field: values})
-            same(f'a list with fault {number}', (mant.list_fault(lists), mant.hear(EXAMPLE, node, lists).delivery), (number, number or 39))
+            lists, fault = mant.Lists(**{field: values}), mant.ListFault(number, field if number else None)
+            same(f'a list with fault {number}', (mant.list_fault(lists), mant.hear(EXAMPLE, node, lists).delivery), (fault, number or 39))
+            same(f'whether {number} is a fault', bool(mant.list_fault(lists)), number != 0)
+    fields = [field.name for field in dataclasses.fields(mant.Lists)]
+    for place, field in enumerate(fields):
+        same(f'the first fault is in {field}', mant.list_fault(mant.Lists(**{name: [2, 1] for name in fields[place:]})), mant.ListFault(20, field))
+    values = [1000, 1000]
+    lists = mant.Lists(source_reject_second=values)
+    values[0] = 999
+    same('values that change later', mant.hear(EXAMPLE, season, lists).delivery, 32)
+    same('lists with the same values', lists, mant.Lists(source_reject_second=(1000, 1000)))
     same('held', [mant.list_holds((1000, 1999, 3000, 3000), address) for address in (999, 1000, 1999, 2000, 3000)], [False, True, True, False, True])
+
+
+def changing():
+    node = mant.Node(2000, mant.EDITION_1_1, echo=False, destination_pass=mant.FIRST_LIST)
+    for choice in (mant.NO_LIST, mant.FIRST_LIST, mant.SECOND_LIST):
+        same(f'changed over to {choice}', mant.change_over(node, choice), mant.Node(2000, 11, False, True, choice, choice, choice, choice))
+    for choice in (3, 257, -1):
+        same(f'the choice {choice}', raised(mant.change_over, node, choice), ('ValueError', f'choice is {choice}; it can be 0 to 2'))
 
 
 def walking():
     node = mant.Node(own=2000)
     steps = list(mant.walk(EXAMPLE + REPEATED + EXAMPLE[:9], node))
     same('a batch', steps, [mant.Step(0, mant.hear(EXAMPLE, node)), mant.Step(20, mant.hear(REPEATED, node)), mant.Step(42, mant.hear(EXAMPLE[:9], node))])
-    for number, more in ((21, {'lists': mant.Lists(source_pass=[7])}), (17, {'edition': 13})):
-        same(f'ended by {number}', [(int(step.answer.delivery), step.answer.taken) for step in mant.walk(EXAMPLE * 3, node, **more)], [(number, 0)])
+    for number, given in ((21, (node, mant.Lists(source_pass=[7]))), (17, (mant.Node(2000, 13),))):
+        same(f'ended by {number}', [(int(step.answer.delivery), step.answer.taken) for step in mant.walk(EXAMPLE * 3, *given)], [(number, 0)])
     same('no bytes', list(mant.walk(b'', node)), [])
     same('16,384 bytes', len(list(mant.walk(bytes(16384), node))), 2731)
     same('16,385 bytes', number_of(lambda: list(mant.walk(bytes(16385), node))), 54)
-    same('17 first', [int(step.answer.repeat) for step in mant.walk(bytes(16385), node, edition=1)], [17])
+    same('17 first', [int(step.answer.repeat) for step in mant.walk(bytes(16385), mant.Node(2000, 1))], [17])
     same('two at once', [pair[0] == pair[1] for pair in zip(mant.walk(EXAMPLE * 9, node), mant.walk(EXAMPLE * 9, node))], [True] * 9)
 
 
@@ -133,7 +152,7 @@ def planning():
 
 def flooded(count, hop_limit, with_path=True, echo=True, echo_at_originator=True, hears_itself=False):
     """How many transmissions there are where all hear one another, each transmission once."""
-    nodes = [mant.Node(1, echo_at_originator), *(mant.Node(2 + place, echo) for place in range(count))]
+    nodes = [mant.Node(1, echo=echo_at_originator), *(mant.Node(2 + place, echo=echo) for place in range(count))]
     on_the_air = [(1, mant.originate(b'rain', source=1, hop_limit=hop_limit, with_path=with_path))]
     for sender, pdu in on_the_air:
         answers = [(node.own, mant.hear(pdu, node).repeated) for node in nodes if hears_itself or node.own != sender]
@@ -176,6 +195,6 @@ def sealing():
 
 
 def by_hand():
-    for part in (reading, originating, hearing, walking, planning, flooding, exchanging, sealing):
+    for part in (reading, originating, hearing, changing, walking, planning, flooding, exchanging, sealing):
         part()
     return tally.told('python: by hand')

@@ -1,4 +1,6 @@
 """The lines that `jobs lines` prints (rust/jobs/src/lines.rs): a call of the library from Python for each, beside what the independent reading answers."""
+import dataclasses
+
 import mant
 
 from trying import counted
@@ -42,9 +44,12 @@ def header_of(words):
 
 
 def node_of(words):
-    """Edition, settings and lists of a node."""
-    edition, own, echo, repeating, *choices, lists = words
-    return int(edition), mant.Node(int(own), flag_of(echo), flag_of(repeating), *map(int, choices)), mant.Lists(*map(values_of, lists.split(';')))
+    own, edition, echo, repeating, *choices = words
+    return mant.Node(int(own), int(edition), flag_of(echo), flag_of(repeating), *map(int, choices))
+
+
+def lists_of(word):
+    return mant.Lists(*map(values_of, word.split(';')))
 
 
 def answer_of(words):
@@ -65,18 +70,23 @@ def check_originate(words, answer):
 
 
 def check_lists(words, answer):
-    lists = mant.Lists(*map(values_of, words[0].split(';')))
-    return (mant.list_fault(lists), mant.list_holds(lists.source_pass, int(words[1]))), (int(answer[0]), flag_of(answer[1]))
+    lists = lists_of(words[0])
+    fault = mant.ListFault(int(answer[0]), some(answer[1], lambda place: dataclasses.fields(mant.Lists)[int(place)].name))
+    return (mant.list_fault(lists), mant.list_holds(lists.source_pass, int(words[1]))), (fault, flag_of(answer[2]))
+
+
+def check_change(words, answer):
+    return mant.change_over(node_of(words[:-1]), int(words[-1])), node_of(answer)
 
 
 def check_hear(words, answer):
-    edition, node, lists = node_of(words[:-1])
-    return mant.hear(bytes_of(words[-1]), node, lists, edition), answer_of(answer)
+    *node, lists, received = words
+    return mant.hear(bytes_of(received), node_of(node), lists_of(lists)), answer_of(answer)
 
 
 def check_walk(words, answer):
-    edition, node, lists = node_of(words[:-1])
-    found = refused_or(lambda: list(mant.walk(bytes_of(words[-1]), node, lists, edition)))
+    *node, lists, batch = words
+    found = refused_or(lambda: list(mant.walk(bytes_of(batch), node_of(node), lists_of(lists))))
     steps = [mant.Step(int(answer[at]), answer_of(answer[at + 1:at + 7])) for at in range(1, len(answer), 7)]
     return found, (int(answer[0]), None if answer[0] != '0' else steps)
 

@@ -4,8 +4,8 @@
 
        gcc -std=c11 -O2 -Wall -Wextra -pedantic tests/stack.c -Iinclude target/staticlib/libmant.a -o /tmp/stack && LD_BIND_NOW=1 /tmp/stack
 
-   prints the bytes of each function, the most of the calls tried, and its limit, and fails where they are more than that. Those that take lists are called
-   through the functions of mant.h, and what these take is counted too. tools/stack holds include/mant.h and docs/PERFORMANCE.md to what it prints. */
+   prints the bytes of each function, the most of the calls tried, and its limit, and fails where they are more than that. mant_lay_eight is called through
+   mant_lay_lists, and what that takes is counted too. tools/stack holds include/mant.h and docs/PERFORMANCE.md to what it prints. */
 #include <stdio.h>
 #include <string.h>
 
@@ -15,17 +15,17 @@
 #define PAINTED 16384
 #define STACK_POINTER "mov %%rsp, %0"
 #define EDITION MANT_EDITION_1_2
-#define NO_LISTS NULL
+#define NO_LISTS NULL, 0
 #define TWO {{list, MANT_LIST_LIMIT}, {list, MANT_LIST_LIMIT}}
-#define LISTS &lists
+#define LISTS lists.words, MANT_LIST_WORDS
 #define LENT pdu, sizeof pdu, output, sizeof output
 #define PDU_LENGTH 4613
 #define PLAIN_LENGTH (MANT_PAYLOAD_LIMIT - MANT_SEAL_LENGTH)
 #define QUEUE queue, sizeof queue
 #define TABLE records, MANT_RECORDS, 160
 
-static const MantNode node = {.own = 2000, .echo = true, .repeating = true};
-static const MantNode listing = {.own = 2000, .echo = true, .repeating = true, .source_pass = MANT_FIRST_LIST, .destination_pass = MANT_SECOND_LIST};
+static const MantNode node = MANT_NODE(2000);
+static const MantNode listing = {EDITION, 2000, true, true, MANT_FIRST_LIST, MANT_NO_LIST, MANT_SECOND_LIST, MANT_NO_LIST};
 static const MantFresh fresh = {.edition = EDITION, .source = 1000, .has_destination = true, .destination = 1600, .hop_limit = 1, .with_path = true,
                                 .reliable = true};
 static const uint8_t shortest[6] = {0, 0, 0, 0, 0, 5};
@@ -37,7 +37,8 @@ static const MantSending sending = {.hop_limit = 7, .port = 15, .with_path = tru
 static const MantHeard heard = {.source = 1000, .path_bit = true};
 static const MantCursor start = {0, false};
 static uint16_t list[MANT_LIST_LIMIT], table[MANT_STATION_WORDS];
-static const MantLists lists = {TWO, TWO, TWO, TWO};
+static const MantLists wanted = {TWO, TWO, TWO, TWO};
+static MantListBlock lists;
 static uint8_t pdu[MANT_PDU_LIMIT], output[MANT_PDU_LIMIT + 2], exchange[MANT_EXCHANGE_LIMIT], queue[MANT_QUEUE_LENGTH];
 static uint8_t command[MANT_RETAINED_LIMIT] = {0x09, 0, 0x30, 0xF7, 0x03, 0xE8, 0x06, 0x40, 7};
 static MantRetained records[MANT_RECORDS];
@@ -62,13 +63,16 @@ CALL(path_has_call, !mant_path_has(pdu, sizeof pdu, 1))
 CALL(write_again_call, mant_write_again(EDITION, LENT).length == PDU_LENGTH)
 CALL(originate_call, mant_originate(fresh, pdu, MANT_PAYLOAD_LIMIT, output, sizeof output).length == 4105)
 CALL(originate_short_call, mant_originate(fresh, pdu, 9, output, sizeof output).length == 19)
-CALL(list_fault_call, mant_list_fault(LISTS) == 0)
+CALL(change_over_call, mant_change_over(node, MANT_SECOND_LIST).destination_reject == MANT_SECOND_LIST)
+CALL(lay_call, mant_lay_lists(&lists, &wanted).list == MANT_LIST_VALUES)
+CALL(lay_none_call, mant_lay_lists(&lists, NULL).number == 0)
+CALL(list_fault_call, mant_list_fault(LISTS).number == 0)
 CALL(list_holds_call, !mant_list_holds(list, MANT_LIST_LIMIT, 1))
-CALL(hear_cut_call, mant_hear(EDITION, node, NO_LISTS, pdu, 20, output, sizeof output).repeat == MANT_HEADER_CUT)
-CALL(hear_call, mant_hear(EDITION, node, NO_LISTS, LENT).repeated_length == MANT_PDU_LIMIT)
-CALL(hear_listed_call, (answer = mant_hear(EDITION, listing, LISTS, LENT)).repeated_length == MANT_PDU_LIMIT)
-CALL(step_call, mant_step(EDITION, node, NO_LISTS, pdu, sizeof pdu, start, output, sizeof output).answer.repeat == 0)
-CALL(step_listed_call, mant_step(EDITION, listing, LISTS, pdu, sizeof pdu, start, output, sizeof output).answer.repeat == 0)
+CALL(hear_cut_call, mant_hear(node, NO_LISTS, pdu, 20, output, sizeof output).repeat == MANT_HEADER_CUT)
+CALL(hear_call, mant_hear(node, NO_LISTS, LENT).repeated_length == MANT_PDU_LIMIT)
+CALL(hear_listed_call, (answer = mant_hear(listing, LISTS, LENT)).repeated_length == MANT_PDU_LIMIT)
+CALL(step_call, mant_step(node, NO_LISTS, pdu, sizeof pdu, start, output, sizeof output).answer.repeat == 0)
+CALL(step_listed_call, mant_step(listing, LISTS, pdu, sizeof pdu, start, output, sizeof output).answer.repeat == 0)
 CALL(most_transmissions_call, mant_most_transmissions(8, 7).value == 109601)
 CALL(most_bytes_call, mant_most_bytes(3, 1, 10).value == 46)
 CALL(limits_call, mant_limits().pdu == MANT_PDU_LIMIT)
@@ -76,8 +80,8 @@ CALL(capacity_call, mant_stations_capacity(table, MANT_STATION_WORDS) == MANT_ST
 CALL(held_call, mant_stations_held(table, MANT_STATION_WORDS) == 0)
 CALL(count_heard_call, mant_count_heard(table, MANT_STATION_WORDS, heard) == 0)
 CALL(count_answer_call, mant_count_answer(table, MANT_STATION_WORDS, pdu, sizeof pdu, answer) == 0)
-CALL(hear_and_count_call, mant_hear_and_count(EDITION, node, NO_LISTS, LENT, table, MANT_STATION_WORDS).answer.repeat == 0)
-CALL(hear_and_count_listed_call, mant_hear_and_count(EDITION, listing, LISTS, LENT, table, MANT_STATION_WORDS).answer.repeat == 0)
+CALL(hear_and_count_call, mant_hear_and_count(node, NO_LISTS, LENT, table, MANT_STATION_WORDS).answer.repeat == 0)
+CALL(hear_and_count_listed_call, mant_hear_and_count(listing, LISTS, LENT, table, MANT_STATION_WORDS).answer.repeat == 0)
 CALL(station_at_call, mant_station_at(table, MANT_STATION_WORDS, 0).station.reads == 4)
 CALL(station_of_call, mant_station_of(table, MANT_STATION_WORDS, 1000).station.reads == 4)
 CALL(remove_station_call, mant_remove_station(table, MANT_STATION_WORDS, 1000) == 0)
@@ -113,15 +117,17 @@ static const struct {
     {"mant_path_has", {path_has_call}},
     {"mant_write_again", {write_again_call}},
     {"mant_originate", {originate_call, originate_short_call}},
-    {"mant_list_fault_eight", {list_fault_call}},
+    {"mant_change_over", {change_over_call}},
+    {"mant_lay_eight", {lay_none_call, lay_call}},
+    {"mant_list_fault", {list_fault_call}},
     {"mant_list_holds", {list_holds_call}},
-    {"mant_hear_eight", {hear_cut_call, hear_call, hear_listed_call}},
-    {"mant_step_eight", {step_call, step_listed_call}},
+    {"mant_hear", {hear_cut_call, hear_call, hear_listed_call}},
+    {"mant_step", {step_call, step_listed_call}},
     {"mant_stations_capacity", {capacity_call}},
     {"mant_stations_held", {held_call}},
     {"mant_count_heard", {count_heard_call}},
     {"mant_count_answer", {count_answer_call}},
-    {"mant_hear_and_count_eight", {hear_and_count_call, hear_and_count_listed_call}},
+    {"mant_hear_and_count", {hear_and_count_call, hear_and_count_listed_call}},
     {"mant_station_at", {station_at_call}},
     {"mant_station_of", {station_of_call}},
     {"mant_remove_station", {remove_station_call}},
@@ -141,18 +147,18 @@ static const struct {
     {"mant_limits", {limits_call}},
 };
 
-/* The limit of the functions whose names have a part; those that retain and send again have a record on the stack, those that seal and open the round keys. */
+/* Limits of their own; those that retain and send again have a record on the stack, those that seal and open the round keys. */
 static const struct {
-    const char *part;
+    const char *name;
     size_t bytes;
 } limits[] = {
-    {"mant_hear_eight", 512}, {"mant_hear_and_count_eight", 768}, {"mant_retain", 768}, {"mant_retry", 768}, {"mant_seal", 1536}, {"mant_open", 1536},
+    {"mant_hear", 416}, {"mant_retain", 768}, {"mant_retry", 768}, {"mant_seal", 1536}, {"mant_open", 1536},
 };
 
 static size_t limit_of(const char *name)
 {
     for (size_t i = 0; i < sizeof limits / sizeof limits[0]; i++) {
-        if (strstr(name, limits[i].part) != NULL) {
+        if (strcmp(name, limits[i].name) == 0) {
             return limits[i].bytes;
         }
     }

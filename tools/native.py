@@ -37,6 +37,34 @@ def keeping_kit(folder, toolchain, kept):
     return folder
 
 
+def in_words(definition):
+    """A definition with each struct of 9 to 16 bytes as two words that Arm passes together: both in registers, or both on the stack. x86-64 has it as
+    two numbers, told by having no `noundef`, or, past its six registers, as memory."""
+    head, line, body = definition.partition(' #0 {\nstart:\n')
+
+    def numbers(found):
+        first, kind, second = found.groups()
+        taken.append(f'  {first} = extractvalue [2 x i64] {first}.words, 0\n')
+        if kind == 'i64':
+            taken.append(f'  {second} = extractvalue [2 x i64] {first}.words, 1\n')
+        else:
+            taken.append(f'  {second}.word = extractvalue [2 x i64] {first}.words, 1\n  {second} = trunc i64 {second}.word to {kind}\n')
+        return f'[2 x i64] {first}.words'
+
+    def memory(found):
+        size, name = int(found[1]), found[2]
+        if size > IN_REGISTERS:
+            return f'ptr noundef {name}'
+        words = '[2 x i64]' if size > 8 else 'i64'
+        taken.append(f'  {name} = alloca [16 x i8], align 8\n  store {words} {name}.words, ptr {name}, align 8\n')
+        return f'{words} {name}.words'
+
+    taken = []
+    head = re.sub(r'\bi64 (%a\d+), (i\d+) (%a\d+)', numbers, head)
+    head = re.sub(r'ptr noundef byval\(\[(\d+) x i8\]\) align 8 (%a\d+)', memory, head)
+    return head + line + ''.join(taken) + body
+
+
 def conventions(module):
     """The module for Arm. A struct of more than 16 bytes comes as a plain pointer there and is returned where a register of its own points."""
     module = re.sub(r'^target datalayout.*\n', '', module, flags=re.M)
@@ -44,7 +72,7 @@ def conventions(module):
     module = re.sub(r' "target-cpu"="[^"]*"', '', module)
 
     def exported(match):
-        text = re.sub(r'byval\(\[(\d+) x i8\]\) align 8 ', lambda found: found[0] if int(found[1]) <= IN_REGISTERS else '', match[0])
+        text = in_words(match[0])
         if not text.startswith('define noundef ptr '):
             return text
         text = re.sub(r'^define noundef ptr (@\w+)\(ptr noundef ', r'define void \1(ptr noundef sret(i8) ', text)

@@ -3,7 +3,6 @@ import mant
 from fields import counted, field, hex_rows, pdu_lines, span
 from places import exchange_place, place_of
 
-OBSERVER = mant.Node(own=0, echo=False, repeating=False)  # walks a batch and drops nothing
 LENGTHS_ALONE = '\n      PDUs are found by their lengths alone: where an earlier one was cut, none need begin here'
 SERIAL = '\n      the bytes are a serial exchange: --exchange shows it'
 
@@ -49,8 +48,9 @@ def exchange(content, edition):
 
 def batch(content, edition):
     count = 0
+    observer = mant.Node(own=0, edition=edition, echo=False, repeating=False)  # drops nothing
     try:
-        for count, step in enumerate(mant.walk(content, OBSERVER, edition=edition), 1):
+        for count, step in enumerate(mant.walk(content, observer), 1):
             rest, number = content[step.offset:], step.answer.delivery
             if not step.answer.taken:
                 found = place_of(number, rest, step.offset) + (LENGTHS_ALONE if step.offset else '')

@@ -1,6 +1,7 @@
 /* What is delivered and what is repeated, for one PDU or over a batch. */
 
 typedef struct {
+    uint64_t edition;
     uint16_t own;
     bool echo, repeating;
     uint8_t source_pass, source_reject, destination_pass, destination_reject;
@@ -44,6 +45,24 @@ static bool list_holds(List list, uint16_t address)
     return false;
 }
 
+/* Finds the eight lists in a block, their lengths and then their values, each as far as the block goes; gives the number of the first that has a fault. */
+static uint8_t find_lists(const uint16_t *block, size_t length, List lists[8])
+{
+    size_t start = 8;
+
+    for (int i = 0; i < 8; i++) {
+        size_t given = start < length ? block[i] : 0;
+        size_t left = start < length ? length - start : 0;
+        lists[i] = (List){block + start, given < left ? given : left};
+        uint8_t fault = list_fault(lists[i]);
+        if (fault != 0) {
+            return fault;
+        }
+        start += given;
+    }
+    return 0;
+}
+
 /* The list of a kind that is chosen, 1 for the first and 2 for the second, or NULL. */
 static const List *chosen(const List lists[8], int kind, uint8_t choice)
 {
@@ -55,18 +74,18 @@ static Answer twice(uint8_t number, Header header)
     return (Answer){number, number, header.has_last_sender, header.last_sender, 0, 0, 0, header.pdu_length};
 }
 
-Answer plain_hear(uint64_t edition, Node node, const List lists[8], const uint8_t *received, size_t length, uint8_t *output, size_t output_length)
+Answer plain_hear(Node node, const uint16_t *block, size_t block_length, const uint8_t *received, size_t length, uint8_t *output, size_t output_length)
 {
-    if (!is_edition(edition)) {
+    List lists[8];
+
+    if (!is_edition(node.edition)) {
         return twice(17, (Header){0});
     }
-    for (int i = 0; i < 8; i++) {
-        uint8_t fault = list_fault(lists[i]);
-        if (fault != 0) {
-            return twice(fault, (Header){0});
-        }
+    uint8_t fault = find_lists(block, block_length, lists);
+    if (fault != 0) {
+        return twice(fault, (Header){0});
     }
-    Header header = plain_read(edition, received, length);
+    Header header = plain_read(node.edition, received, length);
     if (header.number != 0) {
         return twice(header.number, header);
     }
@@ -136,18 +155,18 @@ Answer plain_hear(uint64_t edition, Node node, const List lists[8], const uint8_
 }
 
 /* The whole walk: how many PDUs were answered for, and where it ended. */
-size_t plain_walk(uint64_t edition, Node node, const List lists[8], const uint8_t *batch, size_t length, uint8_t *output, size_t output_length,
+size_t plain_walk(Node node, const uint16_t *block, size_t block_length, const uint8_t *batch, size_t length, uint8_t *output, size_t output_length,
                   size_t *end)
 {
     size_t count = 0;
     size_t at = 0;
 
     *end = 0;
-    if (length > 16384 && is_edition(edition)) {
+    if (length > 16384 && is_edition(node.edition)) {
         return 0;
     }
     while (at < length) {
-        Answer answer = plain_hear(edition, node, lists, batch + at, length - at, output, output_length);
+        Answer answer = plain_hear(node, block, block_length, batch + at, length - at, output, output_length);
         count++;
         if (answer.taken == 0) {
             break;

@@ -66,10 +66,10 @@ uint8_t plain_count_heard(Table *table, Heard heard)
     return 0;
 }
 
-Listened plain_hear_and_count(uint64_t edition, Node node, const List lists[8], const uint8_t *received, size_t length, uint8_t *output,
+Listened plain_hear_and_count(Node node, const uint16_t *block, size_t block_length, const uint8_t *received, size_t length, uint8_t *output,
                               size_t output_length, Table *table)
 {
-    Listened listened = {plain_hear(edition, node, lists, received, length, output, output_length), 0};
+    Listened listened = {plain_hear(node, block, block_length, received, length, output, output_length), 0};
 
     if (listened.answer.taken != 0) {
         bool path_bit = received[0] >> 1 & 1;

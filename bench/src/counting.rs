@@ -1,8 +1,8 @@
 //! Counting in a full table of stations, all of them held.
 
-use crate::inputs::{self, EDITION, NODE, NO_LISTS, SETTINGS};
+use crate::inputs::{self, NODE, NO_LISTS, SETTINGS};
 use crate::plain;
-use crate::timing::{copy, measure, Measured};
+use crate::timing::{copy, hidden, measure, Measured};
 use mant::raw::{self, Heard, STATION_LIMIT, STATION_WORDS};
 use reference::{hear_and_count, Lists, Stations};
 use std::hint::black_box;
@@ -129,25 +129,19 @@ pub fn hearing_and_counting() -> [Measured; 4] {
         &pdu,
         [
             &mut |input: &[u8], output: &mut [u8]| {
-                let (edition, node) = (black_box(EDITION), black_box(NODE));
+                let (node, lists) = (black_box(NODE), hidden(NO_LISTS));
                 let table = &mut library;
-                black_box(raw::hear_and_count(
-                    edition, node, NO_LISTS, input, output, table,
-                ));
+                black_box(raw::hear_and_count(node, lists, input, output, table));
             },
             &mut |input: &[u8], output: &mut [u8]| {
-                let (edition, settings) = (black_box(EDITION), black_box(&SETTINGS));
-                let (lists, stations) = (Lists::EMPTY, &mut reference);
-                black_box(hear_and_count(
-                    edition, settings, &lists, input, output, stations,
-                ));
+                let (settings, lists) = (black_box(&SETTINGS), Lists::EMPTY);
+                let stations = &mut reference;
+                black_box(hear_and_count(settings, &lists, input, output, stations));
             },
             &mut |input: &[u8], output: &mut [u8]| {
-                let (edition, node) = (black_box(EDITION), black_box(NODE));
+                let (node, lists) = (black_box(NODE), hidden(NO_LISTS));
                 let table = &mut plain;
-                black_box(plain::hear_and_count(
-                    edition, node, NO_LISTS, input, output, table,
-                ));
+                black_box(plain::hear_and_count(node, lists, input, output, table));
             },
             &mut |input: &[u8], output: &mut [u8]| copy(input, output, length),
         ],
@@ -174,13 +168,12 @@ pub fn check_plain() {
     for length in 0..=pdu.len() {
         let cut = &pdu[..length];
         let table = &mut full.library;
-        let library = raw::hear_and_count(EDITION, NODE, NO_LISTS, cut, &mut one, table);
+        let library = raw::hear_and_count(NODE, NO_LISTS, cut, &mut one, table);
         let table = &mut full.plain;
-        let plain = plain::hear_and_count(EDITION, NODE, NO_LISTS, cut, &mut other, table);
+        let plain = plain::hear_and_count(NODE, NO_LISTS, cut, &mut other, table);
         assert_eq!(library, plain);
         assert_eq!(one, other);
         let (_, number) = hear_and_count(
-            EDITION,
             &SETTINGS,
             &Lists::EMPTY,
             cut,

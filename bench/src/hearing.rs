@@ -2,7 +2,7 @@
 
 use crate::inputs::{self, ASKED, EDITION, FRESH, NODE, NO_LISTS, SETTINGS};
 use crate::plain;
-use crate::timing::{copy, measure, Measured, ROOM};
+use crate::timing::{copy, hidden, measure, Measured, ROOM};
 use mant::raw;
 use reference::{Lists, Settings};
 use std::hint::black_box;
@@ -58,7 +58,7 @@ pub fn originating(payload: &[u8]) -> [Measured; 4] {
 
 /// One PDU at node 2000, repeated; memcpy copies the PDU.
 pub fn hearing(pdu: &[u8]) -> [Measured; 4] {
-    hearing_at(pdu, NODE, &SETTINGS, NO_LISTS)
+    hearing_at(pdu, NODE, &SETTINGS, Lists::EMPTY)
 }
 
 /// The same with the first list of each kind on, so many ranges in each. Every
@@ -66,7 +66,7 @@ pub fn hearing(pdu: &[u8]) -> [Measured; 4] {
 pub fn hearing_by_lists(pdu: &[u8], ranges: usize) -> [Measured; 4] {
     let passing = inputs::passing(ranges);
     let rejecting = inputs::rejecting(ranges);
-    let lists = Lists::firsts([&passing, &rejecting, &passing, &rejecting]).in_order();
+    let lists = Lists::firsts([&passing, &rejecting, &passing, &rejecting]);
     hearing_at(
         pdu,
         inputs::NODE_WITH_LISTS,
@@ -75,32 +75,25 @@ pub fn hearing_by_lists(pdu: &[u8], ranges: usize) -> [Measured; 4] {
     )
 }
 
-fn hearing_at(
-    pdu: &[u8],
-    node: raw::Node,
-    settings: &Settings,
-    lists: raw::Lists,
-) -> [Measured; 4] {
+fn hearing_at(pdu: &[u8], node: raw::Node, settings: &Settings, lists: Lists) -> [Measured; 4] {
     let length = pdu.len();
-    assert_eq!(
-        raw::hear(EDITION, node, lists, pdu, &mut [0; ROOM]).repeat,
-        0
-    );
+    let block = match lists == Lists::EMPTY {
+        true => NO_LISTS.to_vec(),
+        false => lists.laid(),
+    };
+    assert_eq!(raw::hear(node, &block, pdu, &mut [0; ROOM]).repeat, 0);
     measure(
         pdu,
         [
             &mut |input: &[u8], output: &mut [u8]| {
-                let edition = black_box(EDITION);
-                black_box(raw::hear(edition, black_box(node), lists, input, output));
+                black_box(raw::hear(black_box(node), hidden(&block), input, output));
             },
             &mut |input: &[u8], output: &mut [u8]| {
-                let (edition, settings) = (black_box(EDITION), black_box(settings));
-                let lists = Lists::of(lists);
-                black_box(reference::hear(edition, settings, &lists, input, output));
+                let (settings, lists) = (black_box(settings), black_box(&lists));
+                black_box(reference::hear(settings, lists, input, output));
             },
             &mut |input: &[u8], output: &mut [u8]| {
-                let edition = black_box(EDITION);
-                black_box(plain::hear(edition, black_box(node), lists, input, output));
+                black_box(plain::hear(black_box(node), hidden(&block), input, output));
             },
             &mut |input: &[u8], output: &mut [u8]| copy(input, output, length),
         ],
@@ -120,7 +113,6 @@ pub fn walking(batch: &[u8]) -> [Measured; 4] {
             &mut |input: &[u8], output: &mut [u8]| {
                 let settings = black_box(&SETTINGS);
                 drop(black_box(reference::walk(
-                    black_box(EDITION),
                     settings,
                     &Lists::EMPTY,
                     input,
@@ -128,14 +120,8 @@ pub fn walking(batch: &[u8]) -> [Measured; 4] {
                 )));
             },
             &mut |input: &[u8], output: &mut [u8]| {
-                let edition = black_box(EDITION);
-                black_box(plain::walk(
-                    edition,
-                    black_box(NODE),
-                    NO_LISTS,
-                    input,
-                    output,
-                ));
+                let (node, lists) = (black_box(NODE), hidden(NO_LISTS));
+                black_box(plain::walk(node, lists, input, output));
             },
             &mut |input: &[u8], output: &mut [u8]| {
                 let mut rest = input;
@@ -150,18 +136,18 @@ pub fn walking(batch: &[u8]) -> [Measured; 4] {
 
 /// How long each PDU of a batch is.
 fn lengths(batch: &[u8]) -> Vec<usize> {
-    let walked = reference::walk(EDITION, &SETTINGS, &Lists::EMPTY, batch, &mut [0; ROOM]);
+    let walked = reference::walk(&SETTINGS, &Lists::EMPTY, batch, &mut [0; ROOM]);
     let steps = walked.map_or(vec![], |walked| walked.steps);
     steps.iter().map(|step| step.answer.taken).collect()
 }
 
 /// The walk with the library: how many PDUs, and where it ended.
 fn library_walk(batch: &[u8], output: &mut [u8]) -> (usize, usize) {
-    let (edition, node) = (black_box(EDITION), black_box(NODE));
+    let (node, lists) = (black_box(NODE), hidden(NO_LISTS));
     let mut count = 0;
     let mut cursor = raw::Cursor::default();
     loop {
-        let step = raw::step(edition, node, NO_LISTS, batch, cursor, output);
+        let step = raw::step(node, lists, batch, cursor, output);
         if step.kind != raw::ANSWERED {
             return (count, cursor.place);
         }
@@ -183,8 +169,8 @@ pub fn check_plain() {
         for length in 0..=pdu.len() {
             let cut = &pdu[..length];
             assert_eq!(raw::read(EDITION, cut), plain::read(EDITION, cut));
-            let library = raw::hear(EDITION, NODE, NO_LISTS, cut, &mut one);
-            let plain = plain::hear(EDITION, NODE, NO_LISTS, cut, &mut other);
+            let library = raw::hear(NODE, NO_LISTS, cut, &mut one);
+            let plain = plain::hear(NODE, NO_LISTS, cut, &mut other);
             assert_eq!(library, plain);
             assert_eq!(one, other);
         }
@@ -196,7 +182,7 @@ pub fn check_plain() {
     }
     for batch in [inputs::batch_of_small(), inputs::batch_of_large()] {
         let library = library_walk(&batch, &mut one);
-        let plain = plain::walk(EDITION, NODE, NO_LISTS, &batch, &mut other);
+        let plain = plain::walk(NODE, NO_LISTS, &batch, &mut other);
         assert_eq!(library, plain);
         assert_eq!(library.1, 16_384);
         assert_eq!(one, other);

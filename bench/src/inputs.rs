@@ -7,7 +7,7 @@ use reference::{Choice, Origination, Settings, EDITION_1_2};
 pub const EDITION: u64 = EDITION_1_2;
 
 /// Eight lists that are empty.
-pub const NO_LISTS: raw::Lists = [&[]; 8];
+pub const NO_LISTS: &[u16] = &[];
 
 /// The payload of 01's example.
 pub const PAYLOAD: [u8; 11] = [
@@ -45,6 +45,7 @@ pub const FRESH: raw::Fresh = raw::Fresh {
 
 /// Node 2000, echo and repeating on, for the library.
 pub const NODE: raw::Node = raw::Node {
+    edition: EDITION,
     own: 2000,
     echo: true,
     repeating: true,
@@ -56,6 +57,7 @@ pub const NODE: raw::Node = raw::Node {
 
 /// The same for the reference.
 pub const SETTINGS: Settings = Settings {
+    edition: EDITION,
     own_address: 2000,
     echo: true,
     repeating: true,

@@ -6,11 +6,12 @@ mod retaining;
 use crate::plain;
 use differential::{answer, batch, fresh, level, node, station, written};
 use generator::{
-    edition, eight_lists, empty_record, exchange, exchanged_pdu, openings, origination, output,
-    pace, payload_to_send, queue_deed, received, room, settings_for, to_seal, QueueDeed, Random,
+    block, edition, empty_record, exchange, exchanged_pdu, good_block, openings, origination,
+    output, pace, payload_to_send, queue_deed, received, room, settings_for, to_seal, QueueDeed,
+    Random,
 };
 use mant::raw;
-use reference::{Accepted, Queue, Stations};
+use reference::{Accepted, Queue, Settings, Stations};
 
 const INPUTS: usize = 20_000;
 
@@ -43,15 +44,20 @@ fn plain_originates_as_the_reference_does() {
 fn plain_hears_as_the_reference_does() {
     let mut random = Random::from_seed(3);
     for _ in 0..INPUTS {
-        let eight = eight_lists(&mut random);
-        let (edition, bytes) = (edition(&mut random), received(&mut random));
-        let settings = settings_for(&mut random, &bytes);
+        let block = match random.one_in(4) {
+            true => block(&mut random),
+            false => good_block(&mut random),
+        };
+        let bytes = received(&mut random);
+        let settings = Settings {
+            edition: edition(&mut random),
+            ..settings_for(&mut random, &bytes)
+        };
         let room = room(&mut random, bytes.len() + 2);
         let mut one = output(&mut random, room);
         let mut other = one.clone();
-        let (node, eight) = (node(&settings, raw::NO_LIST), eight.lists());
-        let plain = plain::hear(edition, node, eight.in_order(), &bytes, &mut one);
-        let wanted = reference::hear(edition, &settings, &eight, &bytes, &mut other);
+        let plain = plain::hear(node(&settings, raw::NO_LIST), &block.0, &bytes, &mut one);
+        let wanted = reference::hear(&settings, &block.lists(), &bytes, &mut other);
         assert_eq!(plain, answer(&wanted));
         assert_eq!(one, other);
     }

@@ -43,7 +43,7 @@ impl<F: FnMut(&[u8], &mut [u8])> Contender for F {
 
 /// The same slice, not known to the compiler. Pointer and length are hidden one
 /// by one: a pair goes through memory, and is waited for there.
-fn hidden(bytes: &[u8]) -> &[u8] {
+pub fn hidden<T>(bytes: &[T]) -> &[T] {
     // SAFETY: the slice's own pointer and length.
     unsafe { slice::from_raw_parts(black_box(bytes.as_ptr()), black_box(bytes.len())) }
 }

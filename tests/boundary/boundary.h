@@ -1,10 +1,10 @@
-/* What the parts of this test share, and a function for each group of mant.h. */
+/* What the parts of this test share, and a function for each group of mant.h; address_lists is of the group "A node". */
 #include <string.h>
 
 #include "mant.h"
 
 #define EDITION MANT_EDITION_1_2
-#define NO_LISTS NULL
+#define NO_LISTS NULL, 0
 #define CHECK(fact) check(fact, #fact, __FILE__, __LINE__)
 
 void check(bool holds, const char *fact, const char *file, int line);
@@ -16,6 +16,7 @@ extern const MantNode node;
 void reading(void);
 void originating(void);
 void a_node(void);
+void address_lists(void);
 void stations_heard(void);
 void the_transmit_queue(void);
 void the_serial_exchange(void);

@@ -59,7 +59,9 @@ static void editions(void)
     for (size_t i = 0; i < 2; i++) {
         memset(output, 77, sizeof output);
         CHECK(mant_write_again(both[i], pdu, 6, output, 7).length == 6 && memcmp(output, pdu, 6) == 0 && output[6] == 77);
-        CHECK(mant_hear(both[i], node, NO_LISTS, pdu, 6, output, 7).repeated_length == 6 && memcmp(output, repeated, 7) == 0);
+        MantNode under = MANT_NODE(2000);
+        under.edition = both[i];
+        CHECK(mant_hear(under, NO_LISTS, pdu, 6, output, 7).repeated_length == 6 && memcmp(output, repeated, 7) == 0);
     }
 }
 

@@ -102,7 +102,7 @@ static void a_clock_set_back(void)
 /* An answer that no node gave: one of zeros says delivered, and bytes that are not there count as 0. And a command is delivered as often as it is heard. */
 static void what_a_box_looks_after(void)
 {
-    const MantNode at_gate = {.own = 1600, .echo = true};
+    const MantNode at_gate = MANT_NODE(1600);
     MantRetained table[MANT_RECORDS] = {0};
     uint16_t stations[MANT_STATION_WORDS] = {0};
     uint8_t output[9];
@@ -111,14 +111,14 @@ static void what_a_box_looks_after(void)
     CHECK(mant_count_answer(stations, MANT_STATION_WORDS, NULL, 0, (MantAnswer){.taken = 1}) == 0);
     CHECK(mant_station_of(stations, MANT_STATION_WORDS, 0).station.reads == 1);
     for (unsigned i = 0; i < 2; i++) {
-        CHECK(mant_hear(EDITION, at_gate, NO_LISTS, command, 10, NULL, 0).delivery == 0);
+        CHECK(mant_hear(at_gate, NO_LISTS, command, 10, NULL, 0).delivery == 0);
     }
 }
 
 /* A command at the gate is acknowledged; the acknowledgement at the base frees the record, the second of two. */
 static void acknowledging(void)
 {
-    const MantNode at_gate = {.own = 1600, .echo = true}, at_base = {.own = 1000, .echo = true};
+    const MantNode at_gate = MANT_NODE(1600), at_base = MANT_NODE(1000);
     const MantSending with_path = {.hop_limit = 7, .port = 15, .time_stamp_request = true, .with_path = true};
     const uint8_t pathed[10] = {0x0F, 0xF1, 0x70, 0, 0x06, 0x40, 0x03, 0xE8, 7, 0};
     MantRetained table[MANT_RECORDS] = {0};
@@ -128,15 +128,15 @@ static void acknowledging(void)
     memset(output, 77, sizeof output);
     memset(untouched, 77, sizeof untouched);
     CHECK(mant_retain(table, 16, 0, 5, other, 10).place == 0 && mant_retain(table, 16, 5, 5, command, 10).place == 1);
-    MantAnswer a = mant_hear(EDITION, at_gate, NO_LISTS, command, 10, NULL, 0);
+    MantAnswer a = mant_hear(at_gate, NO_LISTS, command, 10, NULL, 0);
     CHECK(is_outcome(mant_acknowledge(table, 16, 5, command, 10, a, sending, output, 8), MANT_SENDING_TOO_LONG, 0, 5, 0, 0));
     CHECK(is_outcome(mant_acknowledge(table, 16, 5, command, 10, a, with_path, output, 9), 77, 0, 5, 0, 0) && memcmp(output, untouched, 11) == 0);
     CHECK(is_outcome(mant_acknowledge(table, 16, 5, command, 10, a, with_path, output, 10), 0, 5, 5, 0, 10) && memcmp(output, pathed, 10) == 0);
     CHECK(is_outcome(mant_acknowledge(table, 16, 5, command, 10, a, sending, output, 11), 0, MANT_DEED_ACKNOWLEDGED, 5, 0, 9));
     CHECK(memcmp(output, acknowledgement, 9) == 0 && output[10] == 77 && is_retained(table + 1, 5, 0));
-    a = mant_hear(EDITION, node, NO_LISTS, acknowledgement, 9, output, sizeof output);
+    a = mant_hear(node, NO_LISTS, acknowledgement, 9, output, sizeof output);
     CHECK(a.delivery == 39 && is_outcome(mant_acknowledge(table, 16, 5, acknowledgement, 9, a, sending, output, 0), 0, 0, 5, 0, 0));
-    a = mant_hear(EDITION, at_base, NO_LISTS, acknowledgement, 9, NULL, 0);
+    a = mant_hear(at_base, NO_LISTS, acknowledgement, 9, NULL, 0);
     CHECK(a.delivery == 0 && is_retained(table + 1, 5, 0));
     CHECK(is_outcome(mant_acknowledge(table, 16, 5, acknowledgement, 9, a, (MantSending){.hop_limit = 8}, NULL, 0), 0, MANT_DEED_FREED, 5, 1, 0));
     CHECK(memcmp(table + 1, &zeros, sizeof zeros) == 0 && table[0].length == 10);

@@ -57,7 +57,7 @@ static void opening(void)
     CHECK(is_written(mant_open(key, record, MANT_SOURCE_WORDS, changed, 27, output, 12), 82, 0));
     const uint8_t *number = sealed + mant_read(EDITION, sealed, 27).header_length;
     CHECK((number[0] << 16 | number[1] << 8 | number[2]) == 850);
-    CHECK(mant_hear(EDITION, node, NO_LISTS, sealed, 27, repeated, sizeof repeated).repeated_length == 29);
+    CHECK(mant_hear(node, NO_LISTS, sealed, 27, repeated, sizeof repeated).repeated_length == 29);
     record[2] = 849;
     CHECK(is_written(mant_open(key, record, MANT_SOURCE_WORDS, repeated, 29, output, 12), 0, 11) && memcmp(output, example + 9, 11) == 0);
 }

@@ -11,7 +11,7 @@ static void null_table(void)
 {
     const MantHeard heard = {.source = 1000};
     MantFound f = mant_station_at(NULL, 0, 0);
-    MantListened l = mant_hear_and_count(EDITION, node, NO_LISTS, example, 20, NULL, 0, NULL, 0);
+    MantListened l = mant_hear_and_count(node, NO_LISTS, example, 20, NULL, 0, NULL, 0);
     CHECK(mant_stations_capacity(NULL, 0) == 0 && mant_stations_held(NULL, 0) == 0);
     CHECK(f.number == 56 && f.station.address == 0 && f.station.reads == 0 && !f.station.has_path && f.station.shortest_path == 0);
     CHECK(mant_station_of(NULL, 0, 0).number == 56 && mant_remove_station(NULL, 0, 0) == 56);
@@ -25,16 +25,16 @@ static void hearing_and_counting(void)
     uint16_t table[MANT_STATION_WORDS] = {0};
     uint8_t output[MANT_PDU_LIMIT], again[MANT_PDU_LIMIT];
     const uint8_t without_path[6] = {0, 0, 0, 0, 0x03, 0xE8};
-    MantListened l = mant_hear_and_count(EDITION, node, NO_LISTS, without_path, 6, output, sizeof output, table, MANT_STATION_WORDS);
+    MantListened l = mant_hear_and_count(node, NO_LISTS, without_path, 6, output, sizeof output, table, MANT_STATION_WORDS);
     CHECK(l.answer.delivery == 0 && l.answer.repeat == MANT_HOP_LIMIT_0 && l.answer.delivered_place == 6 && l.answer.taken == 6 && l.table_number == 0);
     CHECK(is_station(mant_station_of(table, MANT_STATION_WORDS, 1000), 1000, 1, 0, false, 0));
-    l = mant_hear_and_count(EDITION, node, NO_LISTS, example, 20, output, sizeof output, table, MANT_STATION_WORDS);
+    l = mant_hear_and_count(node, NO_LISTS, example, 20, output, sizeof output, table, MANT_STATION_WORDS);
     CHECK(l.answer.delivery == 39 && l.answer.repeat == 0 && l.answer.repeated_length == 22 && l.answer.taken == 20 && l.table_number == 0);
     CHECK(is_station(mant_station_at(table, MANT_STATION_WORDS, 0), 1000, 2, 0, true, 0));
-    MantAnswer a = mant_hear(EDITION, node, NO_LISTS, output, 22, again, sizeof again);
+    MantAnswer a = mant_hear(node, NO_LISTS, output, 22, again, sizeof again);
     CHECK(a.delivery == MANT_ECHO && mant_count_answer(table, MANT_STATION_WORDS, output, 22, a) == 0);
     CHECK(is_station(mant_station_of(table, MANT_STATION_WORDS, 1000), 1000, 3, 1, true, 0));
-    l = mant_hear_and_count(EDITION, node, NO_LISTS, example, 19, output, sizeof output, table, MANT_STATION_WORDS);
+    l = mant_hear_and_count(node, NO_LISTS, example, 19, output, sizeof output, table, MANT_STATION_WORDS);
     CHECK(l.answer.delivery == MANT_PAYLOAD_CUT && l.table_number == 0 && mant_station_of(table, MANT_STATION_WORDS, 1000).station.reads == 3);
     CHECK(mant_remove_station(table, MANT_STATION_WORDS, 1001) == 56 && mant_stations_held(table, MANT_STATION_WORDS) == 1);
     CHECK(mant_remove_station(table, MANT_STATION_WORDS, 1000) == 0 && mant_stations_held(table, MANT_STATION_WORDS) == 0);
@@ -44,22 +44,24 @@ static void hearing_and_counting(void)
 /* PDUs from the node itself: the example, one without a path, and one whose path has the node too. */
 static void own_reports(void)
 {
-    const MantNode originator = {.own = 1000, .echo = true, .repeating = true}, without_echo = {.own = 1000, .repeating = true};
-    const MantNode passing = {.own = 1000, .echo = true, .repeating = true, .source_pass = MANT_FIRST_LIST};
+    const MantNode originator = MANT_NODE(1000);
+    MantNode without_echo = originator, passing = originator;
     const uint8_t without_path[6] = {0, 0, 0x70, 0, 0x03, 0xE8}, with_both[9] = {2, 0, 0x70, 0, 0x03, 0xE8, 1, 0x03, 0xE8};
     uint16_t table[MANT_STATION_WORDS] = {0};
     uint8_t output[24], untouched[24];
+    without_echo.echo = false;
+    passing.source_pass = MANT_FIRST_LIST;
     memset(output, 77, sizeof output);
     memset(untouched, 77, sizeof untouched);
-    MantListened l = mant_hear_and_count(EDITION, originator, NO_LISTS, example, 20, output, sizeof output, table, MANT_STATION_WORDS);
+    MantListened l = mant_hear_and_count(originator, NO_LISTS, example, 20, output, sizeof output, table, MANT_STATION_WORDS);
     CHECK(l.answer.delivery == MANT_OWN_REPORT && l.answer.repeat == 42 && l.answer.delivered_length == 0 && l.answer.repeated_length == 0);
     CHECK(l.answer.taken == 20 && l.table_number == 0 && memcmp(output, untouched, sizeof output) == 0);
-    MantAnswer a = mant_hear(EDITION, passing, NO_LISTS, without_path, 6, output, sizeof output);
+    MantAnswer a = mant_hear(passing, NO_LISTS, without_path, 6, output, sizeof output);
     CHECK(a.delivery == 42 && a.repeat == 42 && a.taken == 6 && mant_count_answer(table, MANT_STATION_WORDS, without_path, 6, a) == 0);
     CHECK(is_station(mant_station_of(table, MANT_STATION_WORDS, 1000), 1000, 2, 2, true, 0));
-    a = mant_hear(EDITION, passing, NO_LISTS, with_both, 9, output, sizeof output);
+    a = mant_hear(passing, NO_LISTS, with_both, 9, output, sizeof output);
     CHECK(a.delivery == MANT_ECHO && a.repeat == MANT_ECHO && memcmp(output, untouched, sizeof output) == 0);
-    a = mant_hear(EDITION, without_echo, NO_LISTS, without_path, 6, output, sizeof output);
+    a = mant_hear(without_echo, NO_LISTS, without_path, 6, output, sizeof output);
     CHECK(a.delivery == 0 && a.repeat == 0 && a.repeated_length == 6 && memcmp(output, without_path, 6) == 0 && output[6] == 77);
 }
 

@@ -1,34 +1,27 @@
 //! One PDU at one node, and the walk over a batch.
 
-use mant::raw::{Answer, Lists, Node};
-
-#[repr(C)]
-pub(super) struct List {
-    values: *const u16,
-    length: usize,
-}
+use mant::raw::{Answer, Node};
 
 #[rustfmt::skip]
 extern "C" {
     fn plain_hear(
-        edition: u64, node: Node, lists: *const List, received: *const u8, length: usize, output: *mut u8, output_length: usize,
+        node: Node, lists: *const u16, lists_length: usize, received: *const u8, length: usize, output: *mut u8, output_length: usize,
     ) -> Answer;
     fn plain_walk(
-        edition: u64, node: Node, lists: *const List, batch: *const u8, length: usize, output: *mut u8, output_length: usize,
+        node: Node, lists: *const u16, lists_length: usize, batch: *const u8, length: usize, output: *mut u8, output_length: usize,
         end: *mut usize,
     ) -> usize;
 }
 
 /// `plain_hear`.
 #[inline]
-pub fn hear(edition: u64, node: Node, lists: Lists, received: &[u8], output: &mut [u8]) -> Answer {
-    let lists = of(lists);
+pub fn hear(node: Node, lists: &[u16], received: &[u8], output: &mut [u8]) -> Answer {
     // SAFETY: here and below, pointers and lengths are those of live slices.
     unsafe {
         plain_hear(
-            edition,
             node,
             lists.as_ptr(),
+            lists.len(),
             received.as_ptr(),
             received.len(),
             output.as_mut_ptr(),
@@ -39,21 +32,14 @@ pub fn hear(edition: u64, node: Node, lists: Lists, received: &[u8], output: &mu
 
 /// `plain_walk`: how many PDUs, and where the walk ended.
 #[inline]
-pub fn walk(
-    edition: u64,
-    node: Node,
-    lists: Lists,
-    batch: &[u8],
-    output: &mut [u8],
-) -> (usize, usize) {
-    let lists = of(lists);
+pub fn walk(node: Node, lists: &[u16], batch: &[u8], output: &mut [u8]) -> (usize, usize) {
     let mut end = 0;
     // SAFETY: as above.
     let count = unsafe {
         plain_walk(
-            edition,
             node,
             lists.as_ptr(),
+            lists.len(),
             batch.as_ptr(),
             batch.len(),
             output.as_mut_ptr(),
@@ -62,12 +48,4 @@ pub fn walk(
         )
     };
     (count, end)
-}
-
-#[inline]
-pub(super) fn of(lists: Lists) -> [List; 8] {
-    lists.map(|list| List {
-        values: list.as_ptr(),
-        length: list.len(),
-    })
 }

@@ -1,7 +1,6 @@
 //! The stations heard.
 
-use super::node::{of, List};
-use mant::raw::{Heard, Listened, Lists, Node, Station, STATION_LIMIT};
+use mant::raw::{Heard, Listened, Node, Station, STATION_LIMIT};
 
 /// The stations heard, by rising address.
 #[repr(C)]
@@ -30,7 +29,7 @@ impl Table {
 extern "C" {
     fn plain_count_heard(table: *mut Table, heard: Heard) -> u8;
     fn plain_hear_and_count(
-        edition: u64, node: Node, lists: *const List, received: *const u8, length: usize, output: *mut u8, output_length: usize,
+        node: Node, lists: *const u16, lists_length: usize, received: *const u8, length: usize, output: *mut u8, output_length: usize,
         table: *mut Table,
     ) -> Listened;
 }
@@ -45,20 +44,18 @@ pub fn count_heard(table: &mut Table, heard: Heard) -> u8 {
 /// `plain_hear_and_count`.
 #[inline]
 pub fn hear_and_count(
-    edition: u64,
     node: Node,
-    lists: Lists,
+    lists: &[u16],
     received: &[u8],
     output: &mut [u8],
     table: &mut Table,
 ) -> Listened {
-    let lists = of(lists);
     // SAFETY: as above, and pointers and lengths are those of live slices.
     unsafe {
         plain_hear_and_count(
-            edition,
             node,
             lists.as_ptr(),
+            lists.len(),
             received.as_ptr(),
             received.len(),
             output.as_mut_ptr(),

@@ -47,7 +47,7 @@ fn retained(
             (outcome, wanted)
         }
         ReliableDeed::Hear(settings, bytes, sending, room) => {
-            let answer = reference::hear(12, &settings, &Lists::EMPTY, &bytes, &mut [0; 5_000]);
+            let answer = reference::hear(&settings, &Lists::EMPTY, &bytes, &mut [0; 5_000]);
             heard((plain, table), (&bytes, answer.delivery), &sending, room)
         }
         ReliableDeed::Answer(bytes, delivery, sending, room) => {

@@ -1,2 +1,4 @@
 pub mod Stepping
 pub mod Walking
+pub mod Alike
+pub mod Faults

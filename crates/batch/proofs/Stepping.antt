@@ -1,13 +1,13 @@
 -- One step: its tests, and how far it goes.
 use Prim.Native.Nat.{ℕ, _+_, _-_, _≤_, _<_}
 use native.Mathlib.Omega.{arith}
-use mathlib.Core.Bool.{Bool, true, false, not}
+use mathlib.Core.Bool.{Bool, true, false, not, and-false}
 use mathlib.Core.List.{List}
 use mathlib.Core.Path.{_≡_, refl, ap, _∙_}
 use lib.Dec.{eqb}
 use lib.ListN.{length, take, drop, length-drop}
 use lib.Seq.{take-all}
-use borrow.Author.Tests.{lt-ltb, le-ltb, le-leb, lt-leb, ne-eqb, eqb-true}
+use borrow.Author.Tests.{le-ltb, le-leb, lt-leb, ne-eqb, eqb-true}
 use Rattle.octets.proofs.Numbering.{orElse-zero}
 use Rattle.pdu.specs.declared.Reading.{Reading}
 use Rattle.pdu.specs.declared.Reading.the-variants.{Pdu, Refused}
@@ -15,13 +15,14 @@ use Rattle.pdu.specs.Header.{headerOf}
 use Rattle.pdu.specs.Sizes.{pduLength}
 use Rattle.pdu.specs.Reading.{readOf, readingNumber}
 use Rattle.pdu.proofs.Inversion.{shown}
+use Rattle.editions.specs.Editions.{known}
 use Rattle.node.specs.declared.Answer.{Answer}
 use Rattle.decision.specs.Decision.{Node}
-use Rattle.node.specs.Answers.{listOrReadingFault, taken, answerOf, Hears}
+use Rattle.node.specs.Answers.{nodeOrReadingFault, taken, answerOf, Hears}
 use Rattle.node.proofs.Answering.{refusal-number}
 use Rattle.batch.specs.declared.Cursor.{Cursor}
 use Rattle.batch.specs.declared.Stepped.the-variants.{TooLong, Ended, Answered}
-use Rattle.batch.specs.Walk.{batchLimit, isDone, stepOf, stepOutput, Steps}
+use Rattle.batch.specs.Walk.{batchLimit, isTooLong, isDone, stepOf, stepOutput, Steps}
 
 -- what `&batch[place..]` holds
 pub rest : (batch : List ℕ) (place : ℕ) → take (length batch - place) (drop place batch) ≡ drop place batch
@@ -30,35 +31,39 @@ rest batch place = take-all (length batch - place) (drop place batch) (simp leng
 -- how far a PDU goes
 pub record Taken (node : Node) (bytes : List ℕ) : Type 0 where
   pub within : taken node bytes ≤ length bytes
-  pub ended : eqb (taken node bytes) 0 ≡ not (eqb (listOrReadingFault node bytes) 0)
+  pub ended : eqb (taken node bytes) 0 ≡ not (eqb (nodeOrReadingFault node bytes) 0)
 
 read-shown : (bytes : List ℕ) (reading : Reading) → readOf bytes ≡ reading → readingNumber reading ≡ 0
     → pduLength (headerOf bytes) ≤ length bytes
 read-shown bytes (Pdu header) e z = let s = shown bytes header e in omega (arith, s .whole .all)
 read-shown bytes (Refused refusal) e z = absurd (refusal-number (Refused refusal) refusal refl refl z)
 
-size : (node : Node) (bytes : List ℕ) → listOrReadingFault node bytes ≡ 0 → pduLength (headerOf bytes) ≤ length bytes
-unfolding listOrReadingFault
+size : (node : Node) (bytes : List ℕ) → nodeOrReadingFault node bytes ≡ 0 → pduLength (headerOf bytes) ≤ length bytes
+unfolding nodeOrReadingFault
 size node bytes z = read-shown bytes (readOf bytes) refl (orElse-zero _ _ z .1)
 
 pub taken-within : (node : Node) (bytes : List ℕ) → Taken node bytes
 unfolding taken
-taken-within node bytes = go (eqb (listOrReadingFault node bytes) 0) refl
+taken-within node bytes = go (eqb (nodeOrReadingFault node bytes) 0) refl
   where
-    go : (t : Bool) → eqb (listOrReadingFault node bytes) 0 ≡ t → Taken node bytes
+    go : (t : Bool) → eqb (nodeOrReadingFault node bytes) 0 ≡ t → Taken node bytes
     go true e = record { within = rw e (size node bytes (eqb-true _ _ e)); ended = rw e (ne-eqb (pduLength (headerOf bytes)) 0 (omega arith)) }
     go false e = record { within = rw e (omega arith); ended = rw e }
 
+-- a batch within the size limit is not too long, under any edition
+pub not-too-long : (node : Node) (batch : List ℕ) → length batch ≤ batchLimit → isTooLong (node .settings) batch ≡ false
+not-too-long node batch short = rw (le-ltb batchLimit (length batch) short) (and-false (known (node .settings .edition)))
+
 -- a step's outcome, from the tests that led there
 module _ (node : Node) (batch output : List ℕ) (cursor : Cursor) where
-  pub too-long : batchLimit < length batch → Steps node batch cursor output TooLong output
+  pub too-long : isTooLong (node .settings) batch ≡ true → Steps node batch cursor output TooLong output
   unfolding stepOf stepOutput
-  too-long h = rw (lt-ltb batchLimit (length batch) h) (refl, refl)
+  too-long h = rw h (refl, refl)
 
-  module _ (short : length batch ≤ batchLimit) where
+  module _ (short : isTooLong (node .settings) batch ≡ false) where
     done : isDone batch cursor ≡ true → Steps node batch cursor output Ended output
     unfolding stepOf stepOutput
-    done e = rw (le-ltb batchLimit (length batch) short, e) (refl, refl)
+    done e = rw (short, e) (refl, refl)
 
     pub ended-before : cursor .ended ≡ true → Steps node batch cursor output Ended output
     ended-before e = done (rw e)
@@ -73,7 +78,7 @@ module _ (node : Node) (batch output : List ℕ) (cursor : Cursor) where
     unfolding stepOf stepOutput answerOf
     answered e h answer rest now er ea =
         let t = taken-within node (drop (cursor .place) batch) in
-        rw (le-ltb batchLimit (length batch) short, e, lt-leb (length batch) (cursor .place) h, ea .0, ea .1, er, t .ended) (refl, refl)
+        rw (short, e, lt-leb (length batch) (cursor .place) h, ea .0, ea .1, er, t .ended) (refl, refl)
 
     pub within-batch : cursor .place < length batch → (answer : Answer) (rest : List ℕ) → rest ≡ drop (cursor .place) batch
         → answer ≡ answerOf node (length output) rest → cursor .place + answer .taken ≤ length batch

@@ -1,13 +1,15 @@
--- Document 01, "A batch".
+-- Document 01, "A batch"; document 02, W-209: 17 comes before every other number, so before 54, and it ends a walk.
 use Prim.Native.Nat.{ℕ, zero, suc, _+_}
-use mathlib.Core.Bool.{Bool, not, cond, _||_}
+use mathlib.Core.Bool.{Bool, not, cond, _&&_, _||_}
 use mathlib.Core.List.{List, [], _∷_}
 use mathlib.Core.Path.{_≡_}
 use lib.Dec.{eqb, ltb, leb}
 use lib.ListN.{length, drop}
+use Rattle.editions.specs.Editions.{known}
 use Rattle.node.specs.declared.Answer.{Answer}
+use Rattle.decision.specs.declared.Settings.{Settings}
 use Rattle.decision.specs.Decision.{Node}
-use Rattle.node.specs.Answers.{listOrReadingFault, taken, answerOf, outputAfter}
+use Rattle.node.specs.Answers.{nodeOrReadingFault, taken, answerOf, outputAfter}
 use Rattle.batch.specs.declared.Cursor.{Cursor}
 use Rattle.batch.specs.declared.Numbers.{Numbers}
 use Rattle.batch.specs.declared.Numbers.the-variants.{Two, Alone, NoAnswer}
@@ -18,30 +20,30 @@ use Rattle.batch.specs.declared.Stepped.the-variants.{TooLong, Ended, An
 abbrev pub batchLimit : ℕ
 batchLimit = 16384
 
--- a batch over the size limit is answered 54 alone
-abbrev pub isTooLong : List ℕ → Bool
-isTooLong batch = ltb batchLimit (length batch)
+-- a batch over the size limit is answered 54 alone; 17 comes before it (W-209)
+abbrev pub isTooLong : Settings → List ℕ → Bool
+isTooLong settings batch = known (settings .edition) && ltb batchLimit (length batch)
 
 -- no bytes are left at the cursor, or the walk has ended
 abbrev pub isDone : List ℕ → Cursor → Bool
 isDone batch cursor = cursor .ended || leb (length batch) (cursor .place)
 
--- where the next PDU starts: the byte after the last one's payload; at 1 to 6 or a list fault the walk ends
+-- where the next PDU starts: the byte after the last one's payload; at 17 (W-209), a list fault or 1 to 6 the walk ends
 abbrev pub nextCursor : Node → List ℕ → ℕ → Cursor
 nextCursor node batch place =
-    record { place = place + taken node (drop place batch); ended = not (eqb (listOrReadingFault node (drop place batch)) 0) }
+    record { place = place + taken node (drop place batch); ended = not (eqb (nodeOrReadingFault node (drop place batch)) 0) }
 
 -- one step of the walk
 unfoldable pub stepOf : Node → ℕ → List ℕ → Cursor → Stepped
 stepOf node room batch cursor =
-    cond (isTooLong batch) TooLong
+    cond (isTooLong (node .settings) batch) TooLong
     (cond (isDone batch cursor) Ended
     (Answered (answerOf node room (drop (cursor .place) batch)) (nextCursor node batch (cursor .place))))
 
 -- what the step leaves in the output: what the node leaves there
 unfoldable pub stepOutput : Node → List ℕ → Cursor → List ℕ → List ℕ
 stepOutput node batch cursor output =
-    cond (isTooLong batch || isDone batch cursor) output (outputAfter node (drop (cursor .place) batch) output)
+    cond (isTooLong (node .settings) batch || isDone batch cursor) output (outputAfter node (drop (cursor .place) batch) output)
 
 -- what a step answers and leaves in the output
 abbrev pub Steps : Node → List ℕ → Cursor → List ℕ → Stepped → List ℕ → Type 0
@@ -76,13 +78,13 @@ walkFrom zero node room batch offset = endingAt 0 offset
 walkFrom (suc turns) node room batch offset =
     cond (leb (length batch) offset) (endingAt 0 offset)
     (before offset (answerOf node room (drop offset batch))
-    (cond (eqb (listOrReadingFault node (drop offset batch)) 0)
+    (cond (eqb (nodeOrReadingFault node (drop offset batch)) 0)
     (walkFrom turns node room batch (offset + taken node (drop offset batch)))
     (endingAt 0 offset)))
 
 -- the walk of a batch; a PDU takes at least 6 bytes, so there are no more answers than bytes
 unfoldable pub walk : Node → ℕ → List ℕ → Walk
-walk node room batch = cond (isTooLong batch) (endingAt 54 0) (walkFrom (length batch) node room batch 0)
+walk node room batch = cond (isTooLong (node .settings) batch) (endingAt 54 0) (walkFrom (length batch) node room batch 0)
 
 -- a walk from one step's answer on: the rest of it is what the next cursor gives
 abbrev pub continued : Stepped → ℕ → (Cursor → Walk) → Walk

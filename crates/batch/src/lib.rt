@@ -1,9 +1,9 @@
 // The walk over a batch of PDUs that lie back to back.
 ghost use mathlib.Core.Path.{_≡_};
 ghost use mathlib.Core.Bool.{false};
-ghost use Rattle.lists.specs.Lists.{listsOf};
+ghost use Rattle.lists.specs.Lists.{listsIn};
 ghost use Rattle.decision.specs.Decision.{nodeOf};
-ghost use Rattle.batch.specs.Walk.{Steps, numbersOf};
+ghost use Rattle.batch.specs.Walk.{isTooLong, Steps, numbersOf};
 use decision::Settings;
 use node::Answer;
 
@@ -14,15 +14,15 @@ pub struct Cursor {
     pub ended: bool,
 }
 
-// What one step of a walk finds: a PDU's answer and the next cursor; no more PDU; or a batch of more than `BATCH_LIMIT` bytes, whose number is 54 at
-// every cursor. The places in the answer count from the PDU's first byte, which is at the cursor's place.
+// What one step of a walk finds: a PDU's answer and the next cursor; no more PDU; or a batch of more than `BATCH_LIMIT` bytes, whose number is 54.
+// The places in the answer count from the PDU's first byte, which is at the cursor's place.
 pub enum Stepped {
     Answered(Answer, Cursor),
     Ended,
     TooLong,
 }
 
-// The numbers that a step answers with: a PDU's two, one that comes alone, or none.
+// The numbers of a step: a PDU's two, one that comes alone, or none.
 pub enum Numbers {
     Two { delivery: u8, repeat: u8 },
     Alone(u8),
@@ -43,26 +43,20 @@ impl Cursor {
     }
 }
 
-// One step of the walk: the node's answer for the PDU at the cursor, and the cursor of the next. With a number 1 to 6 or a fault of the lists that
-// cursor has ended, at the same place. Any cursor gets an answer; one past the batch's end, or of a walk that ended, gets `Ended`, unless the batch
-// is over the size limit: that gets `TooLong` at every cursor. The output is changed as the node changes it, and not at all where no PDU is answered.
-// Document 01, "A batch".
-pub fn step<'a>(
+// Takes one step of the walk: hears the PDU at the cursor, and returns its answer and the next cursor. With 17, 20 to 22 or 1 to 6 the next cursor has ended,
+// at the same place. A cursor that has ended, or past the end of the batch, gets `Ended`. A batch over the size limit gets `TooLong` at every cursor, if
+// the edition is known. The output changes as `node::hear` changes it, and not at all without an answer. Document 01, "A batch"; document 02, W-209, W-211.
+pub fn step(
     settings: Settings,
-    source_pass: &'a [u16],
-    source_reject: &'a [u16],
-    destination_pass: &'a [u16],
-    destination_reject: &'a [u16],
+    lists: &[u16],
     batch: &[u8],
     cursor: Cursor,
     output: &mut [u8],
 ) -> Stepped
-    ensures { λ r. ⌜ Steps (nodeOf settings (listsOf (now («source_pass» .entry)) (now («source_reject» .entry))
-        (now («destination_pass» .entry)) (now («destination_reject» .entry))))
-        (now (batch .entry)) cursor (now (output .entry)) r (now (output .exit)) ⌝ }
+    ensures { λ r. ⌜ Steps (nodeOf settings (listsIn (now (lists .entry)))) (now (batch .entry)) cursor (now (output .entry)) r (now (output .exit)) ⌝ }
 {
     let place = cursor.place;
-    if Cursor::BATCH_LIMIT < batch.len() {
+    if is_too_long(settings, &batch[..]) {
         return Stepped::TooLong;
     }
     if cursor.ended {
@@ -71,15 +65,7 @@ pub fn step<'a>(
     if batch.len() <= place {
         return Stepped::Ended;
     }
-    let answer = node::hear(
-        settings,
-        source_pass,
-        source_reject,
-        destination_pass,
-        destination_reject,
-        &batch[place..],
-        output,
-    );
+    let answer = node::hear(settings, &lists[..], &batch[place..], output);
     let next = Cursor {
         place: place + answer.taken,
         ended: answer.taken == 0,
@@ -87,7 +73,17 @@ pub fn step<'a>(
     Stepped::Answered(answer, next)
 }
 
-// The numbers that a step answers with: the PDU's two; 54 alone for a batch that is too long; none for a walk that ended, since that is no answer.
+fn is_too_long(settings: Settings, batch: &[u8]) -> bool
+    ensures { λ r. ⌜ r ≡ isTooLong settings (now (batch .entry)) ⌝ }
+{
+    if editions::is_known(settings.edition) {
+        Cursor::BATCH_LIMIT < batch.len()
+    } else {
+        false
+    }
+}
+
+// The numbers of a step: the PDU's two; 54 alone for a batch that is too long; none for a walk that ended, since that is no answer.
 // Document 01, "A batch", and "Numbers answered", 54.
 pub fn numbers_of(stepped: Stepped) -> Numbers
     ensures { λ r. ⌜ r ≡ numbersOf stepped ⌝ }

@@ -19,21 +19,20 @@ use Rattle.editions.specs.declared.Bits.{Bits}
 use Rattle.editions.specs.declared.Bits.the-variants.{Reserved, Flagged}
 use Rattle.editions.specs.declared.Shown.{Shown}
 use Rattle.editions.specs.declared.EditionReading.{EditionReading}
-use Rattle.editions.specs.declared.EditionReading.the-variants as edition-reading
-use Rattle.editions.specs.Editions.{shownWith, wireOf}
+use Rattle.view.specs.declared.Summary.{Summary}
+use Rattle.view.specs.View.{summaryOf}
 use Rattle.lists.specs.Lists.{valueLimit}
+use Rattle.decision.specs.declared.Choice.{Choice}
+use Rattle.decision.specs.declared.Choice.the-variants.{First, Second, Neither}
+use Rattle.decision.specs.declared.Settings.{Settings}
+use Rattle.decision.specs.Decision.{Node}
 use Rattle.origin.specs.declared.FreshSettings.{FreshSettings}
 use Rattle.node.specs.declared.Answer.{Answer}
-use Rattle.node.specs.Answers.{twice}
+use Rattle.node.specs.Answers.{answerOf, twice, outputAfter}
 use Rattle.batch.specs.declared.Cursor.{Cursor}
 use Rattle.batch.specs.declared.Stepped.{Stepped}
 use Rattle.batch.specs.declared.Stepped.the-variants.{TooLong, Ended, Answered}
-use Rattle.batch.specs.Walk.{batchLimit}
-use Rattle.seasons.specs.declared.Choice.{Choice}
-use Rattle.seasons.specs.declared.Choice.the-variants.{First, Second, Neither}
-use Rattle.seasons.specs.declared.SeasonSettings.{SeasonSettings}
-use Rattle.seasons.specs.Choosing.{SeasonNode}
-use Rattle.seasons.specs.Under.{seasonAnswerUnder, seasonOutputUnder, seasonStepUnder, seasonStepOutputUnder}
+use Rattle.batch.specs.Walk.{batchLimit, stepOf, stepOutput}
 use Rattle.listening.specs.Listening.{answerNumber, memoryAfterAnswer}
 use Rattle.bound.specs.declared.Bound.{Bound}
 use Rattle.bound.specs.declared.Bound.the-variants.{Exactly, TooLarge, HopRefused}
@@ -85,54 +84,36 @@ abbrev pub reservedShown : Bits → ℕ
 reservedShown (Reserved number) = number
 reservedShown (Flagged encrypted number) = number
 
--- the fields of a header as it is shown, with a number, the last sender and two lengths ("Header, byte by byte")
-abbrev pub fieldsInC : ℕ → Shown → Sender → ℕ → ℕ → MantHeader
-fieldsInC number shown sender ofHeader ofPdu =
+-- all that a view says of a PDU, field by field ("Header, byte by byte")
+abbrev pub summaryInC : Summary → MantHeader
+summaryInC summary =
     record {
-      number = number;
-      protocol = shown .protocol;
-      «time_stamp_request» = shown .«time_stamp_request»;
-      «path_bit» = shown .«path_bit»;
-      «has_destination» = hasDestination (shown .destination);
-      port = shown .port;
-      «has_encrypted» = hasFlag (shown .bits);
-      encrypted = flagOf (shown .bits);
-      reserved = reservedShown (shown .bits);
-      ack = shown .ack;
-      «added_header» = shown .«added_header»;
-      «hop_limit» = shown .«hop_limit»;
-      «payload_length» = shown .«payload_length»;
-      source = shown .source;
-      destination = destinationAddress (shown .destination);
-      «pdu_id» = shown .«pdu_id»;
-      «path_count» = shown .«path_count»;
-      «has_last_sender» = hasSender sender;
-      «last_sender» = senderAddress sender;
-      «header_length» = ofHeader;
-      «pdu_length» = ofPdu;
+      number = summary .number;
+      protocol = summary .header .protocol;
+      «time_stamp_request» = summary .header .«time_stamp_request»;
+      «path_bit» = summary .header .«path_bit»;
+      «has_destination» = hasDestination (summary .header .destination);
+      port = summary .header .port;
+      «has_encrypted» = hasFlag (summary .header .bits);
+      encrypted = flagOf (summary .header .bits);
+      reserved = reservedShown (summary .header .bits);
+      ack = summary .header .ack;
+      «added_header» = summary .header .«added_header»;
+      «hop_limit» = summary .header .«hop_limit»;
+      «payload_length» = summary .header .«payload_length»;
+      source = summary .header .source;
+      destination = destinationAddress (summary .header .destination);
+      «pdu_id» = summary .header .«pdu_id»;
+      «path_count» = summary .header .«path_count»;
+      «has_last_sender» = hasSender (summary .«last_sender»);
+      «last_sender» = senderAddress (summary .«last_sender»);
+      «header_length» = summary .«header_length»;
+      «pdu_length» = summary .«pdu_length»;
     }
 
--- of a PDU that was read: number 0, and the lengths that follow from its fields ("Sizes")
-abbrev pub shownHeader : Shown → Sender → MantHeader
-shownHeader shown sender = fieldsInC 0 shown sender (headerLength (wireOf shown)) (pduLength (wireOf shown))
-
--- a refusal: its number, the fields of no bytes, no flag, no sender, lengths 0 ("Numbers answered": a length given with a refusal is 0)
-abbrev pub refusedHeader : ℕ → MantHeader
-refusedHeader number = fieldsInC number (shownWith (Reserved 0) (headerOf [])) Unknown 0 0
-
--- what reading under an edition answers for bytes (17, then "Numbers answered", 1 to 6), and the last sender of what was read
+-- what reading under an edition shows for bytes (17, then "Numbers answered", 1 to 6)
 abbrev pub headerInC : EditionReading → List ℕ → MantHeader
-headerInC (edition-reading.Pdu shown) bytes = shownHeader shown (lastSender (wireOf shown) bytes)
-headerInC (edition-reading.Refused number) bytes = refusedHeader number
-
--- the path's address at a place, and whether an address is in the path, of what was read; a refusal shows no path
-abbrev pub pathAddressIn : Reading → List ℕ → ℕ → ℕ
-pathAddressIn (Pdu header) bytes i = pathAddress header bytes i
-pathAddressIn (Refused refusal) bytes i = 0
-
-abbrev pub pathHas : Reading → List ℕ → ℕ → Bool
-pathHas (Pdu header) bytes address = inPath address (pathIn header bytes)
-pathHas (Refused refusal) bytes address = false
+headerInC reading bytes = summaryInC (summaryOf reading bytes)
 
 -- the settings of a fresh PDU, field by field ("Origination"; document 02, W-209)
 abbrev pub freshFromC : MantFresh → FreshSettings
@@ -155,9 +136,10 @@ abbrev pub choiceFromC : ℕ → Choice
 choiceFromC number = cond (eqb number 1) First (cond (eqb number 2) Second Neither)
 
 -- what a node is set to, each kind by itself
-abbrev pub nodeFromC : MantNode → SeasonSettings
+abbrev pub nodeFromC : MantNode → Settings
 nodeFromC node =
     record {
+      edition = node .edition;
       own = node .own;
       echo = node .echo;
       repeating = node .repeating;
@@ -165,6 +147,23 @@ nodeFromC node =
       «source_reject» = choiceFromC (node .«source_reject»);
       «destination_pass» = choiceFromC (node .«destination_pass»);
       «destination_reject» = choiceFromC (node .«destination_reject»);
+    }
+
+-- a change over: the same node, with every kind set to one choice; a number other than 1 and 2 sets 0
+abbrev pub choiceNumber : ℕ → ℕ
+choiceNumber choice = cond (eqb choice 1) 1 (cond (eqb choice 2) 2 0)
+
+abbrev pub changedOver : MantNode → ℕ → MantNode
+changedOver node choice =
+    record {
+      edition = node .edition;
+      own = node .own;
+      echo = node .echo;
+      repeating = node .repeating;
+      «source_pass» = choiceNumber choice;
+      «source_reject» = choiceNumber choice;
+      «destination_pass» = choiceNumber choice;
+      «destination_reject» = choiceNumber choice;
     }
 
 -- a node's answer ("One PDU at one node"), its last sender so, and back
@@ -193,17 +192,17 @@ answerFromC answer =
       «last_sender» = senderFromC (answer .«has_last_sender») (answer .«last_sender»);
     }
 
--- what hearing a PDU under an edition answers and leaves in the output
-abbrev pub HearsInC : ℕ → SeasonNode → List ℕ → List ℕ → MantAnswer → List ℕ → Type 0
-HearsInC edition node received output answer left =
-    (answer ≡ answerInC (seasonAnswerUnder edition node (length output) received)) × (left ≡ seasonOutputUnder edition node received output)
+-- what hearing a PDU answers and leaves in the output
+abbrev pub HearsInC : Node → List ℕ → List ℕ → MantAnswer → List ℕ → Type 0
+HearsInC node received output answer left =
+    (answer ≡ answerInC (answerOf node (length output) received)) × (left ≡ outputAfter node received output)
 
 -- and where it is counted too (document 02, W-201)
-abbrev pub ListensInC : ℕ → SeasonNode → List ℕ → List ℕ → List ℕ → MantListened → List ℕ → List ℕ → Type 0
-ListensInC edition node received output memory listened left after =
-    HearsInC edition node received output (listened .answer) left
-    × (listened .«table_number» ≡ answerNumber (seasonAnswerUnder edition node (length output) received) received memory)
-    × (after ≡ memoryAfterAnswer (seasonAnswerUnder edition node (length output) received) received memory)
+abbrev pub ListensInC : Node → List ℕ → List ℕ → List ℕ → MantListened → List ℕ → List ℕ → Type 0
+ListensInC node received output memory listened left after =
+    HearsInC node received output (listened .answer) left
+    × (listened .«table_number» ≡ answerNumber (answerOf node (length output) received) received memory)
+    × (after ≡ memoryAfterAnswer (answerOf node (length output) received) received memory)
 
 -- a walk that ends has no answer and so no number; C's two fields for numbers are there all the same, and hold 255, which 01 gives to nothing
 abbrev pub noNumber : ℕ
@@ -215,11 +214,10 @@ stepInC cursor (Answered answer next) = record { kind = 0; answer = answerInC an
 stepInC cursor Ended = record { kind = 1; answer = answerInC (twice noNumber 0 Unknown); next = record { place = cursor .place; ended = true } }
 stepInC cursor TooLong = record { kind = 2; answer = answerInC (twice 54 0 Unknown); next = record { place = cursor .place; ended = true } }
 
--- what a step under an edition answers and leaves in the output
-abbrev pub StepsInC : ℕ → SeasonNode → List ℕ → Cursor → List ℕ → MantStep → List ℕ → Type 0
-StepsInC edition node batch cursor output step left =
-    (step ≡ stepInC cursor (seasonStepUnder edition node (length output) batch cursor))
-    × (left ≡ seasonStepOutputUnder edition node batch cursor output)
+-- what a step answers and leaves in the output
+abbrev pub StepsInC : Node → List ℕ → Cursor → List ℕ → MantStep → List ℕ → Type 0
+StepsInC node batch cursor output step left =
+    (step ≡ stepInC cursor (stepOf node (length output) batch cursor)) × (left ≡ stepOutput node batch cursor output)
 
 -- a bound: the value, that it is too large, or number 10 ("Numbers answered"); the value is 0 where there is none
 abbrev pub boundInC : Bound → MantBound

@@ -1,14 +1,16 @@
 // What C sets a node to, and what it sees of the node's answer.
+use decision::Choice;
+use decision::Settings;
 use node::Answer;
 use pdu::Sender;
-use seasons::Choice;
-use seasons::SeasonSettings;
 ghost use mathlib.Core.Path.{_≡_};
 ghost use Rattle.boundary.specs.Boundary.{choiceFromC, nodeFromC, hasSender, senderAddress, senderFromC, answerInC, answerFromC};
 
-// What a node is set to. Of each kind of list a number chooses: 1 the first of its two lists, 2 the second; 0, and any other number, chooses none.
+// What a node is set to. Edition 11 is 1.1 and 12 is 1.2. Of each kind of list a number chooses: 1 the first of its two lists, 2 the second; 0, and any
+// other number, chooses none.
 #[repr(C)]
 pub struct MantNode {
+    pub edition: u64,
     pub own: u16,
     pub echo: bool,
     pub repeating: bool,
@@ -54,10 +56,11 @@ fn choice_from_c(number: u8) -> Choice
 
 // What C sets a node to, as the layer has it: of each kind by itself, 1 chooses the first list, 2 the second, and any other number none.
 // Document 02, W-211.
-pub fn node_from_c(node: MantNode) -> SeasonSettings
+pub fn node_from_c(node: MantNode) -> Settings
     ensures { λ r. ⌜ r ≡ nodeFromC node ⌝ }
 {
-    SeasonSettings {
+    Settings {
+        edition: node.edition,
         own: node.own,
         echo: node.echo,
         repeating: node.repeating,
@@ -68,7 +71,7 @@ pub fn node_from_c(node: MantNode) -> SeasonSettings
     }
 }
 
-fn has_sender(sender: Sender) -> bool
+pub(crate) fn has_sender(sender: Sender) -> bool
     ensures { λ r. ⌜ r ≡ hasSender sender ⌝ }
 {
     match sender {
@@ -77,7 +80,7 @@ fn has_sender(sender: Sender) -> bool
     }
 }
 
-fn sender_address(sender: Sender) -> u16
+pub(crate) fn sender_address(sender: Sender) -> u16
     ensures { λ r. ⌜ r ≡ senderAddress sender ⌝ }
 {
     match sender {

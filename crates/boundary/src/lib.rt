@@ -20,3 +20,4 @@ pub use planning::MantLimits;
 pub use planning::bound_in_c;
 pub use planning::limits_in_c;
 pub use reading::MantHeader;
+pub use reading::summary_in_c;

@@ -18,7 +18,7 @@
 // |           | destination if it is not everyone [payload] [output]                                     |                                          |
 // | lists     | (first list) (last list), those between being empty                                      | number                                   |
 // | hear      | own, echo, repeating, source pass, source reject, destination pass, destination reject   | delivery, repeat, repeated length        |
-// |           | (the list that stands for all four) [PDU] [output]                                       |                                          |
+// |           | (the list that is the first of each kind) [PDU] [output]                                 |                                          |
 // | deliver   | as for hear; the payload is put into the output                                          | the payload's length                     |
 // | step      | as for hear, with a batch for the PDU                                                    | those of the first step: two, one, none  |
 // | job       | [job]                                                                                    | number                                   |

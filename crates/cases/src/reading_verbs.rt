@@ -45,13 +45,13 @@ fn reads(line: Line, input: &[u8]) -> bool {
 }
 
 fn views(line: Line, input: &[u8]) -> bool {
-    let said = view::summary_of(input);
+    let said = view::summary_of(input, 12);
     let header = said.header;
     let source = header.source as u64;
     let pdu_id = header.pdu_id as u64;
     let sender = said.last_sender;
     tell(line, 0o2222222, 0, said.number as u64)
-        & tell(line, 0o2222222, 1, said.size as u64)
+        & tell(line, 0o2222222, 1, said.pdu_length as u64)
         & tell(line, 0o2222222, 2, source)
         & tell(line, 0o2222222, 3, pdu_id)
         & tell(line, 0o2222222, 4, wide(header.path_count))
@@ -79,8 +79,10 @@ fn bounds(line: Line) -> bool {
 
 // The first list and the last; those between are empty.
 fn finds_fault(line: Line, values: &[u16]) -> bool {
+    let mut block = [0u16; list_block::BLOCK_LIMIT];
     let first = list(values, 0, line.list);
     let last = list(values, line.list, line.end);
     let none = list(values, 0, 0);
-    tell(line, 0o2, 0, lists::fault(first, none, none, last) as u64)
+    let fault = list_block::lay(&mut block, first, none, none, none, none, none, none, last);
+    tell(line, 0o2, 0, wide(fault.number))
 }

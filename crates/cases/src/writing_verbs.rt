@@ -7,6 +7,7 @@ use crate::telling::tell;
 use crate::verb;
 use batch::Cursor;
 use batch::Numbers;
+use decision::Choice;
 use decision::Settings;
 use node::Answer;
 use pdu::Destination;
@@ -32,8 +33,11 @@ fn by_verb(line: Line, input: &[u8], values: &[u16], output: &mut [u8]) -> bool 
     if verb == verb::ORIGINATE {
         return tells_written(line, origin::originate(origin_of(line), input, output));
     }
-    let list = list(values, line.list, line.input);
-    hears(line, node_of(line), input, list, output)
+    let mut block = [0u16; list_block::BLOCK_LIMIT];
+    let one = list(values, line.list, line.input);
+    let none = list(values, 0, 0);
+    list_block::lay(&mut block, one, none, one, none, one, none, one, none);
+    hears(line, node_of(line), input, &block, output)
 }
 
 fn tells_written(line: Line, written: Written) -> bool {
@@ -41,27 +45,35 @@ fn tells_written(line: Line, written: Written) -> bool {
     tell(line, 0o22_13, 0, number) & tell(line, 0o22_13, 1, written.length as u64)
 }
 
-// The one list stands for all four.
-fn hears(line: Line, settings: Settings, input: &[u8], list: &[u16], output: &mut [u8]) -> bool {
+fn hears(
+    line: Line,
+    settings: Settings,
+    input: &[u8],
+    lists: &[u16; list_block::BLOCK_LIMIT],
+    output: &mut [u8],
+) -> bool {
     let verb = line.verb;
     if verb == verb::STEP {
         let start = Cursor::start();
-        let stepped = batch::step(settings, list, list, list, list, input, start, output);
+        let stepped = batch::step(settings, lists, input, start, output);
         return tells_step(line, batch::numbers_of(stepped));
     }
     if verb == verb::HEAR {
-        return tells_answer(
-            line,
-            node::hear(settings, list, list, list, list, input, output),
-        );
+        return tells_answer(line, node::hear(settings, lists, input, output));
     }
-    delivers(line, settings, input, list, output)
+    delivers(line, settings, input, lists, output)
 }
 
 // The payload delivered is put into the output.
-fn delivers(line: Line, settings: Settings, input: &[u8], list: &[u16], output: &mut [u8]) -> bool {
+fn delivers(
+    line: Line,
+    settings: Settings,
+    input: &[u8],
+    lists: &[u16],
+    output: &mut [u8],
+) -> bool {
     let mut none = [0u8; 0];
-    let answer = node::hear(settings, list, list, list, list, input, &mut none);
+    let answer = node::hear(settings, lists, input, &mut none);
     let payload = node::delivered(input, answer);
     octets::put(output, 0, payload);
     tell(line, 0o2_13, 0, payload.len() as u64)
@@ -87,13 +99,23 @@ fn tells_step(line: Line, numbers: Numbers) -> bool {
 
 fn node_of(line: Line) -> Settings {
     Settings {
+        edition: 12,
         own: (line.asked(0) % 65536) as u16,
         echo: line.asked(1) != 0,
         repeating: line.asked(2) != 0,
-        source_pass: line.asked(3) != 0,
-        source_reject: line.asked(4) != 0,
-        destination_pass: line.asked(5) != 0,
-        destination_reject: line.asked(6) != 0,
+        source_pass: chosen(line.asked(3)),
+        source_reject: chosen(line.asked(4)),
+        destination_pass: chosen(line.asked(5)),
+        destination_reject: chosen(line.asked(6)),
+    }
+}
+
+// The first list of a kind is on, or none.
+fn chosen(setting: usize) -> Choice {
+    if setting == 0 {
+        Choice::Neither
+    } else {
+        Choice::First
     }
 }
 

@@ -10,12 +10,12 @@ use Rattle.pdu.specs.Parts.{addressesAt, inPath, lastOr}
 use Rattle.lists.specs.Lists.{lowAboveHigh, faultOf, firstFault, holds}
 use Rattle.decision.specs.Decision.{echoFault, passFault, dropFault, deliveryFault, repeatFault}
 use Rattle.node.specs.Repeat.{repeated}
-use Rattle.node.specs.Answers.{listOrReadingFault, stopFault, deliveryNumber, repeatNumber, delivered, taken, heardFrom, answerOf, outputAfter}
+use Rattle.node.specs.Answers.{nodeFault, nodeOrReadingFault, stopFault, deliveryNumber, repeatNumber, delivered, taken, heardFrom, answerOf, outputAfter}
 use Rattle.checked_by_hand.specs.Examples.{CheckedByHand}
 
 pub checked : CheckedByHand
 unfolding readOf headerOf originated settingsFault originationNumber freshHeader fresh encode headerBytes pathBytes _gives_ _orElse_ over
-    addressesAt inPath lastOr lowAboveHigh faultOf firstFault holds echoFault passFault dropFault deliveryFault repeatFault listOrReadingFault
+    addressesAt inPath lastOr lowAboveHigh faultOf firstFault nodeFault holds echoFault passFault dropFault deliveryFault repeatFault nodeOrReadingFault
     stopFault deliveryNumber repeatNumber delivered taken heardFrom repeated answerOf outputAfter
 checked =
     record {

@@ -1,7 +1,7 @@
 -- Document 01, "Checked by hand": the cases marked P, in one table; their answers carry the last sender too (document 02, W-205).
 -- `proofs/Examples.antt` computes every line of it.
 use Prim.Native.Nat.{ℕ}
-use mathlib.Core.Bool.{Bool, true, false}
+use mathlib.Core.Bool.{Bool, true, false, cond}
 use mathlib.Core.List.{List, [], _∷_, _++_}
 use mathlib.Core.Path.{_≡_}
 use lib.ListN.{length, set, replicate}
@@ -12,9 +12,10 @@ use Rattle.pdu.specs.declared.Sender.the-variants.{Known}
 use Rattle.pdu.specs.Reading.{readOf, refusalNumber}
 use Rattle.pdu.specs.Parts.{payloadIn}
 use Rattle.pdu.specs.Header.{headerOf}
-use Rattle.lists.specs.Lists.{listsOf}
-use Rattle.node.specs.declared.Answer.{Answer}
+use Rattle.lists.specs.Lists.{two}
+use Rattle.decision.specs.declared.Choice.the-variants.{First, Neither}
 use Rattle.decision.specs.Decision.{Node}
+use Rattle.node.specs.declared.Answer.{Answer}
 use Rattle.node.specs.Answers.{delivered, answerOf, twice, outputAfter}
 use Rattle.origin.specs.declared.FreshSettings.{FreshSettings}
 use Rattle.origin.specs.Origination.{fresh, originated}
@@ -41,20 +42,21 @@ asking hop =
       encrypted = false;
     }
 
--- a node of that address, echo on or off, repeating, its source pass list on or off, all other lists off, and all of them empty
+-- a node of edition 1.2 and that address, echo on or off, repeating; its first source pass list on or off, all other lists off, and all eight empty
 abbrev pub nodeAt : ℕ → Bool → Bool → Node
 nodeAt own echo pass =
     record {
       settings = record {
+        edition = 12;
         own = own;
         echo = echo;
         repeating = true;
-        «source_pass» = pass;
-        «source_reject» = false;
-        «destination_pass» = false;
-        «destination_reject» = false;
+        «source_pass» = cond pass First Neither;
+        «source_reject» = Neither;
+        «destination_pass» = Neither;
+        «destination_reject» = Neither;
       };
-      lists = listsOf [] [] [] [];
+      lists = record { sourcePass = two [] []; sourceReject = two [] []; destinationPass = two [] []; destinationReject = two [] [] };
     }
 
 -- the example repeated by node 2000, as document 01 prints it

@@ -22,6 +22,7 @@ use Rattle.node.specs.Repeat.{repeated, repeatedHeader, repeatedLength}
 use Rattle.node.specs.Answers.{roomFault, stopFault, deliveryNumber, delivered, answerOf}
 use Rattle.node.proofs.Answering.{is-readable}
 use Rattle.node.proofs.Encoded.{alone-reads, alone-payload}
+use Rattle.node.proofs.Faults.{no-fault}
 use Rattle.node.proofs.Heard.{repeats, delivered-part}
 use Rattle.node.proofs.Repeating.{Ready}
 use Rattle.flood.specs.Air.{Repeater, Open, address, sends, pathOf, hopOf}
@@ -89,7 +90,8 @@ module _ (first received : List ℕ) (n : Repeater) (free : Open (n .node)) (ech
   not-stopped : stopFault (n .node) (n .room) received ≡ 0
   unfolding stopFault
   not-stopped =
-      orElse-later _ _ (is-readable (n .node) received [] (free .no-fault) (headerOf received) (carries .sound .reads))
+      let clean = no-fault (n .node) (free .edition-known) (free .no-list-fault) in
+      orElse-later _ _ (is-readable (n .node) received [] clean (headerOf received) (carries .sound .reads))
       ∙ orElse-later _ _ (passes first received n free echo (carries .sound) not-own new) ∙ room-enough
 
   for-all : deliveryFault (n .node .settings) (headerOf received) ≡ 0

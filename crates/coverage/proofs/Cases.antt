@@ -18,7 +18,7 @@ use Rattle.chains.specs.Chains.{hearsOne, hearers, ends, Chain, Shortest}
 use Rattle.origin.specs.Origination.{freshHeader, fresh}
 use Rattle.decision.specs.Decision.{echoFault, passFault, dropFault, deliveryFault, repeatFault}
 use Rattle.node.specs.Repeat.{repeated}
-use Rattle.node.specs.Answers.{listOrReadingFault, stopFault, deliveryNumber, repeatNumber, taken, answerOf}
+use Rattle.node.specs.Answers.{nodeFault, nodeOrReadingFault, stopFault, deliveryNumber, repeatNumber, taken, answerOf}
 use Rattle.node.proofs.Heard.{not-in-path}
 use Rattle.flood.specs.Air.{Repeater, Open, address, sends, onTheAir}
 use Rattle.flood.specs.Flood.{flood, answer}
@@ -92,7 +92,7 @@ unfolding differing inPath all
 line-planned = planned lineAddresses refl refl
 
 pub line-air : (hop : ℕ) → hop ≤ 6 → onTheAir (map repeater lineAddresses) (fresh (reportAsked hop) reading) (lineReceptions hop) ≡ lineAir hop
-unfolding flood answer sends fresh freshHeader encode headerBytes pathBytes repeated repeatNumber stopFault listOrReadingFault firstFault faultOf
+unfolding flood answer sends fresh freshHeader encode headerBytes pathBytes repeated repeatNumber stopFault nodeOrReadingFault nodeFault firstFault faultOf
     lowAboveHigh readOf headerOf dropFault echoFault passFault repeatFault addressesAt inPath _gives_ _orElse_
 line-air =
     each-hop (λ hop. onTheAir (map repeater lineAddresses) (fresh (reportAsked hop) reading) (lineReceptions hop) ≡ lineAir hop) refl refl refl refl refl refl
@@ -100,7 +100,7 @@ line-air =
 
 pub line-told : (hop : ℕ) → hop ≤ 6 → toldOfEach (map repeater lineAddresses) hop (lineReceptions hop) ≡ lineTold hop
 unfolding toldAlong tell answerOf deliveryNumber taken deliveryFault flood answer sends fresh freshHeader encode headerBytes pathBytes repeated repeatNumber
-    stopFault listOrReadingFault firstFault faultOf lowAboveHigh readOf headerOf dropFault echoFault passFault repeatFault addressesAt inPath
+    stopFault nodeOrReadingFault nodeFault firstFault faultOf lowAboveHigh readOf headerOf dropFault echoFault passFault repeatFault addressesAt inPath
     _gives_ _orElse_
 line-told =
     each-hop (λ hop. toldOfEach (map repeater lineAddresses) hop (lineReceptions hop) ≡ lineTold hop) refl refl refl refl refl refl refl
@@ -110,8 +110,8 @@ LineChecked hop = areTaken (map repeater lineAddresses) nextInLine (fresh (repor
 
 line-checked : (hop : ℕ) → hop ≤ 6 → LineChecked hop
 unfolding areTaken distinct absent all below happens within lastOr written flood answer sends fresh freshHeader encode headerBytes pathBytes repeated
-    repeatNumber stopFault listOrReadingFault firstFault faultOf lowAboveHigh readOf headerOf dropFault echoFault passFault repeatFault addressesAt inPath
-    _gives_ _orElse_
+    repeatNumber stopFault nodeOrReadingFault nodeFault firstFault faultOf lowAboveHigh readOf headerOf dropFault echoFault passFault repeatFault
+    addressesAt inPath _gives_ _orElse_
 line-checked = each-hop LineChecked refl refl refl refl refl refl refl
 
 pub line-taken : (hop : ℕ) → hop ≤ 6 → TakenByAll nextInLine (map repeater lineAddresses) (fresh (reportAsked hop) reading) (lineReceptions hop)
@@ -129,15 +129,15 @@ pub two-ways-told : toldOfEach (map repeater twoWaysAddresses) 6 longerFirst
     ≡ (1 ∷ 0 ∷ 0 ∷ reading) ∷ (1000 ∷ 42 ∷ 1 ∷ []) ∷ (2 ∷ 0 ∷ 1 ∷ reading) ∷ (9 ∷ 0 ∷ 2 ∷ reading) ∷ (4 ∷ 0 ∷ 0 ∷ reading) ∷ (9 ∷ 0 ∷ 1 ∷ reading)
     ∷ (9 ∷ 30 ∷ 3 ∷ []) ∷ (9 ∷ 30 ∷ 2 ∷ []) ∷ []
 unfolding toldAlong tell answerOf deliveryNumber taken deliveryFault flood answer sends fresh freshHeader encode headerBytes pathBytes repeated repeatNumber
-    stopFault listOrReadingFault firstFault faultOf lowAboveHigh readOf headerOf dropFault echoFault passFault repeatFault addressesAt inPath
+    stopFault nodeOrReadingFault nodeFault firstFault faultOf lowAboveHigh readOf headerOf dropFault echoFault passFault repeatFault addressesAt inPath
     _gives_ _orElse_
 two-ways-told = refl
 
 two-ways-checked : areTaken (map repeater twoWaysAddresses) twoWays (fresh (reportAsked 6) reading) longerFirst
     (onTheAir (map repeater twoWaysAddresses) (fresh (reportAsked 6) reading) longerFirst) ≡ true
 unfolding areTaken distinct absent all below happens within lastOr written flood answer sends fresh freshHeader encode headerBytes pathBytes repeated
-    repeatNumber stopFault listOrReadingFault firstFault faultOf lowAboveHigh readOf headerOf dropFault echoFault passFault repeatFault addressesAt inPath
-    _gives_ _orElse_
+    repeatNumber stopFault nodeOrReadingFault nodeFault firstFault faultOf lowAboveHigh readOf headerOf dropFault echoFault passFault repeatFault
+    addressesAt inPath _gives_ _orElse_
 two-ways-checked = refl
 
 pub two-ways-taken : TakenByAll twoWays (map repeater twoWaysAddresses) (fresh (reportAsked 6) reading) longerFirst

@@ -8,9 +8,10 @@ use lib.ListN.{take, drop, getElem?}
 use Rattle.pdu.specs.declared.Destination.the-variants.{Everyone}
 use Rattle.pdu.specs.Header.{headerOf}
 use Rattle.pdu.specs.Parts.{inPath}
-use Rattle.lists.specs.Lists.{listsOf}
+use Rattle.lists.specs.Lists.{two}
 use Rattle.origin.specs.declared.FreshSettings.{FreshSettings}
 use Rattle.origin.specs.Origination.{fresh}
+use Rattle.decision.specs.declared.Choice.the-variants.{Neither}
 use Rattle.decision.specs.Decision.{nodeOf}
 use Rattle.node.specs.Answers.{answerOf}
 use Rattle.flood.specs.Air.{Repeater, address, onTheAir}
@@ -42,15 +43,16 @@ repeater own =
       node =
           nodeOf
           (record {
+            edition = 12;
             own = own;
             echo = true;
             repeating = true;
-            «source_pass» = false;
-            «source_reject» = false;
-            «destination_pass» = false;
-            «destination_reject» = false;
+            «source_pass» = Neither;
+            «source_reject» = Neither;
+            «destination_pass» = Neither;
+            «destination_reject» = Neither;
           })
-          (listsOf [] [] [] []);
+          (record { sourcePass = two [] []; sourceReject = two [] []; destinationPass = two [] []; destinationReject = two [] [] });
       room = 100;
     }
 

@@ -13,8 +13,8 @@ use Rattle.flood.specs.Air.{Repeater, Nodes, Open, Originated, address, sends, 
 use Rattle.flood.specs.Complete.{HasHeard}
 use Rattle.flood.specs.Flood.{Reception, others}
 
--- A fresh message with path, no destination and hop limit 0 to 6, among the originator and the other nodes: different addresses, echo on; the others
--- with repeating on, all lists off and without fault, and room for the longest repeat, which is the message with an address more for each hop.
+-- A fresh message with path, no destination and hop limit 0 to 6, among the originator and the other nodes: different addresses, echo on. The others have
+-- edition 1.1 or 1.2, repeating on, all lists off and without fault, and room for the longest repeat: the message with an address more for each hop.
 pub record Planned (nodes : List Repeater) (settings : FreshSettings) (payload : List ℕ) (room : ℕ) : Type 0 where
   pub originated : Originated settings payload room
   pub no-destination : settings .destination ≡ Everyone

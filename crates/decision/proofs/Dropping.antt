@@ -5,7 +5,7 @@ use mathlib.Core.Bool.{true, false}
 use mathlib.Core.List.{List}
 use mathlib.Core.Path.{_≡_, ap, _∙_}
 use Rattle.octets.specs.Numbers.{_orElse_}
-use Rattle.octets.proofs.Numbering.{orElse-zero, gives-zero, gives-here, gives-later, gives-last, gives-none, orElse-first, orElse-later}
+use Rattle.octets.proofs.Numbering.{orElse-zero, gives-zero, gives-here, gives-later, gives-last, orElse-first}
 use Rattle.pdu.specs.declared.Header.{Header}
 use Rattle.decision.specs.Decision.{Node, isEcho, isOwnReport, echoFault, passFault, dropFault}
 
@@ -18,11 +18,6 @@ module _ (node : Node) (header : Header) (received : List ℕ) where
   unfolding dropFault echoFault
   drops-42 echo own =
       ap (λ (n : ℕ). n orElse passFault node header) (gives-later _ 30 _ echo ∙ gives-last _ 42 own) ∙ orElse-first 42 _ (omega arith)
-
-  pub drops-by-lists : isEcho (node .settings) header received ≡ false → isOwnReport (node .settings) header ≡ false
-      → dropFault node header received ≡ passFault node header
-  unfolding dropFault echoFault
-  drops-by-lists echo own = orElse-later _ _ (gives-later _ 30 _ echo ∙ gives-none _ 42 own)
 
   pub passed : dropFault node header received ≡ 0
       → (isEcho (node .settings) header received ≡ false) × (isOwnReport (node .settings) header ≡ false) × (passFault node header ≡ 0)

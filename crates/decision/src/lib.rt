@@ -1,26 +1,36 @@
 // What decides on a PDU that was read, at one node: the numbers that drop it, that keep it from delivery and that keep it from being repeated.
 ghost use mathlib.Core.Path.{_≡_};
-ghost use mathlib.Core.Bool.{not, _&&_};
+ghost use mathlib.Core.Bool.{_&&_};
+ghost use mathlib.Core.Logic.{_⊎_};
+ghost use Prim.Native.Nat.{_+_, _<_};
 ghost use lib.Dec.{eqb};
 ghost use Rattle.pdu.specs.declared.Header.{Header};
-ghost use Rattle.pdu.specs.Header.{destinationIn, headerOf};
 ghost use Rattle.pdu.specs.Sizes.{pathLimit};
-ghost use Rattle.lists.specs.Lists.{listsOf, holds};
-ghost use Rattle.decision.specs.Decision.{nodeOf, destinationIsIn, destinationIsOutside, isForOwn, isForAnother};
+ghost use Rattle.lists.specs.Lists.{two, listsIn, listIn};
+ghost use Rattle.decision.specs.declared.Choice.the-variants.{First, Second, Neither};
+ghost use Rattle.decision.specs.Decision.{nodeOf, chosen, isOutside, isIn, destinationIsIn, destinationIsOutside, isForOwn, isForAnother};
 ghost use Rattle.decision.specs.Decision.{isEcho, isOwnReport, echoFault, passFault, dropFault, deliveryFault, repeatFault};
 use pdu::Destination;
 use pdu::Header;
 
-// What a node is set to. Each of the four lists is on or off; an empty pass list that is on passes nothing.
-#[repr(C)]
+// Which of a kind's two lists is on. Document 02, W-211.
+pub enum Choice {
+    First,
+    Second,
+    Neither,
+}
+
+// What a node is set to: the edition, 11 for 1.1 or 12 for 1.2 (document 02, W-209), and document 01's settings. Of each kind of list the first, the
+// second or none is chosen (W-211). A pass list that is chosen and empty passes nothing.
 pub struct Settings {
+    pub edition: u64,
     pub own: u16,
     pub echo: bool,
     pub repeating: bool,
-    pub source_pass: bool,
-    pub source_reject: bool,
-    pub destination_pass: bool,
-    pub destination_reject: bool,
+    pub source_pass: Choice,
+    pub source_reject: Choice,
+    pub destination_pass: Choice,
+    pub destination_reject: Choice,
 }
 
 fn is_echo(settings: Settings, header: Header, received: &[u8]) -> bool
@@ -41,41 +51,63 @@ fn is_own_report(settings: Settings, header: Header) -> bool
     if settings.echo { same } else { false }
 }
 
-fn is_outside(on: bool, list: &[u16], address: u16) -> bool
-    ensures { λ r. ⌜ r ≡ (on && not (holds (now (list .entry)) address)) ⌝ }
+// The place of the chosen list among the eight, if the kind's first list has place `first`; 8 if none is chosen.
+fn place_of(choice: Choice, first: usize) -> usize
+    requires { ⌜ first < 7 ⌝ }
+    ensures { λ r. ⌜ ((choice ≡ First) × (r ≡ first)) ⊎ ((choice ≡ Second) × (r ≡ first + 1)) ⊎ ((choice ≡ Neither) × (r ≡ 8)) ⌝ }
 {
-    if on {
-        !lists::holds(list, address)
-    } else {
-        false
+    match choice {
+        Choice::First => first,
+        Choice::Second => first + 1,
+        Choice::Neither => lists::LISTS,
     }
 }
 
-fn is_in(on: bool, list: &[u16], address: u16) -> bool
-    ensures { λ r. ⌜ r ≡ (on && holds (now (list .entry)) address) ⌝ }
+fn is_outside(choice: Choice, lists: &[u16], first: usize, address: u16) -> bool
+    requires { ⌜ first < 7 ⌝ }
+    ensures { λ r. ⌜ r ≡ isOutside (chosen choice (two (listIn (now (lists .entry)) first) (listIn (now (lists .entry)) (first + 1)))) address ⌝ }
 {
-    if on {
-        lists::holds(list, address)
-    } else {
-        false
+    let place = place_of(choice, first);
+    if place == lists::LISTS {
+        return false;
     }
+    !lists::has(&lists[..], place, address)
 }
 
-fn destination_is_outside(on: bool, list: &[u16], destination: Destination) -> bool
-    ensures { λ r. ⌜ r ≡ (on && destinationIsOutside (now (list .entry)) destination) ⌝ }
+fn is_in(choice: Choice, lists: &[u16], first: usize, address: u16) -> bool
+    requires { ⌜ first < 7 ⌝ }
+    ensures { λ r. ⌜ r ≡ isIn (chosen choice (two (listIn (now (lists .entry)) first) (listIn (now (lists .entry)) (first + 1)))) address ⌝ }
+{
+    let place = place_of(choice, first);
+    if place == lists::LISTS {
+        return false;
+    }
+    lists::has(&lists[..], place, address)
+}
+
+fn destination_is_outside(
+    choice: Choice,
+    lists: &[u16],
+    first: usize,
+    destination: Destination,
+) -> bool
+    requires { ⌜ first < 7 ⌝ }
+    ensures { λ r. ⌜ r ≡ destinationIsOutside (chosen choice (two (listIn (now (lists .entry)) first) (listIn (now (lists .entry)) (first + 1))))
+        destination ⌝ }
 {
     match destination {
         Destination::Everyone => false,
-        Destination::Address(address) => is_outside(on, list, address),
+        Destination::Address(address) => is_outside(choice, lists, first, address),
     }
 }
 
-fn destination_is_in(on: bool, list: &[u16], destination: Destination) -> bool
-    ensures { λ r. ⌜ r ≡ (on && destinationIsIn (now (list .entry)) destination) ⌝ }
+fn destination_is_in(choice: Choice, lists: &[u16], first: usize, destination: Destination) -> bool
+    requires { ⌜ first < 7 ⌝ }
+    ensures { λ r. ⌜ r ≡ destinationIsIn (chosen choice (two (listIn (now (lists .entry)) first) (listIn (now (lists .entry)) (first + 1)))) destination ⌝ }
 {
     match destination {
         Destination::Everyone => false,
-        Destination::Address(address) => is_in(on, list, address),
+        Destination::Address(address) => is_in(choice, lists, first, address),
     }
 }
 
@@ -97,68 +129,28 @@ fn is_for_another(own: u16, destination: Destination) -> bool
     }
 }
 
-// The numbers 31 to 34, or 0, of a PDU with that source and destination.
-fn pass_fault<'a>(
-    settings: Settings,
-    source_pass: &'a [u16],
-    source_reject: &'a [u16],
-    destination_pass: &'a [u16],
-    destination_reject: &'a [u16],
-    source: u16,
-    destination: Destination,
-) -> u8
-    ensures { λ r. ⌜ ((header : Header) → header .source ≡ source → header .destination ≡ destination
-        → r ≡ passFault (nodeOf settings (listsOf (now («source_pass» .entry)) (now («source_reject» .entry))
-        (now («destination_pass» .entry)) (now («destination_reject» .entry)))) header) ⌝ }
+// The numbers 31 to 34, or 0.
+fn pass_fault(settings: Settings, lists: &[u16], header: Header) -> u8
+    ensures { λ r. ⌜ r ≡ passFault (nodeOf settings (listsIn (now (lists .entry)))) header ⌝ }
 {
-    if is_outside(settings.source_pass, source_pass, source) {
+    let source_pass = settings.source_pass;
+    if is_outside(source_pass, lists, 0, header.source) {
         return 31;
     }
-    if is_in(settings.source_reject, source_reject, source) {
+    let source_reject = settings.source_reject;
+    if is_in(source_reject, lists, 2, header.source) {
         return 32;
     }
-    if destination_is_outside(settings.destination_pass, destination_pass, destination) {
+    let destination = header.destination;
+    let destination_pass = settings.destination_pass;
+    if destination_is_outside(destination_pass, lists, 4, destination) {
         return 33;
     }
-    if destination_is_in(settings.destination_reject, destination_reject, destination) {
+    let destination_reject = settings.destination_reject;
+    if destination_is_in(destination_reject, lists, 6, destination) {
         return 34;
     }
     0
-}
-
-// The number that the lists give, 31 to 34, for the source and the destination that bytes show, whether or not they can be read, and 0 where they let them
-// pass. A byte that is not there counts as 0. Document 01, "One PDU at one node", 4.
-pub fn listed_fault<'a>(
-    settings: Settings,
-    source_pass: &'a [u16],
-    source_reject: &'a [u16],
-    destination_pass: &'a [u16],
-    destination_reject: &'a [u16],
-    received: &[u8],
-) -> u8
-    ensures { λ r. ⌜ r ≡ passFault (nodeOf settings (listsOf (now («source_pass» .entry)) (now («source_reject» .entry))
-        (now («destination_pass» .entry)) (now («destination_reject» .entry)))) (headerOf (now (received .entry))) ⌝ }
-{
-    pass_fault(
-        settings,
-        source_pass,
-        source_reject,
-        destination_pass,
-        destination_reject,
-        octets::word(received, 4),
-        destination_in(received),
-    )
-}
-
-fn destination_in(received: &[u8]) -> Destination
-    ensures { λ r. ⌜ r ≡ destinationIn (now (received .entry)) ⌝ }
-{
-    let byte0 = octets::byte(received, 0);
-    if byte0 % 2 == 1 {
-        Destination::Address(octets::word(received, 6))
-    } else {
-        Destination::Everyone
-    }
 }
 
 // The number that echo suppression gives a PDU that was read: 30 where its path has the own address, then 42 where it is the node's own report, and 0 where
@@ -176,35 +168,17 @@ pub fn echo_fault(settings: Settings, header: Header, received: &[u8]) -> u8
     0
 }
 
-// The number that drops a PDU that was read: 30 where it is an echo, then 42 where it is the node's own report, then 31 to 34 by the lists, and 0 where
-// none is given. Any header, lists and bytes get a number; the path is looked for in `received`, and what lies past its end reads as 0. Document 01,
-// "One PDU at one node", 3 and 4; document 02, W-203.
-pub fn drop_fault<'a>(
-    settings: Settings,
-    source_pass: &'a [u16],
-    source_reject: &'a [u16],
-    destination_pass: &'a [u16],
-    destination_reject: &'a [u16],
-    header: Header,
-    received: &[u8],
-) -> u8
-    ensures { λ r. ⌜ r ≡ dropFault (nodeOf settings (listsOf (now («source_pass» .entry)) (now («source_reject» .entry))
-        (now («destination_pass» .entry)) (now («destination_reject» .entry)))) header (now (received .entry)) ⌝ }
+// The number that drops a PDU that was read: 30 where it is an echo, then 42 where it is the node's own report, then 31 to 34 by the lists chosen, and 0
+// where none is given. Any header, lists and bytes get a number; the path is looked for in `received`, and what lies past its end reads as 0. Document 01,
+// "One PDU at one node", 3 and 4; document 02, W-203 and W-211.
+pub fn drop_fault(settings: Settings, lists: &[u16], header: Header, received: &[u8]) -> u8
+    ensures { λ r. ⌜ r ≡ dropFault (nodeOf settings (listsIn (now (lists .entry)))) header (now (received .entry)) ⌝ }
 {
-    let echo = echo_fault(settings, header, received);
+    let echo = echo_fault(settings, header, &received[..]);
     if echo != 0 {
         return echo;
     }
-    let destination = header.destination;
-    pass_fault(
-        settings,
-        source_pass,
-        source_reject,
-        destination_pass,
-        destination_reject,
-        header.source,
-        destination,
-    )
+    pass_fault(settings, &lists[..], header)
 }
 
 // The number that keeps a PDU's payload from being delivered: 39 where it is for another address, then 35 with an added header, and 0 where it is

@@ -12,6 +12,7 @@ use Rattle.octets.specs.Octets.{AllBytes, over}
 use Rattle.pdu.specs.declared.Header.{Header}
 use Rattle.pdu.specs.declared.Reading.{Reading}
 use Rattle.pdu.specs.declared.Reading.the-variants.{Pdu, Refused}
+use Rattle.pdu.specs.declared.Sender.the-variants.{Unknown}
 use Rattle.pdu.specs.declared.Written.{Written}
 use Rattle.pdu.specs.Sizes.{pduLimit, pduLength}
 use Rattle.pdu.specs.Reading.{readOf}
@@ -20,12 +21,16 @@ use Rattle.writing.specs.Writing.{encode, writtenOf, outputOf, writeAgain, writ
 use Rattle.editions.specs.Editions.{known}
 use Rattle.origin.specs.declared.FreshSettings.{FreshSettings}
 use Rattle.origin.specs.Origination.{settingsFault, originationNumber, originated, originatedOutput}
+use Rattle.lists.specs.Lists.{listFault}
+use Rattle.lists.proofs.Laying.{holds-laid}
 use Rattle.decision.specs.Decision.{Node, repeatFault}
 use Rattle.node.specs.Repeat.{repeatedHeader, repeated}
 use Rattle.node.specs.declared.Answer.{Answer}
-use Rattle.node.specs.Answers.{listOrReadingFault, repeatNumber, answerOf, outputAfter}
+use Rattle.node.specs.Answers.{nodeFault, nodeOrReadingFault, repeatNumber, answerOf, twice, outputAfter, Hears}
+use Rattle.node.proofs.Faults.{unknown-fault, known-fault, fault-answer, fault-output}
 use Rattle.batch.specs.declared.Cursor.{Cursor}
 use Rattle.batch.specs.declared.Stepped.the-variants.{TooLong, Ended, Answered}
+use Rattle.batch.proofs.Stepping.{not-too-long}
 use Rattle.batch.specs.Walk.{batchLimit, isTooLong, isDone, nextCursor, stepOf, stepOutput, endingAt, walkFrom, walk}
 use Rattle.origin.proofs.ReadBack.{fresh-back}
 use Rattle.origin.proofs.Deciding.{edition-refused, hop-refused, refused-early}
@@ -68,7 +73,7 @@ step-as-was : (node : Node) (batch : List ℕ) (cursor : Cursor) (output : List 
     → ((answer : Answer) (next : Cursor) → stepOf node (length output) batch cursor ≡ Answered answer next → answer .repeat ≡ 0 → ⊥)
     → stepOutput node batch cursor output ≡ output
 unfolding stepOf stepOutput answerOf
-step-as-was node batch cursor output ne = go (isTooLong batch) (isDone batch cursor) ne
+step-as-was node batch cursor output ne = go (isTooLong (node .settings) batch) (isDone batch cursor) ne
   where
     go : (long done : Bool)
         → ((answer : Answer) (next : Cursor)
@@ -98,6 +103,11 @@ too-many-hops settings payload output h = go (known (settings .edition)) refl
     go true e = early 10 (hop-refused settings payload e h) (omega arith)
     go false e = early 17 (edition-refused settings payload e) (omega arith)
 
+-- a fault of the edition or of the lists
+refused : (node : Node) (received output : List ℕ) (n : ℕ) → (n ≡ 0 → ⊥) → nodeFault node ≡ n → Hears node received output (twice n 0 Unknown) output
+refused node received output n some fault =
+    (sym (fault-answer node n some fault received (length output)), sym (fault-output node n some fault received output))
+
 pub total : Demand1
 unfolding originated originatedOutput
 total =
@@ -107,6 +117,9 @@ total =
       writing-untouched = λ bytes output ne. writing-as-was bytes output ne;
       node-untouched = λ node received output ne. node-as-was node received output ne;
       step-untouched = λ node batch cursor output ne. step-as-was node batch cursor output ne;
+      edition-refused = λ node received output e. refused node received output 17 (omega arith) (unknown-fault node e);
+      lists-refused = λ node received output e some. refused node received output (listFault (node .lists)) some (known-fault node e);
+      any-lists = holds-laid;
     }
 
 again-same : (bytes output : List ℕ) (header : Header) → AllBytes bytes → readOf bytes ≡ Pdu header → pduLength header ≤ length output
@@ -140,7 +153,7 @@ repeat-back node room received header small e z =
 walk-answers : (node : Node) (room : ℕ) (batch : List ℕ)
     → walk node room batch .answers ≡ map (λ (offset : ℕ). answerOf node room (drop offset batch)) (walk node room batch .offsets)
 unfolding walk
-walk-answers node room batch = go (isTooLong batch)
+walk-answers node room batch = go (isTooLong (node .settings) batch)
   where
     go : (long : Bool)
         → cond long (endingAt 54 0) (walkFrom (length batch) node room batch 0) .answers
@@ -149,9 +162,9 @@ walk-answers node room batch = go (isTooLong batch)
     go false = walking.answers-at node room batch (length batch) 0
 
 walk-ends : (node : Node) (room : ℕ) (batch : List ℕ) → length batch ≤ batchLimit
-    → (length batch ≤ walk node room batch .end) ⊎ (listOrReadingFault node (drop (walk node room batch .end) batch) ≡ 0 → ⊥)
+    → (length batch ≤ walk node room batch .end) ⊎ (nodeOrReadingFault node (drop (walk node room batch .end) batch) ≡ 0 → ⊥)
 unfolding walk
-walk-ends node room batch short = rw (le-ltb batchLimit (length batch) short) (walking.walk-complete node room batch (length batch) 0 (omega arith))
+walk-ends node room batch short = rw (not-too-long node batch short) (walking.walk-complete node room batch (length batch) 0 (omega arith))
 
 pub exactly : Demand2
 exactly =

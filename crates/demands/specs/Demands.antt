@@ -1,6 +1,6 @@
 -- The three demands, each as one record; `proofs/Demands.antt` gives each of them and cites its parts.
 use Prim.Native.Nat.{ℕ, _+_, _*_, _<_, _≤_}
-use mathlib.Core.Bool.{false, cond}
+use mathlib.Core.Bool.{true, false, cond}
 use mathlib.Core.List.{List, [], _∷_, _++_, map, List·Memᴰ, List·Nodup}
 use mathlib.Core.Logic.{_⊎_}
 use mathlib.Core.Option.{none, some}
@@ -10,6 +10,7 @@ use Rattle.octets.specs.Octets.{AllBytes, over}
 use Rattle.pdu.specs.declared.Destination.the-variants.{Everyone}
 use Rattle.pdu.specs.declared.Header.{Header}
 use Rattle.pdu.specs.declared.Reading.the-variants.{Pdu}
+use Rattle.pdu.specs.declared.Sender.the-variants.{Unknown}
 use Rattle.pdu.specs.Header.{sourceOf}
 use Rattle.pdu.specs.Sizes.{pathLimit, pduLimit, pduLength}
 use Rattle.pdu.specs.Reading.{readOf}
@@ -18,10 +19,11 @@ use Rattle.writing.specs.Writing.{encode, writeAgain, writtenAgain, WellFormed}
 use Rattle.editions.specs.Editions.{known}
 use Rattle.origin.specs.declared.FreshSettings.{FreshSettings}
 use Rattle.origin.specs.Origination.{freshHeader, fresh, originationNumber, originated, originatedOutput}
-use Rattle.node.specs.declared.Answer.{Answer}
+use Rattle.lists.specs.Lists.{Lists, listFault, listsIn, laid}
 use Rattle.decision.specs.Decision.{Node}
+use Rattle.node.specs.declared.Answer.{Answer}
 use Rattle.node.specs.Repeat.{repeatedHeader, repeated}
-use Rattle.node.specs.Answers.{listOrReadingFault, repeatNumber, delivered, answerOf, outputAfter}
+use Rattle.node.specs.Answers.{nodeOrReadingFault, repeatNumber, delivered, answerOf, twice, outputAfter, Hears}
 use Rattle.batch.specs.declared.Cursor.{Cursor}
 use Rattle.batch.specs.declared.Stepped.the-variants.{Answered}
 use Rattle.batch.specs.Walk.{batchLimit, stepOf, stepOutput, walk, steps}
@@ -31,7 +33,7 @@ use Rattle.flood.specs.Complete.{Complete}
 use Rattle.flood.specs.Air.{Repeater, Nodes, Open, Originated, address, sends, pathOf, onTheAir, bytesOnTheAir, Begins, hopOf}
 
 -- Demand 1, total. That every public function answers any input, and how, are its contract and the theorems of crate `promises`, one for each function,
--- in the files named by the crates.
+-- in the files named by the crates. A node is any settings, of any edition number, and any eight lists.
 pub record Demand1 : Type 0 where
   -- a hop setting above 7 is refused, whatever else is set, with nothing written: with 10 under the editions that there are, else with 17 (document 02,
   -- W-209)
@@ -47,6 +49,14 @@ pub record Demand1 : Type 0 where
   pub step-untouched : (node : Node) (batch : List ℕ) (cursor : Cursor) (output : List ℕ)
       → ((answer : Answer) (next : Cursor) → stepOf node (length output) batch cursor ≡ Answered answer next → answer .repeat ≡ 0 → ⊥)
       → stepOutput node batch cursor output ≡ output
+  -- an edition that is not known is refused with 17 whatever the lists are, and lists with a fault with its number, whatever is chosen: given twice, nothing
+  -- is taken and the output is as it was (document 02, W-209 and W-211)
+  pub edition-refused : (node : Node) (received output : List ℕ) → known (node .settings .edition) ≡ false
+      → Hears node received output (twice 17 0 Unknown) output
+  pub lists-refused : (node : Node) (received output : List ℕ) → known (node .settings .edition) ≡ true → (listFault (node .lists) ≡ 0 → ⊥)
+      → Hears node received output (twice (listFault (node .lists)) 0 Unknown) output
+  -- any lent block holds eight lists, and any eight lists lie in some block; in 16-bit words, those of at most 65,535 values each
+  pub any-lists : (lists : Lists) → listsIn (laid lists) ≡ lists
 
 -- Demand 2, exact. The contracts say that reading, writing and the node's decision are the definitions; these say that the definitions fit together.
 pub record Demand2 : Type 0 where
@@ -82,11 +92,12 @@ pub record Demand2 : Type 0 where
   -- stepping over a batch gives exactly its walk
   pub stepping-walks : (node : Node) (room : ℕ) (batch : List ℕ)
       → steps node room batch (length batch) (record { place = 0; ended = false }) ≡ walk node room batch
-  -- each answer of a walk is the node's for the bytes at its offset, and it ends where no bytes are left or at a PDU that can't be read
+  -- each answer of a walk is the node's for the bytes at its offset, and it ends where no bytes are left, at a PDU that can't be read, or at
+  -- the first one with 17 or a list fault
   pub walk-answers : (node : Node) (room : ℕ) (batch : List ℕ)
       → walk node room batch .answers ≡ map (λ (offset : ℕ). answerOf node room (drop offset batch)) (walk node room batch .offsets)
   pub walk-ends : (node : Node) (room : ℕ) (batch : List ℕ) → length batch ≤ batchLimit
-      → (length batch ≤ walk node room batch .end) ⊎ (listOrReadingFault node (drop (walk node room batch .end) batch) ≡ 0 → ⊥)
+      → (length batch ≤ walk node room batch .end) ⊎ (nodeOrReadingFault node (drop (walk node room batch .end) batch) ≡ 0 → ⊥)
 
 -- Demand 3, bounded, over demand 2's rules, as document 02, W-203 has it: any nodes of different addresses with echo on, whatever their lists, settings
 -- and room, the originator among them or not; any message that origination wrote with a path; any receptions of transmissions already made, by the

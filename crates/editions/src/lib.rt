@@ -1,7 +1,7 @@
 // A PDU as an edition of the protocol shows it, over what the wire says.
 ghost use mathlib.Core.Path.{_≡_};
 ghost use lib.ListN.{length};
-ghost use Rattle.editions.specs.Editions.{known, bitsUnder, shownWith, readUnder, encryptedOf, reservedOf, wireOf};
+ghost use Rattle.editions.specs.Editions.{known, bitsUnder, shownWith};
 ghost use Rattle.editions.specs.Editions.{writeAgainUnder, writtenAgainUnder};
 use pdu::Destination;
 use pdu::Header;
@@ -30,7 +30,7 @@ pub struct Shown {
     pub path_count: u8,
 }
 
-// What reading under an edition answers: 17, then 1 to 6, where there is nothing to show.
+// What reading under an edition shows: 17, then 1 to 6, where there is nothing to show. Only definitions use it: `view` returns a summary.
 pub enum EditionReading {
     Pdu(Shown),
     Refused(u8),
@@ -43,25 +43,9 @@ pub fn is_known(edition: u64) -> bool
     if edition == 11 { true } else { edition == 12 }
 }
 
-// What an edition shows of the PDU at the start of `bytes`: 17 for an edition that is not known, then 1 to 6 where there is none. Any edition and bytes
-// get an answer; bytes after the PDU are not looked at. Document 01, "Header, byte by byte", and "Numbers answered", 1 to 6; document 02, W-209.
-pub fn read(edition: u64, bytes: &[u8]) -> EditionReading
-    ensures { λ r. ⌜ r ≡ readUnder edition (now (bytes .entry)) ⌝ }
-{
-    if !is_known(edition) {
-        return EditionReading::Refused(17);
-    }
-    let number = pdu::fault(bytes);
-    if number != 0 {
-        return EditionReading::Refused(number);
-    }
-    EditionReading::Pdu(shown_with(
-        bits_under(edition, octets::byte(bytes, 1)),
-        pdu::header_of(bytes),
-    ))
-}
-
-fn bits_under(edition: u64, byte1: u8) -> Bits
+// The three bits after the port as an edition shows them, by the byte that holds them; under any number but 11 as 1.2 does.
+// Document 02, W-209.
+pub fn bits_under(edition: u64, byte1: u8) -> Bits
     ensures { λ r. ⌜ r ≡ bitsUnder edition byte1 ⌝ }
 {
     if edition == 11 {
@@ -74,7 +58,8 @@ fn bits_under(edition: u64, byte1: u8) -> Bits
     }
 }
 
-fn shown_with(bits: Bits, header: Header) -> Shown
+// A header as it is shown with these bits in place of the wire's flag and reserved number. Document 02, W-209.
+pub fn shown_with(bits: Bits, header: Header) -> Shown
     ensures { λ r. ⌜ r ≡ shownWith bits header ⌝ }
 {
     let destination = header.destination;
@@ -92,49 +77,6 @@ fn shown_with(bits: Bits, header: Header) -> Shown
         destination,
         pdu_id: header.pdu_id,
         path_count: header.path_count,
-    }
-}
-
-// The wire's header of what was shown: the flag and the reserved number that the three bits are, the other fields as they are. Of a reserved number
-// above its bits, the bits that it has there. Document 02, W-209.
-pub fn wire_of(shown: Shown) -> Header
-    ensures { λ r. ⌜ r ≡ wireOf shown ⌝ }
-{
-    let bits = shown.bits;
-    let destination = shown.destination;
-    Header {
-        protocol: shown.protocol,
-        time_stamp_request: shown.time_stamp_request,
-        path_bit: shown.path_bit,
-        port: shown.port,
-        encrypted: encrypted_of(bits),
-        reserved: reserved_of(bits),
-        ack: shown.ack,
-        added_header: shown.added_header,
-        hop_limit: shown.hop_limit,
-        payload_length: shown.payload_length,
-        source: shown.source,
-        destination,
-        pdu_id: shown.pdu_id,
-        path_count: shown.path_count,
-    }
-}
-
-fn encrypted_of(bits: Bits) -> bool
-    ensures { λ r. ⌜ r ≡ encryptedOf bits ⌝ }
-{
-    match bits {
-        Bits::Reserved(number) => number / 4 % 2 == 1,
-        Bits::Flagged { encrypted, .. } => encrypted,
-    }
-}
-
-fn reserved_of(bits: Bits) -> u8
-    ensures { λ r. ⌜ r ≡ reservedOf bits ⌝ }
-{
-    match bits {
-        Bits::Reserved(number) => number % 4,
-        Bits::Flagged { reserved, .. } => reserved,
     }
 }
 

@@ -25,9 +25,11 @@ use Rattle.origin.specs.declared.FreshSettings.{FreshSettings}
 use Rattle.origin.specs.Origination.{freshHeader, fresh, originationNumber}
 use Rattle.origin.proofs.Deciding.{accepted}
 use Rattle.origin.proofs.ReadBack.{length-fresh}
+use Rattle.decision.proofs.Chosen.{outside-none, in-none}
 use Rattle.decision.specs.Decision.{isForOwn, echoFault, passFault, dropFault, repeatFault}
 use Rattle.node.specs.Repeat.{repeated, repeatedLength}
 use Rattle.node.specs.Answers.{repeatNumber}
+use Rattle.node.proofs.Faults.{no-fault}
 use Rattle.node.proofs.Heard.{not-member, will-repeat}
 use Rattle.flood.specs.Air.{Repeater, address, sends, pathOf, hopOf, onTheAir, bytesOnTheAir, Nodes, Open, Begins, Originated}
 use Rattle.flood.specs.Complete.{Complete}
@@ -63,6 +65,8 @@ module _ (first received : List ℕ) (n : Repeater) (free : Open (n .node)) (ech
         free .source-reject-off,
         free .destination-pass-off,
         free .destination-reject-off,
+        outside-none (headerOf received .destination),
+        in-none (headerOf received .destination),
       )
 
   -- with hops left, room in the path and in the output, and for another
@@ -84,8 +88,9 @@ module _ (first received : List ℕ) (n : Repeater) (free : Open (n .node)) (ech
     pub willing : sends n received ≡ some (repeated (address n) received)
     unfolding sends
     willing =
+        let clean = no-fault (n .node) (free .edition-known) (free .no-list-fault) in
         let zero : repeatNumber (n .node) (n .room) received ≡ 0 =
-        will-repeat (n .node) (n .room) received (headerOf received) (free .no-fault) (sound .reads) passes again room in
+        will-repeat (n .node) (n .room) received (headerOf received) clean (sound .reads) passes again room in
         rw zero
 
 -- the path has room: at most 255 nodes, or a hop limit below 7

@@ -15,13 +15,14 @@ use Rattle.pdu.specs.Header.{headerOf, sourceOf}
 use Rattle.pdu.specs.Reading.{readOf}
 use Rattle.pdu.specs.Parts.{addressesAt, inPath}
 use Rattle.writing.specs.Writing.{headerBytes, pathBytes, encode}
-use Rattle.lists.specs.Lists.{listsOf, lowAboveHigh, faultOf, firstFault}
+use Rattle.lists.specs.Lists.{two, lowAboveHigh, faultOf, firstFault}
 use Rattle.bound.specs.Bound.{fallingProduct, series, terms, bound, bytesBound}
 use Rattle.origin.specs.declared.FreshSettings.{FreshSettings}
 use Rattle.origin.specs.Origination.{freshHeader, fresh, settingsFault, originationNumber}
+use Rattle.decision.specs.declared.Choice.the-variants.{Neither}
 use Rattle.decision.specs.Decision.{nodeOf, echoFault, passFault, dropFault, repeatFault}
 use Rattle.node.specs.Repeat.{repeated}
-use Rattle.node.specs.Answers.{listOrReadingFault, stopFault, repeatNumber}
+use Rattle.node.specs.Answers.{nodeFault, nodeOrReadingFault, stopFault, repeatNumber}
 use Rattle.flood.specs.Air.{Repeater, address, sends, pathOf, onTheAir, Nodes, Open, Originated}
 use Rattle.flood.specs.Flood.{Reception, flood, answer, total, others}
 use Rattle.flood.proofs.Demand.{demand-3}
@@ -35,15 +36,16 @@ plain echo own =
       node =
           nodeOf
           (record {
+            edition = 12;
             own = own;
             echo = echo;
             repeating = true;
-            «source_pass» = false;
-            «source_reject» = false;
-            «destination_pass» = false;
-            «destination_reject» = false;
+            «source_pass» = Neither;
+            «source_reject» = Neither;
+            «destination_pass» = Neither;
+            «destination_reject» = Neither;
           })
-          (listsOf [] [] [] []);
+          (record { sourcePass = two [] []; sourceReject = two [] []; destinationPass = two [] []; destinationReject = two [] [] });
       room = 100;
     }
 
@@ -91,12 +93,13 @@ pub plain-open : (echo : Bool) (own : ℕ) → Open (plain echo own .node)
 unfolding firstFault faultOf lowAboveHigh _gives_ _orElse_
 plain-open echo own =
     record {
+      edition-known = refl;
       repeating-on = refl;
       source-pass-off = refl;
       source-reject-off = refl;
       destination-pass-off = refl;
       destination-reject-off = refl;
-      no-fault = refl;
+      no-list-fault = refl;
     }
 
 pub asked-taken : (hop : ℕ) → hop ≤ 7 → Originated (asked true hop) (0x70 ∷ []) 100
@@ -153,7 +156,7 @@ pub record Computed : Type 0 where
 
 pub computed : Computed
 unfolding bound bytesBound series fallingProduct terms total others air rounds round flood answer sends fresh freshHeader encode headerBytes pathBytes
-    repeated repeatNumber stopFault listOrReadingFault firstFault faultOf lowAboveHigh readOf headerOf dropFault echoFault passFault
+    repeated repeatNumber stopFault nodeOrReadingFault nodeFault firstFault faultOf lowAboveHigh readOf headerOf dropFault echoFault passFault
     repeatFault addressesAt inPath _gives_ _orElse_
 computed =
     record {

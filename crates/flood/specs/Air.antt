@@ -1,6 +1,6 @@
 -- Demand 3 over demand 2's rules: the nodes of a network, the PDU that begins a flood, and what goes out on the air. Assumes nothing.
 use mathlib.Core.Path.{_≡_}
-use mathlib.Core.Bool.{true, false, cond}
+use mathlib.Core.Bool.{true, cond}
 use mathlib.Core.Option.{Option, none, some}
 use mathlib.Core.List.{List, [], _∷_, map, List·Memᴰ, List·Nodup}
 use Prim.Native.Nat.{ℕ, _<_}
@@ -11,9 +11,11 @@ use Rattle.pdu.specs.declared.Destination.the-variants.{Address}
 use Rattle.pdu.specs.Header.{headerOf}
 use Rattle.pdu.specs.Reading.{exactlyOne}
 use Rattle.pdu.specs.Parts.{pathIn}
-use Rattle.lists.specs.Lists.{listFault}
+use Rattle.editions.specs.Editions.{known}
 use Rattle.origin.specs.declared.FreshSettings.{FreshSettings}
 use Rattle.origin.specs.Origination.{originationNumber}
+use Rattle.lists.specs.Lists.{listFault}
+use Rattle.decision.specs.declared.Choice.the-variants.{Neither}
 use Rattle.decision.specs.Decision.{Node}
 use Rattle.node.specs.Repeat.{repeated}
 use Rattle.node.specs.Answers.{repeatNumber}
@@ -47,22 +49,23 @@ onTheAir nodes first receptions = flood sends nodes (first ∷ []) receptions
 abbrev pub bytesOnTheAir : List Repeater → List ℕ → List Reception → ℕ
 bytesOnTheAir nodes first receptions = total length (onTheAir nodes first receptions)
 
--- Demand 3's nodes: different addresses, echo on; any address from 0 to 65,535 is allowed. Lists, repeating and room are as they may be. The originator,
--- the node at the source address, may be one of them (document 02, W-203).
+-- Demand 3's nodes: different addresses, echo on; any address from 0 to 65,535 is allowed. Edition, lists, repeating and room are as they may be. The
+-- originator, the node at the source address, may be one of them (document 02, W-203).
 pub record Nodes (nodes : List Repeater) : Type 0 where
   pub addresses-differ : List·Nodup (map address nodes)
   pub addresses-fit : (each : Repeater) → List·Memᴰ each nodes → address each < 65536
   pub echo-on : (each : Repeater) → List·Memᴰ each nodes → each .node .settings .echo ≡ true
 
--- A node whose settings and lists stop no PDU: repeating on, its lists off and without fault. What is left are echo, the hop limit, a full path, a PDU
--- for the node itself and the room.
+-- A node whose settings and lists stop no PDU: edition 1.1 or 1.2 (document 02, W-209), repeating on, all lists off and without fault. What is left are
+-- echo, the hop limit, a full path, a PDU for the node itself and the room.
 pub record Open (node : Node) : Type 0 where
+  pub edition-known : known (node .settings .edition) ≡ true
   pub repeating-on : node .settings .repeating ≡ true
-  pub source-pass-off : node .settings .«source_pass» ≡ false
-  pub source-reject-off : node .settings .«source_reject» ≡ false
-  pub destination-pass-off : node .settings .«destination_pass» ≡ false
-  pub destination-reject-off : node .settings .«destination_reject» ≡ false
-  pub no-fault : listFault (node .lists) ≡ 0
+  pub source-pass-off : node .settings .«source_pass» ≡ Neither
+  pub source-reject-off : node .settings .«source_reject» ≡ Neither
+  pub destination-pass-off : node .settings .«destination_pass» ≡ Neither
+  pub destination-reject-off : node .settings .«destination_reject» ≡ Neither
+  pub no-list-fault : listFault (node .lists) ≡ 0
 
 -- What begins a flood: bytes that are exactly one PDU, with the path bit and no address in its path. Its hop limit is the flood's.
 pub record Begins (first : List ℕ) : Type 0 where

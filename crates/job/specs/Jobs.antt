@@ -1,15 +1,17 @@
 -- Document 01, "The program `relay`": one job, from its first byte to its last. It is refused with the number of its first fault: 50, 51, 52, 54, or
 -- 20 for a range that is there whole; 53 comes after all of these.
 use Prim.Native.Nat.{ℕ, zero, suc, _+_, _*_, _/_, _%_}
-use mathlib.Core.Bool.{cond}
-use mathlib.Core.List.{List, _++_}
+use mathlib.Core.Bool.{Bool, true, false, cond}
+use mathlib.Core.List.{List, [], _++_}
 use lib.Dec.{eqb, ltb, leb}
 use lib.ListN.{length, take, drop, replicate}
 use Rattle.octets.specs.Numbers.{_gives_, _orElse_}
 use Rattle.octets.specs.Octets.{at, wordAt}
 use Rattle.batch.specs.Walk.{batchLimit}
 use Rattle.pdu.specs.Parts.{addressesAt}
-use Rattle.lists.specs.Lists.{rangeLimit, Lists, valueLimit}
+use Rattle.lists.specs.Lists.{rangeLimit, valueLimit, Lists, two}
+use Rattle.decision.specs.declared.Choice.{Choice}
+use Rattle.decision.specs.declared.Choice.the-variants.{First, Neither}
 use Rattle.decision.specs.declared.Settings.{Settings}
 use Rattle.decision.specs.Decision.{Node, nodeOf}
 use Rattle.job.specs.declared.JobHead.{JobHead}
@@ -64,12 +66,12 @@ abbrev pub takenOf : ℕ → ℕ → ℕ → Taken
 takenOf number place count = cond (eqb number 0) (taken.At (record { place = place; count = count })) (taken.Refused number)
 
 -- a list section at a place: a count byte and that many ranges of 4 bytes
-unfoldable pub listAt : List ℕ → ℕ → Taken
-listAt bytes place = takenOf (listNumber bytes place) (place + 1) (at bytes place)
+unfoldable pub listSection : List ℕ → ℕ → Taken
+listSection bytes place = takenOf (listNumber bytes place) (place + 1) (at bytes place)
 
 -- the batch section at a place: the batch, after its length in 2 bytes
-unfoldable pub batchAt : List ℕ → ℕ → Taken
-batchAt bytes place = takenOf (batchNumber bytes place) (place + 2) (wordAt bytes place)
+unfoldable pub batchSection : List ℕ → ℕ → Taken
+batchSection bytes place = takenOf (batchNumber bytes place) (place + 2) (wordAt bytes place)
 
 -- what follows a section, or its refusal
 abbrev pub thenSection : Taken → (Section → JobReading) → JobReading
@@ -83,11 +85,11 @@ listEnd section = section .place + 4 * section .count
 -- from byte 3 on: four list sections, the batch; nothing after it
 unfoldable pub sectionsOf : ℕ → ℕ → List ℕ → JobReading
 sectionsOf own flags bytes =
-    thenSection (listAt bytes 3)
-    (λ a. thenSection (listAt bytes (listEnd a))
-    (λ b. thenSection (listAt bytes (listEnd b))
-    (λ c. thenSection (listAt bytes (listEnd c))
-    (λ d. thenSection (batchAt bytes (listEnd d))
+    thenSection (listSection bytes 3)
+    (λ a. thenSection (listSection bytes (listEnd a))
+    (λ b. thenSection (listSection bytes (listEnd b))
+    (λ c. thenSection (listSection bytes (listEnd c))
+    (λ d. thenSection (batchSection bytes (listEnd d))
     (λ e. cond (ltb (e .place + e .count) (length bytes)) (reading.Refused 53)
     (reading.Job (record {
       own = own;
@@ -111,17 +113,27 @@ jobOf bytes = afterHead (jobHead bytes) bytes
 abbrev pub jobLimit : ℕ
 jobLimit = 3 + 4 * (1 + 4 * rangeLimit) + (2 + batchLimit)
 
+-- a kind of list that is on has the job's list, its first, chosen
+abbrev pub firstIf : Bool → Choice
+firstIf true = First
+firstIf false = Neither
+
+-- a job has no edition: `relay` uses 1.2 (document 02, W-209)
+abbrev pub jobEdition : ℕ
+jobEdition = 12
+
 -- the flags: bit 0 echo, 1 repeating, 2 source pass on, 3 source reject on, 4 destination pass on, 5 destination reject on
 unfoldable pub settingsOf : Job → Settings
 settingsOf job =
     record {
+      edition = jobEdition;
       own = job .own;
       echo = eqb (job .flags % 2) 1;
       repeating = eqb (job .flags / 2 % 2) 1;
-      «source_pass» = eqb (job .flags / 4 % 2) 1;
-      «source_reject» = eqb (job .flags / 8 % 2) 1;
-      «destination_pass» = eqb (job .flags / 16 % 2) 1;
-      «destination_reject» = eqb (job .flags / 32 % 2) 1;
+      «source_pass» = firstIf (eqb (job .flags / 4 % 2) 1);
+      «source_reject» = firstIf (eqb (job .flags / 8 % 2) 1);
+      «destination_pass» = firstIf (eqb (job .flags / 16 % 2) 1);
+      «destination_reject» = firstIf (eqb (job .flags / 32 % 2) 1);
     }
 
 -- a list's values, low and high of each range, most significant byte first
@@ -136,16 +148,16 @@ paddedValues values = take valueLimit (values ++ replicate valueLimit 0)
 abbrev pub batchIn : List ℕ → Job → List ℕ
 batchIn bytes job = take (job .batch .count) (drop (job .batch .place) bytes)
 
--- the four lists
-abbrev pub listsIn : List ℕ → Job → Lists
-listsIn bytes job =
+-- the lists of a job: each section is its kind's first list, and the second is empty (document 02, W-211)
+abbrev pub jobLists : List ℕ → Job → Lists
+jobLists bytes job =
     record {
-      sourcePass = valuesIn bytes (job .«source_pass»);
-      sourceReject = valuesIn bytes (job .«source_reject»);
-      destinationPass = valuesIn bytes (job .«destination_pass»);
-      destinationReject = valuesIn bytes (job .«destination_reject»);
+      sourcePass = two (valuesIn bytes (job .«source_pass»)) [];
+      sourceReject = two (valuesIn bytes (job .«source_reject»)) [];
+      destinationPass = two (valuesIn bytes (job .«destination_pass»)) [];
+      destinationReject = two (valuesIn bytes (job .«destination_reject»)) [];
     }
 
 -- the node of a job
 abbrev pub nodeIn : List ℕ → Job → Node
-nodeIn bytes job = nodeOf (settingsOf job) (listsIn bytes job)
+nodeIn bytes job = nodeOf (settingsOf job) (jobLists bytes job)

@@ -3,12 +3,12 @@ ghost use mathlib.Core.Path.{_≡_};
 ghost use Prim.Native.Nat.{_+_, _*_, _%_, _<_, _≤_, _^_};
 ghost use lib.Dec.{eqb, ltb};
 ghost use lib.ListN.{length, getD};
-ghost use Rattle.job.specs.Jobs.{headNumber, takenNumber, jobNumber, jobHead, rangesNumber, listAt, batchAt, listEnd, sectionsOf, jobOf};
+ghost use Rattle.job.specs.Jobs.{headNumber, takenNumber, jobNumber, jobHead, rangesNumber, listSection, batchSection, listEnd, sectionsOf, jobOf};
 ghost use Rattle.octets.specs.Numbers.{_gives_, _orElse_};
 ghost use Rattle.octets.specs.Octets.{IsPart};
 ghost use Rattle.lists.specs.Lists.{valueLimit};
 ghost use Rattle.batch.specs.Walk.{batchLimit};
-ghost use Rattle.job.specs.Jobs.{settingsOf, valuesIn, paddedValues};
+ghost use Rattle.job.specs.Jobs.{firstIf, settingsOf, valuesIn, paddedValues};
 
 // Own address and flags, or the number they were refused with.
 enum JobHead {
@@ -118,7 +118,7 @@ fn ranges_number(bytes: &[u8], start: usize, count: usize) -> u8
 // from left to right. A count of 0 is an empty list, and a place past the end is a section cut short.
 // Document 01, "The program `relay`", a list section.
 pub fn list_at(bytes: &[u8], place: usize) -> Taken
-    ensures { λ r. ⌜ r ≡ listAt (now (bytes .entry)) place ⌝ }
+    ensures { λ r. ⌜ r ≡ listSection (now (bytes .entry)) place ⌝ }
 {
     if bytes.len() <= place {
         return Taken::Refused(50);
@@ -143,7 +143,7 @@ pub fn list_at(bytes: &[u8], place: usize) -> Taken
 // length of 0 is an empty batch. What follows the batch is not looked at.
 // Document 01, "The program `relay`", the batch after its length.
 pub fn batch_at(bytes: &[u8], place: usize) -> Taken
-    ensures { λ r. ⌜ r ≡ batchAt (now (bytes .entry)) place ⌝ }
+    ensures { λ r. ⌜ r ≡ batchSection (now (bytes .entry)) place ⌝ }
 {
     if bytes.len() < 2 {
         return Taken::Refused(50);
@@ -238,20 +238,35 @@ fn is_odd(x: u8) -> bool
     x % 2 == 1
 }
 
+// The list that the lowest bit of a number chooses: the first where it is set, else none.
+fn first_if_odd(x: u8) -> decision::Choice
+    ensures { λ r. ⌜ r ≡ firstIf (eqb (x % 2) 1) ⌝ }
+{
+    if x % 2 == 1 {
+        decision::Choice::First
+    } else {
+        decision::Choice::Neither
+    }
+}
+
+// A job has no edition: `relay` uses 1.2. What it prints is the same under 1.1. Document 02, W-209.
+const EDITION: u64 = 12;
+
 impl Job {
-    // What the job's own address and flags set a node to. Flags above 63, which no job that was read has, count by their lower six bits.
-    // Document 01, "The program `relay`", the flags.
+    // What the job's own address and flags set a node to: edition 1.2, and of each kind that is on the first list. Flags above 63, which no job that was read
+    // has, count by their lower six bits. Document 01, "The program `relay`", the flags.
     pub fn settings(self) -> decision::Settings
         ensures { λ r. ⌜ r ≡ settingsOf self ⌝ }
     {
         decision::Settings {
+            edition: EDITION,
             own: self.own,
             echo: is_odd(self.flags),
             repeating: is_odd(self.flags / 2),
-            source_pass: is_odd(self.flags / 4),
-            source_reject: is_odd(self.flags / 8),
-            destination_pass: is_odd(self.flags / 16),
-            destination_reject: is_odd(self.flags / 32),
+            source_pass: first_if_odd(self.flags / 4),
+            source_reject: first_if_odd(self.flags / 8),
+            destination_pass: first_if_odd(self.flags / 16),
+            destination_reject: first_if_odd(self.flags / 32),
         }
     }
 }

@@ -1,14 +1,9 @@
 // Header and payload of a PDU, each in bytes of its own, read as if they were joined.
-use octets::byte_value;
-use pdu::Header;
+use pdu::fields;
 ghost use mathlib.Core.Path.{_≡_};
-ghost use mathlib.Core.Bool.{not, _&&_};
 ghost use mathlib.Core.List.{_++_};
-ghost use Prim.Native.Nat.{_≤_};
-ghost use lib.Dec.{eqb};
 ghost use Rattle.octets.specs.Octets.{at};
-ghost use Rattle.pdu.specs.Header.{isSet, protocol, destinationBit, payloadLength, pathCountPlace, pathCountIn, headerOf};
-ghost use Rattle.pdu.specs.Sizes.{payloadLimit, headerLimit, headerLength};
+ghost use Rattle.pdu.specs.Header.{pathCountIn};
 ghost use Rattle.joined.specs.Joined.{joinedNumber};
 
 // Byte `i` of the two joined, and 0 past the end.
@@ -22,51 +17,15 @@ fn joined_byte(header: &[u8], payload: &[u8], i: usize) -> u8
     }
 }
 
-// Where the path count stands, if there is one.
-fn count_place(byte0: u8) -> usize
-    ensures { λ r. ⌜ (r ≡ pathCountPlace byte0) × (r ≤ 9) ⌝ }
-{
-    Header::FIXED_LENGTH + 2 * byte_value(byte0 % 2) + byte_value(octets::flag(byte0 / 8 % 8 == 1))
-}
-
+// The path count that the two joined show.
 fn joined_count(header: &[u8], payload: &[u8], byte0: u8) -> u8
     requires { ⌜ byte0 ≡ at (now header ++ now payload) 0 ⌝ }
     ensures { λ r. ⌜ r ≡ pathCountIn (now (header .entry) ++ now (payload .entry)) ⌝ }
 {
     if byte0 / 2 % 2 == 1 {
-        joined_byte(header, payload, count_place(byte0))
+        joined_byte(header, payload, fields::path_count_place(byte0))
     } else {
         0
-    }
-}
-
-// The header's length that the two joined show: byte 0 and the path count tell it.
-fn joined_header_length(header: &[u8], payload: &[u8], byte0: u8) -> usize
-    requires { ⌜ byte0 ≡ at (now header ++ now payload) 0 ⌝ }
-    ensures { λ r. ⌜ (r ≡ headerLength (headerOf (now (header .entry) ++ now (payload .entry)))) × (r ≤ headerLimit) ⌝ }
-{
-    count_place(byte0)
-        + byte_value(byte0 / 2 % 2)
-        + 2 * byte_value(joined_count(header, payload, byte0))
-}
-
-// The payload's length that the two joined show.
-fn joined_payload_length(header: &[u8], payload: &[u8]) -> usize
-    ensures { λ r. ⌜ (r ≡ payloadLength (at (now (header .entry) ++ now (payload .entry)) 2) (at (now (header .entry) ++ now (payload .entry)) 3))
-        × (r ≤ payloadLimit) ⌝ }
-{
-    byte_value(joined_byte(header, payload, 2) % 16) * 256
-        + byte_value(joined_byte(header, payload, 3))
-}
-
-// Reliable service without a destination.
-fn no_destination(byte0: u8) -> bool
-    ensures { λ r. ⌜ r ≡ (eqb (protocol byte0) 1 && not (isSet (destinationBit byte0))) ⌝ }
-{
-    if byte0 / 8 % 8 == 1 {
-        byte0 % 2 != 1
-    } else {
-        false
     }
 }
 
@@ -76,26 +35,21 @@ pub fn joined_number(header: &[u8], payload: &[u8]) -> u8
     ensures { λ r. ⌜ r ≡ joinedNumber (now (header .entry)) (now (payload .entry)) ⌝ }
 {
     let total = header.len() + payload.len();
-    if total < Header::FIXED_LENGTH {
-        return 1;
-    }
     let byte0 = joined_byte(header, payload, 0);
-    if byte0 / 64 != 0 {
-        return 2;
+    let start = fields::start_fault(total, byte0);
+    if start != 0 {
+        return start;
     }
-    if 1 < byte0 / 8 % 8 {
-        return 3;
-    }
-    if no_destination(byte0) {
-        return 4;
-    }
-    let header_length = joined_header_length(header, payload, byte0);
-    if total < header_length {
-        return 5;
-    }
-    let pdu_length = header_length + joined_payload_length(header, payload);
-    if total < pdu_length {
-        return 6;
+    let path_count = joined_count(header, payload, byte0);
+    let payload_length = fields::payload_length(
+        joined_byte(header, payload, 2),
+        joined_byte(header, payload, 3),
+    );
+    let header_length = fields::header_length_in(byte0, path_count);
+    let pdu_length = header_length + octets::word_value(payload_length);
+    let end = fields::end_fault(total, header_length, pdu_length);
+    if end != 0 {
+        return end;
     }
     if header_length != header.len() {
         return 63;

@@ -25,10 +25,10 @@ use Rattle.editions.specs.Editions.{wireOf}
 use Rattle.origin.specs.declared.FreshSettings.{FreshSettings}
 use Rattle.origin.specs.Origination.{freshHeader, fresh, originationNumber, originatedOutput}
 use Rattle.origin.proofs.ReadBack.{fresh-back, fresh-sender}
-use Rattle.lists.specs.Lists.{listFault, lowAboveHigh, faultOf, firstFault, holds}
+use Rattle.lists.specs.Lists.{lowAboveHigh, faultOf, firstFault, holds}
 use Rattle.decision.specs.Decision.{Node, echoFault, passFault, dropFault, deliveryFault, repeatFault}
 use Rattle.node.specs.Repeat.{repeated}
-use Rattle.node.specs.Answers.{listOrReadingFault, stopFault, deliveryNumber, repeatNumber, taken, heardFrom, answerOf}
+use Rattle.node.specs.Answers.{nodeFault, nodeOrReadingFault, stopFault, deliveryNumber, repeatNumber, taken, heardFrom, answerOf}
 use Rattle.node.proofs.Neighbour.{carried, carried-from-30, not-carried, heard, sent-by, sent-unknown, sent-shown, neighbour}
 use Rattle.text.specs.Text.{digit, decimalWithin, decimal}
 use Rattle.lines.specs.Lines.{shown, pduLine}
@@ -81,7 +81,7 @@ unfolding originatedOutput over
 written settings payload output done = rw done
 
 of-a-fresh : (settings : FreshSettings) (payload output : List ℕ) (installer : Node) (room : ℕ)
-    → originationNumber settings payload (length output) ≡ 0 → settings .«with_path» ≡ true → listFault (installer .lists) ≡ 0
+    → originationNumber settings payload (length output) ≡ 0 → settings .«with_path» ≡ true → nodeFault installer ≡ 0
     → answerOf installer room (originatedOutput settings payload output) .«last_sender» ≡ Known (settings .source)
 of-a-fresh settings payload output installer room done bit clean =
     let rest = drop (length (fresh settings payload)) output in
@@ -104,8 +104,8 @@ given-back (Known address) = refl
 
 pub last-sender : LastSender
 unfolding pduLine shown decimal decimalWithin digit
-    repeated repeatNumber deliveryNumber stopFault listOrReadingFault firstFault faultOf lowAboveHigh holds readOf headerOf dropFault echoFault passFault
-    deliveryFault repeatFault taken heardFrom answerOf addressesAt inPath lastOr _gives_ _orElse_
+    repeated repeatNumber deliveryNumber stopFault nodeOrReadingFault nodeFault firstFault faultOf lowAboveHigh holds readOf headerOf dropFault echoFault
+    passFault deliveryFault repeatFault taken heardFrom answerOf addressesAt inPath lastOr _gives_ _orElse_
 last-sender =
     record {
       unknown = sender-unknown;
@@ -124,7 +124,7 @@ last-sender =
           sent-shown node room received small again rest ∙ sent-unknown node room received small again rest none;
       neighbour = neighbour;
       of-a-fresh = of-a-fresh;
-      summary-tells = λ bytes header. refl;
+      summary-tells = λ bytes shown. refl;
       header-tells = λ bytes shown. (header-flag bytes shown, given-back (lastSender (wireOf shown) bytes));
       answer-tells = λ answer. given-back (answer .«last_sender»);
       line-known = refl;

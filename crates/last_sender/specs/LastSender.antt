@@ -20,12 +20,11 @@ use Rattle.editions.specs.declared.EditionReading.the-variants as edition-readi
 use Rattle.editions.specs.Editions.{wireOf}
 use Rattle.origin.specs.declared.FreshSettings.{FreshSettings}
 use Rattle.origin.specs.Origination.{originationNumber, originatedOutput}
-use Rattle.lists.specs.Lists.{listFault}
 use Rattle.decision.specs.Decision.{Node}
 use Rattle.node.specs.Repeat.{repeated}
-use Rattle.node.specs.Answers.{listOrReadingFault, deliveryNumber, repeatNumber, answerOf, outputAfter}
+use Rattle.node.specs.Answers.{nodeFault, nodeOrReadingFault, deliveryNumber, repeatNumber, answerOf, outputAfter}
 use Rattle.node.specs.declared.Answer.{Answer}
-use Rattle.view.specs.View.{placesOf, summaryAt}
+use Rattle.view.specs.View.{summaryOf}
 use Rattle.text.specs.Text.{text}
 use Rattle.lines.specs.Lines.{pduLine}
 use Rattle.boundary.specs.Boundary.{senderFromC, headerInC, answerInC, answerFromC}
@@ -61,12 +60,12 @@ pub record LastSender : Type 0 where
   -- it is the PDU's: what follows it in the bytes changes nothing
   pub of-the-pdu : (bytes rest : List ℕ) (header : Header) → readOf bytes ≡ Pdu header
       → lastSender header (take (pduLength header) bytes ++ rest) ≡ lastSender header bytes
-  -- the node's answer carries it whenever the PDU was read, so with every number from 30 on; not with a list's fault, nor with 1 to 6
-  pub carried : (node : Node) (room : ℕ) (received : List ℕ) → listOrReadingFault node received ≡ 0
+  -- the node's answer carries it whenever the PDU was read, so with every number from 30 on; not with 17, a list's fault or 1 to 6
+  pub carried : (node : Node) (room : ℕ) (received : List ℕ) → nodeOrReadingFault node received ≡ 0
       → answerOf node room received .«last_sender» ≡ lastSender (headerOf received) received
   pub carried-from-30 : (node : Node) (room : ℕ) (received : List ℕ) → 30 ≤ deliveryNumber node room received
       → answerOf node room received .«last_sender» ≡ lastSender (headerOf received) received
-  pub not-carried : (node : Node) (room : ℕ) (received : List ℕ) → (listOrReadingFault node received ≡ 0 → ⊥)
+  pub not-carried : (node : Node) (room : ℕ) (received : List ℕ) → (nodeOrReadingFault node received ≡ 0 → ⊥)
       → answerOf node room received .«last_sender» ≡ Unknown
   -- a PDU line of `relay`: the sixth field is the address in decimal, 0 too, or `-`
   pub line-known : pduLine 1 0 0 37 [] (Known 0) ≡ text "1 0 0 37 - 0\n"
@@ -81,15 +80,15 @@ pub record LastSender : Type 0 where
       → lastSender (headerOf (repeated (node .settings .own) received ++ rest)) (repeated (node .settings .own) received ++ rest) ≡ Unknown
   -- so an installer who hears what a repeater left in its output, whatever stands behind it, hears that neighbour's name
   pub neighbour : (repeater installer : Node) (received output : List ℕ) (room : ℕ) → AllBytes received
-      → repeatNumber repeater (length output) received ≡ 0 → headerOf received .«path_bit» ≡ true → listFault (installer .lists) ≡ 0
+      → repeatNumber repeater (length output) received ≡ 0 → headerOf received .«path_bit» ≡ true → nodeFault installer ≡ 0
       → answerOf installer room (outputAfter repeater received output) .«last_sender» ≡ Known (repeater .settings .own)
   -- and of a fresh PDU with a path, its source's
   pub of-a-fresh : (settings : FreshSettings) (payload output : List ℕ) (installer : Node) (room : ℕ)
-      → originationNumber settings payload (length output) ≡ 0 → settings .«with_path» ≡ true → listFault (installer .lists) ≡ 0
+      → originationNumber settings payload (length output) ≡ 0 → settings .«with_path» ≡ true → nodeFault installer ≡ 0
       → answerOf installer room (originatedOutput settings payload output) .«last_sender» ≡ Known (settings .source)
   -- III. BESIDE OTHER REQUESTS, AND IN C
   -- reading tells it: the summary of what was read, and C's header; C's flag is the path bit, and flag and address give it back
-  pub summary-tells : (bytes : List ℕ) (header : Header) → summaryAt bytes (placesOf (Pdu header)) .«last_sender» ≡ lastSender (headerOf bytes) bytes
+  pub summary-tells : (bytes : List ℕ) (shown : Shown) → summaryOf (edition-reading.Pdu shown) bytes .«last_sender» ≡ lastSender (wireOf shown) bytes
   pub header-tells : (bytes : List ℕ) (shown : Shown) → let header = headerInC (edition-reading.Pdu shown) bytes in
       (header .«has_last_sender» ≡ shown .«path_bit»)
       × (senderFromC (header .«has_last_sender») (header .«last_sender») ≡ lastSender (wireOf shown) bytes)

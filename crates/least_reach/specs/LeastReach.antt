@@ -1,19 +1,20 @@
 -- Document 02, W-208, as one record; `proofs/LeastReach.antt` gives it from its parts.
 use Prim.Native.Nat.{ℕ, _≤_}
 use mathlib.Core.Bool.{Bool, true, false, cond}
-use mathlib.Core.List.{List, [], _∷_, map}
+use mathlib.Core.List.{List, [], _∷_, map, List·Memᴰ}
+use mathlib.Core.Logic.{_≢_}
 use mathlib.Core.Option.{none, some}
 use mathlib.Core.Path.{_≡_}
 use lib.Dec.{eqb}
 use lib.ListN.{length, take, drop, getElem?}
+use Rattle.editions.specs.Editions.{known}
 use Rattle.chains.specs.Chains.{ends}
 use Rattle.chains.specs.Lengths.{isHeard, LengthsFound}
 use Rattle.origin.specs.declared.FreshSettings.{FreshSettings}
 use Rattle.origin.specs.Origination.{fresh}
 use Rattle.node.specs.declared.Answer.{Answer}
 use Rattle.node.specs.Repeat.{repeated}
-use Rattle.editions.specs.Editions.{known}
-use Rattle.hearing.specs.Hearing.{answerUnder, HearsUnder}
+use Rattle.node.specs.Answers.{answerOf, Hears}
 use Rattle.flood.specs.Flood.{Reception}
 use Rattle.flood.specs.Air.{Repeater, address, sends, onTheAir}
 use Rattle.coverage.specs.Hearing.{TakenByAll, ByNoOther}
@@ -42,19 +43,18 @@ pub record LeastReach : Type 0 where
       → Told nodes settings payload receptions lengths
   -- a pair is a sender's place, and then the place of a node that hears it
   pub pair : (isHeard (1 ∷ 2 ∷ []) 1 2 ≡ true) × (isHeard (1 ∷ 2 ∷ []) 2 1 ≡ false)
-  -- the nodes have edition 1.1 or 1.2 each, as their addresses say (W-209). A node of the model delivers what its function `hear` answers under its
-  -- edition: number 0, and the payload at the answer's place, and no other; and it sends where that answer's repeat number is 0
-  pub answered : (editionOf : ℕ → ℕ) (n : Repeater) (received output left payload : List ℕ) (answer : Answer)
-      → known (editionOf (address n)) ≡ true → length output ≡ n .room
-      → HearsUnder (editionOf (address n)) (n .node) received output answer left → Delivers n received payload
+  -- a node of the model delivers what its function `hear` returns: number 0, and the payload at the place that the answer names, and no other; and it sends
+  -- where the repeat number is 0. Its edition is 1.1 or 1.2, which `Planned` asks of each node but the originator (W-209)
+  pub answered : (n : Repeater) (received output left payload : List ℕ) (answer : Answer) → length output ≡ n .room
+      → Hears (n .node) received output answer left → Delivers n received payload
       → (answer .delivery ≡ 0) × (take (answer .«delivered_length») (drop (answer .«delivered_place») received) ≡ payload)
-  pub answered-only : (editionOf : ℕ → ℕ) (n : Repeater) (received output left : List ℕ) (answer : Answer)
-      → known (editionOf (address n)) ≡ true → length output ≡ n .room
-      → HearsUnder (editionOf (address n)) (n .node) received output answer left → answer .delivery ≡ 0
+  pub answered-only : (n : Repeater) (received output left : List ℕ) (answer : Answer) → length output ≡ n .room
+      → Hears (n .node) received output answer left → answer .delivery ≡ 0
       → Delivers n received (take (answer .«delivered_length») (drop (answer .«delivered_place») received))
-  pub sent : (editionOf : ℕ → ℕ) (n : Repeater) (received : List ℕ) → known (editionOf (address n)) ≡ true
-      → sends n received
-      ≡ cond (eqb (answerUnder (editionOf (address n)) (n .node) (n .room) received .repeat) 0) (some (repeated (address n) received)) none
+  pub sent : (n : Repeater) (received : List ℕ)
+      → sends n received ≡ cond (eqb (answerOf (n .node) (n .room) received .repeat) 0) (some (repeated (address n) received)) none
+  pub edition-known : (nodes : List Repeater) (settings : FreshSettings) (payload : List ℕ) (room : ℕ) → Planned nodes settings payload room
+      → (n : Repeater) → List·Memᴰ n nodes → address n ≢ settings .source → known (n .node .settings .edition) ≡ true
   -- IV. WORKED CASES
   -- a line of eight nodes, one-way, hop limits 0 to 6: the run is such as is asked, what goes out, who is delivered it and with what count. Hop limit h
   -- reaches h + 1 hearings and no further, which are h + 1 nodes here

@@ -21,12 +21,3 @@ module _ (answer : Answer) (received memory : List ℕ) where
   counts-one heard number after e eh c =
       let some = ne-eqb (answer .taken) 0 e in
       (rw some (c .0 ∙ ap (λ (h : Heard). countNumber h memory) eh), rw some (c .1 ∙ ap (λ (h : Heard). memoryAfterCount h memory) eh))
-
--- an answer that is the node's
-pub counts-of : (answer node-answer : Answer) (received memory after : List ℕ) (number : ℕ) → answer ≡ node-answer
-    → (number ≡ answerNumber answer received memory) × (after ≡ memoryAfterAnswer answer received memory)
-    → (number ≡ answerNumber node-answer received memory) × (after ≡ memoryAfterAnswer node-answer received memory)
-counts-of answer node-answer received memory after number e c = (
-  c .0 ∙ ap (λ (a : Answer). answerNumber a received memory) e,
-  c .1 ∙ ap (λ (a : Answer). memoryAfterAnswer a received memory) e,
-)

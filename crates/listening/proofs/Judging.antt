@@ -11,29 +11,29 @@ use Rattle.pdu.specs.Header.{headerOf}
 use Rattle.pdu.specs.Sizes.{pduLength}
 use Rattle.decision.specs.Decision.{Node, isEcho, isOwnReport, echoFault}
 use Rattle.decision.proofs.Dropping.{drops-30, drops-42}
-use Rattle.node.specs.Answers.{listOrReadingFault, taken, answerOf}
+use Rattle.node.specs.Answers.{nodeOrReadingFault, taken, answerOf}
 use Rattle.node.proofs.Chain.{holds-stop, holds-delivery}
 use Rattle.node.proofs.Heard.{dropped-delivery}
 use Rattle.listening.specs.Listening.{wasRead, isEchoNumber, heardOf}
 
--- a PDU was read where no list is at fault and reading refused nothing, and nowhere else
-pub read-judged : (node : Node) (room : ℕ) (received : List ℕ) → listOrReadingFault node received ≡ 0 → wasRead (answerOf node room received) ≡ true
+-- a PDU was read where the edition is known, no list is at fault and reading refused nothing, and nowhere else
+pub read-judged : (node : Node) (room : ℕ) (received : List ℕ) → nodeOrReadingFault node received ≡ 0 → wasRead (answerOf node room received) ≡ true
 unfolding answerOf taken
 read-judged node room received e =
     let some : pduLength (headerOf received) ≡ 0 → ⊥ = λ z. omega arith in
     rw (e, ne-eqb (pduLength (headerOf received)) 0 some)
 
-pub unread-judged : (node : Node) (room : ℕ) (received : List ℕ) → wasRead (answerOf node room received) ≡ true → listOrReadingFault node received ≡ 0
+pub unread-judged : (node : Node) (room : ℕ) (received : List ℕ) → wasRead (answerOf node room received) ≡ true → nodeOrReadingFault node received ≡ 0
 unfolding answerOf taken
-unread-judged node room received = go (eqb (listOrReadingFault node received) 0) refl
+unread-judged node room received = go (eqb (nodeOrReadingFault node received) 0) refl
   where
-    go : (t : Bool) → eqb (listOrReadingFault node received) 0 ≡ t → not (eqb (cond t (pduLength (headerOf received)) 0) 0) ≡ true
-        → listOrReadingFault node received ≡ 0
-    go true f e = eqb-true (listOrReadingFault node received) 0 f
+    go : (t : Bool) → eqb (nodeOrReadingFault node received) 0 ≡ t → not (eqb (cond t (pduLength (headerOf received)) 0) 0) ≡ true
+        → nodeOrReadingFault node received ≡ 0
+    go true f e = eqb-true (nodeOrReadingFault node received) 0 f
     go false f e = absurd (subst T (sym e) tt)
 
 -- and an echo is one that echo dropped, by its path or by its source
-pub echo-judged : (node : Node) (room : ℕ) (received : List ℕ) → listOrReadingFault node received ≡ 0
+pub echo-judged : (node : Node) (room : ℕ) (received : List ℕ) → nodeOrReadingFault node received ≡ 0
     → heardOf (answerOf node room received) received .echo
     ≡ (isEcho (node .settings) (headerOf received) received || isOwnReport (node .settings) (headerOf received))
 unfolding answerOf echoFault

@@ -2,16 +2,11 @@
 use Prim.Native.Nat.{ℕ}
 use mathlib.Core.Bool.{Bool, not, cond, _||_}
 use mathlib.Core.List.{List}
-use mathlib.Core.Path.{_≡_}
 use lib.Dec.{eqb}
-use lib.ListN.{length}
 use Rattle.pdu.specs.Header.{headerOf}
 use Rattle.node.specs.declared.Answer.{Answer}
-use Rattle.decision.specs.Decision.{Node}
-use Rattle.node.specs.Answers.{answerOf, Hears}
 use Rattle.counting.specs.declared.Heard.{Heard}
 use Rattle.counting.specs.Counting.{countNumber, memoryAfterCount}
-use Rattle.listening.specs.declared.Listened.{Listened}
 
 -- a PDU was read where the answer says where the next one begins ("A batch"); it does not with 17 (W-209), with a list's fault and with 1 to 6
 abbrev pub wasRead : Answer → Bool
@@ -37,10 +32,3 @@ answerNumber answer received memory = cond (wasRead answer) (countNumber (heardO
 
 unfoldable pub memoryAfterAnswer : Answer → List ℕ → List ℕ → List ℕ
 memoryAfterAnswer answer received memory = cond (wasRead answer) (memoryAfterCount (heardOf answer received) memory) memory
-
--- hearing a PDU and counting it: the node's answer and output are as without a table
-abbrev pub Listens : Node → List ℕ → List ℕ → List ℕ → Listened → List ℕ → List ℕ → Type 0
-Listens node received output memory listened left after =
-    Hears node received output (listened .answer) left
-    × (listened .«table_number» ≡ answerNumber (answerOf node (length output) received) received memory)
-    × (after ≡ memoryAfterAnswer (answerOf node (length output) received) received memory)

@@ -1,6 +1,6 @@
 -- The laws of the list check and of membership, for the loops that go through a list and for callers.
-use Prim.Native.Nat.{ℕ, zero, suc, _+_, _*_, _%_, _<_, _≤_}
-use mathlib.Core.Path.{_≡_, refl, _∙_}
+use Prim.Native.Nat.{ℕ, zero, suc, _+_, _-_, _*_, _%_, _<_, _≤_, min}
+use mathlib.Core.Path.{_≡_, refl, ap, _∙_}
 use mathlib.Core.Bool.{Bool, true, false, _&&_, _||_, false≢true, or-true}
 use mathlib.Core.Logic.{_⊎_, inl, inr, ⊎-elim}
 use mathlib.Core.List.{List, [], _∷_}
@@ -8,19 +8,25 @@ use native.Mathlib.Numerals.{add-one}
 use native.Mathlib.Omega.{arith}
 use borrow.Author.Tests.{lt-ltb, le-ltb, le-leb, lt-leb, leb-true, eq-eqb, ne-eqb}
 use lib.Dec.{leb}
-use lib.ListN.{length, getD, drop, drop-of-length-le, length-drop}
-use lib.Seq.{drop-cons}
+use lib.ListN.{List·getD-eq-default, length, getD, take, drop, drop-of-length-le, length-take, length-drop}
+use lib.Seq.{drop-cons, take-nil, getD-take, getD-drop}
 use Rattle.octets.specs.Numbers.{_gives_, _orElse_}
 use Rattle.octets.proofs.Numbering.{gives-here, gives-later}
+use Rattle.octets.specs.Octets.{at}
 use Rattle.octets.proofs.Tests.{both}
-use Rattle.lists.specs.Lists.{lowAboveHigh, faultOf, firstFault, holds}
+use Rattle.lists.specs.declared.ListFault.{ListFault}
+use Rattle.lists.specs.Lists.{lowAboveHigh, faultOf, firstFault, firstAtFault, holds, inOrder, startOf, listAt, listsIn, listIn}
 
 -- What is left to look at from a place on.
 unfoldable pub rangeFaultFrom : List ℕ → ℕ → ℕ
 rangeFaultFrom list i = lowAboveHigh (drop i list) gives 20
 
-unfoldable pub firstFaultFrom : List (List ℕ) → ℕ → ℕ
-firstFaultFrom lists k = firstFault (drop k lists)
+unfoldable pub toldFrom : List (List ℕ) → ℕ → ListFault
+toldFrom lists k = record { number = firstFault (drop k lists); list = k + firstAtFault (drop k lists) }
+
+-- The same number and the same place.
+same-told : {m n i j : ℕ} → m ≡ n → i ≡ j → _≡_ {A = ListFault} (record { number = m; list = i }) (record { number = n; list = j })
+same-told e f = λ t. record { number = e t; list = f t }
 
 unfoldable pub holdsFrom : List ℕ → ℕ → ℕ → Bool
 holdsFrom list i address = holds (drop i list) address
@@ -63,24 +69,127 @@ module _ (list : List ℕ) where
 
 -- The first fault of several lists.
 module _ (lists : List (List ℕ)) where
-  pub lists-start : firstFault lists ≡ firstFaultFrom lists 0
-  unfolding firstFaultFrom
-  lists-start = refl
+  pub lists-start : (told : ListFault) → told ≡ record { number = firstFault lists; list = firstAtFault lists } → told ≡ toldFrom lists 0
+  unfolding toldFrom
+  lists-start told e = e ∙ same-told refl (omega arith)
 
   pub list-right : (k : ℕ) (list : List ℕ) → k < length lists → list ≡ getD lists k [] → faultOf list ≡ 0
-      → firstFaultFrom lists k ≡ firstFaultFrom lists (k + 1)
-  unfolding firstFault firstFaultFrom _orElse_
-  list-right k list h is e = rw (drop-one lists k [] h, ← is, e)
+      → toldFrom lists k ≡ toldFrom lists (k + 1)
+  unfolding firstFault firstAtFault toldFrom _orElse_
+  list-right k list h is e =
+      let one : firstAtFault (drop k lists) ≡ suc (firstAtFault (drop (k + 1) lists)) = rw (drop-one lists k [] h, ← is, e) in
+      same-told (rw (drop-one lists k [] h, ← is, e)) (omega (arith, one))
 
   pub list-wrong : (k n : ℕ) (list : List ℕ) → k < length lists → list ≡ getD lists k [] → faultOf list ≡ n → 0 < n
-      → firstFaultFrom lists k ≡ n
-  unfolding firstFault firstFaultFrom _orElse_
+      → toldFrom lists k ≡ record { number = n; list = k }
+  unfolding firstFault firstAtFault toldFrom _orElse_
   list-wrong k zero list h is e p = absurd (omega arith)
-  list-wrong k (suc n) list h is e p = rw (drop-one lists k [] h, ← is, e)
+  list-wrong k (suc n) list h is e p =
+      let none : firstAtFault (drop k lists) ≡ 0 = rw (drop-one lists k [] h, ← is, ne-eqb (faultOf list) 0 (λ z. omega (arith, z, e))) in
+      same-told (rw (drop-one lists k [] h, ← is, e)) (omega (arith, none))
 
-  pub lists-end : (k : ℕ) → length lists ≤ k → firstFaultFrom lists k ≡ 0
-  unfolding firstFault firstFaultFrom
-  lists-end k h = rw (drop-of-length-le lists h)
+-- Lists that are empty from one on.
+pub empty-from : (lists : List (List ℕ)) (k : ℕ) → k ≤ length lists → ((j : ℕ) → k ≤ j → j < length lists → getD lists j [] ≡ [])
+    → (firstFault (drop k lists) ≡ 0) × (k + firstAtFault (drop k lists) ≡ length lists)
+unfolding firstFault firstAtFault faultOf lowAboveHigh _gives_ _orElse_
+empty-from [] zero p h = (refl, refl)
+empty-from [] (suc k) p h = absurd (omega arith)
+empty-from (list ∷ lists) zero p h =
+    let rest = empty-from lists 0 (omega arith) (λ j p q. h (suc j) (omega arith) (omega arith)) in
+    rw (h 0 (omega arith) (omega arith)) (rest .0, omega (arith, rest .1))
+empty-from (list ∷ lists) (suc k) p h =
+    let rest = empty-from lists k (omega arith) (λ j p q. h (suc j) (omega arith) (omega arith)) in (rest .0, omega (arith, rest .1))
+
+either-way : (i j : ℕ) → i ≤ j → (i ≡ j) ⊎ (i < j)
+either-way zero zero h = inl refl
+either-way zero (suc j) h = inr (omega arith)
+either-way (suc i) zero h = absurd (omega arith)
+either-way (suc i) (suc j) h = ⊎-elim (λ e. inl (ap suc e)) (λ l. inr (omega (arith, l))) (either-way i j (omega arith))
+
+-- The eight lists of a block.
+module _ (block : List ℕ) where
+  pub first-start : startOf block 0 ≡ 8
+  unfolding startOf
+  first-start = refl
+
+  pub start-next : (i : ℕ) → startOf block (i + 1) ≡ startOf block i + at block i
+  unfolding startOf
+  start-next i = rw (add-one i)
+
+  starts-rise : (i j : ℕ) → i ≤ j → startOf block i ≤ startOf block j
+  unfolding startOf
+  starts-rise i zero h = let e : i ≡ 0 = omega arith in rw e (omega arith)
+  starts-rise i (suc j) h =
+      ⊎-elim (λ e. rw e (omega arith)) (λ l. omega (arith, starts-rise i j (omega (arith, l)))) (either-way i (suc j) h)
+
+  pub nth-list : (i : ℕ) → i < 8 → listIn block i ≡ listAt block i
+  nth-list zero h = refl
+  nth-list (suc zero) h = refl
+  nth-list (suc (suc zero)) h = refl
+  nth-list (suc (suc (suc zero))) h = refl
+  nth-list (suc (suc (suc (suc zero)))) h = refl
+  nth-list (suc (suc (suc (suc (suc zero))))) h = refl
+  nth-list (suc (suc (suc (suc (suc (suc zero)))))) h = refl
+  nth-list (suc (suc (suc (suc (suc (suc (suc zero))))))) h = refl
+  nth-list (suc (suc (suc (suc (suc (suc (suc (suc i)))))))) h = absurd (omega arith)
+
+  pub no-list : (i : ℕ) → 8 ≤ i → listIn block i ≡ []
+  no-list i h = List·getD-eq-default (inOrder (listsIn block)) [] h
+
+  pub none-there : (i : ℕ) → i < 8 → length block ≤ 8 → listIn block i ≡ []
+  unfolding listAt
+  none-there i h short =
+      let l : length block ≤ startOf block i = omega (arith, starts-rise 0 i (omega arith), first-start) in
+      rw (nth-list i h, drop-of-length-le block l, take-nil)
+
+  pub this-list : (k size start : ℕ) (list : List ℕ) → k < 8 → start ≡ startOf block k → size ≡ at block k → list ≡ take size (drop start block)
+      → list ≡ listIn block k
+  unfolding listAt
+  this-list k size start list h e f g = rw (nth-list k h, ← e, ← f) g
+
+  -- list k, looked at where it lies
+  module _ (k start given size : ℕ) (is : start ≡ startOf block k) (gave : given ≡ at block k) (long : size ≡ min given (length block - start)) where
+    pub list-length : length (listAt block k) ≡ size
+    unfolding listAt
+    list-length = rw (← is, long, gave) (simp (length-take, length-drop))
+
+    value-at : (i : ℕ) → start ≤ i → i < start + size → getD (listAt block k) (i - start) 0 ≡ getD block i 0
+    unfolding listAt
+    value-at i from to =
+        let below : i - start < at block k = omega (arith, long, gave) in
+        let place : start + (i - start) ≡ i = omega arith in
+        rw (← is, getD-take (at block k) (drop start block) (i - start) 0 below, getD-drop start block (i - start) 0, place)
+
+    pub block-right : (i j : ℕ) → start ≤ i → i + 1 < start + size → j ≡ i + 2 → getD block i 0 ≤ getD block (i + 1) 0
+        → rangeFaultFrom (listAt block k) (i - start) ≡ rangeFaultFrom (listAt block k) (j - start)
+    block-right i j from to e h =
+        let next : (i + 1) - start ≡ (i - start) + 1 = omega arith in
+        let low = value-at i from (omega arith) in
+        let high : getD (listAt block k) ((i - start) + 1) 0 ≡ getD block (i + 1) 0 = rw (← next) (value-at (i + 1) (omega arith) to) in
+        range-right (listAt block k) (i - start) (j - start) (omega (arith, list-length)) (omega arith) (omega (arith, low, high, h))
+
+    pub block-wrong : (i : ℕ) → start ≤ i → i + 1 < start + size → getD block (i + 1) 0 < getD block i 0
+        → rangeFaultFrom (listAt block k) (i - start) ≡ 20
+    block-wrong i from to h =
+        let next : (i + 1) - start ≡ (i - start) + 1 = omega arith in
+        let low = value-at i from (omega arith) in
+        let high : getD (listAt block k) ((i - start) + 1) 0 ≡ getD block (i + 1) 0 = rw (← next) (value-at (i + 1) (omega arith) to) in
+        range-wrong (listAt block k) (i - start) (omega (arith, list-length)) (omega (arith, low, high, h))
+
+    pub block-start : rangeFaultFrom (listAt block k) 0 ≡ rangeFaultFrom (listAt block k) (start - start)
+    block-start = let none : start - start ≡ 0 = omega arith in rw none
+
+  pub nothing-left : (k start : ℕ) → k ≤ 8 → start ≡ startOf block k → length block ≤ start
+      → toldFrom (inOrder (listsIn block)) k ≡ record { number = 0; list = 8 }
+  unfolding listAt toldFrom
+  nothing-left k start few e h =
+      let none = empty-from (inOrder (listsIn block)) k few (λ j p q. let l : length block ≤ startOf block j = omega (arith, starts-rise k j p, e) in
+      rw (nth-list j q, drop-of-length-le block l, take-nil)) in
+      same-told (none .0) (none .1)
+
+  pub lists-end : (k : ℕ) → k ≡ 8 → toldFrom (inOrder (listsIn block)) k ≡ record { number = 0; list = 8 }
+  unfolding toldFrom firstFault firstAtFault
+  lists-end k e = rw e refl
 
 -- A list without a whole range: no values, or one without a partner.
 holds-none : (list : List ℕ) (address : ℕ) → length list ≤ 1 → holds list address ≡ false

@@ -1,76 +1,115 @@
-// The four address lists of a node: what is wrong with them, and whether one holds an address.
+// The eight address lists of a node, two of each kind, in one block: what is wrong with them, and whether one holds an address.
 ghost use mathlib.Core.Path.{_≡_};
-ghost use mathlib.Core.List.{[]};
-ghost use Prim.Native.Nat.{_<_};
-ghost use lib.ListN.{getD};
-ghost use Rattle.lists.specs.Lists.{listsOf, inOrder, listFault, holds};
+ghost use Prim.Native.Nat.{_<_, min};
+ghost use lib.ListN.{take, drop};
+ghost use Rattle.octets.specs.Octets.{at};
+ghost use Rattle.lists.specs.Lists.{listsIn, faultTold, holds, startOf, listIn};
 
 // How many values a list may have: low and high of 64 ranges. Document 01, "Numbers answered", 22.
 pub const VALUE_LIMIT: usize = 128;
 
-// The list at place `k` of the four.
-fn nth<'a>(
-    source_pass: &'a [u16],
-    source_reject: &'a [u16],
-    destination_pass: &'a [u16],
-    destination_reject: &'a [u16],
-    k: usize,
-) -> &'a [u16]
-    requires { ⌜ k < 4 ⌝ }
-    ensures { λ r. ⌜ now r ≡ getD (inOrder (listsOf (now («source_pass» .entry)) (now («source_reject» .entry))
-        (now («destination_pass» .entry)) (now («destination_reject» .entry)))) k [] ⌝ }
+// How many lists a block holds: two of each kind. Document 02, W-211.
+pub const LISTS: usize = 8;
+
+// The length that a block gives list `i`; 0 where it has none.
+fn length_at(block: &[u16], i: usize) -> usize
+    ensures { λ r. ⌜ (r ≡ at (now (block .entry)) i) × (r < 65536) ⌝ }
 {
-    match k {
-        0 => source_pass,
-        1 => source_reject,
-        2 => destination_pass,
-        _ => destination_reject,
+    if i < block.len() {
+        octets::word_value(block[i])
+    } else {
+        0
     }
 }
 
-// The number of the first list that has a fault, and 0 where none has.
-// In each list 22 (more than 128 values) comes before 21 (an odd number of them), and that before 20 (a low above its high).
-// An empty list has no fault. Lists that are off are looked at like the others. Document 01, "One PDU at one node", 1.
-pub fn fault<'a>(
-    source_pass: &'a [u16],
-    source_reject: &'a [u16],
-    destination_pass: &'a [u16],
-    destination_reject: &'a [u16],
-) -> u8
-    ensures { λ r. ⌜ r ≡ listFault (listsOf (now («source_pass» .entry)) (now («source_reject» .entry))
-        (now («destination_pass» .entry)) (now («destination_reject» .entry))) ⌝ }
+// So many values from a place on, as far as the block goes.
+fn values(block: &[u16], start: usize, size: usize) -> &[u16]
+    ensures { λ r. ⌜ now r ≡ take size (drop start (now (block .entry))) ⌝ }
 {
-    let source_pass = &source_pass[..];
-    let source_reject = &source_reject[..];
-    let destination_pass = &destination_pass[..];
-    let destination_reject = &destination_reject[..];
-    let mut number: u8 = 0;
-    'lists: for k in 0..4 {
-        let list = nth(
-            source_pass,
-            source_reject,
-            destination_pass,
-            destination_reject,
-            k,
-        );
-        if list.len() > VALUE_LIMIT {
-            number = 22;
+    let end = block.len();
+    if end < start {
+        return &block[end..];
+    }
+    if end - start < size {
+        return &block[start..];
+    }
+    &block[start..start + size]
+}
+
+fn lesser(a: usize, b: usize) -> usize
+    ensures { λ r. ⌜ r ≡ min a b ⌝ }
+{
+    if a < b { a } else { b }
+}
+
+// The fault of the first list that has one: its number, and the list's place in checking order, 0 to 7. 0 and 8 where none has one.
+#[repr(C)]
+pub struct ListFault {
+    pub number: u8,
+    pub list: u8,
+}
+
+// Checks the eight lists of a block and returns the first fault. In each list 22 (more than 128 values) comes before 21 (an odd number of them), and
+// that before 20 (a low above its high). An empty list has no fault. Lists that are not chosen are checked like the others.
+// Document 01, "One PDU at one node", 1; document 02, W-211.
+pub fn fault(block: &[u16]) -> ListFault
+    ensures { λ r. ⌜ r ≡ faultTold (listsIn (now (block .entry))) ⌝ }
+{
+    let size = block.len();
+    let mut fault = ListFault { number: 0, list: 8 };
+    let mut start: usize = LISTS;
+    'lists: for k in 0..8 {
+        if size <= start {
             break 'lists;
         }
-        if list.len() % 2 == 1 {
-            number = 21;
+        let list = k as u8;
+        let given = octets::word_value(block[k]);
+        let length = lesser(given, size - start);
+        if length > VALUE_LIMIT {
+            fault = ListFault { number: 22, list };
             break 'lists;
         }
-        let mut i: usize = 0;
-        while i < list.len() {
-            if list[i] > list[i + 1] {
-                number = 20;
+        if length % 2 == 1 {
+            fault = ListFault { number: 21, list };
+            break 'lists;
+        }
+        let end = start + length;
+        let mut i = start;
+        while i < end {
+            if block[i] > block[i + 1] {
+                fault = ListFault { number: 20, list };
                 break 'lists;
             }
             i += 2;
         }
+        start += given;
     }
-    number
+    fault
+}
+
+// Where the values of list `i` begin.
+fn start_of(block: &[u16], i: usize) -> usize
+    requires { ⌜ i < 8 ⌝ }
+    ensures { λ r. ⌜ r ≡ startOf (now (block .entry)) i ⌝ }
+{
+    let mut start: usize = LISTS;
+    for k in 0..i {
+        start += length_at(block, k);
+    }
+    start
+}
+
+// List `i` of the eight, 0 to 7, as that part of the block; past them an empty one. Document 02, W-211.
+fn nth(block: &[u16], i: usize) -> &[u16]
+    ensures { λ r. ⌜ now r ≡ listIn (now (block .entry)) i ⌝ }
+{
+    if LISTS <= i {
+        return &block[0..0];
+    }
+    if block.len() <= LISTS {
+        return &block[0..0];
+    }
+    values(block, start_of(block, i), length_at(block, i))
 }
 
 // Whether an address is in some range of the list, both ends included.
@@ -87,4 +126,11 @@ pub fn holds(list: &[u16], address: u16) -> bool
         i += 2;
     }
     false
+}
+
+// Whether list `i` of the eight holds an address. Document 01, "One PDU at one node", 4; document 02, W-211.
+pub fn has(block: &[u16], i: usize, address: u16) -> bool
+    ensures { λ r. ⌜ r ≡ holds (listIn (now (block .entry)) i) address ⌝ }
+{
+    holds(nth(block, i), address)
 }

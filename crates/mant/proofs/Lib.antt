@@ -1,3 +1,1 @@
-pub mod Season
-pub mod Fields
-pub mod Showing
+pub mod InC

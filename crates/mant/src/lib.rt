@@ -1,6 +1,6 @@
 // The functions exported to C, each a thin call of a proved function, with numbers, slices and structs by value; include/mant.h declares them in these groups.
 pub mod a_node;
-mod header;
+pub mod address_lists;
 pub mod originating;
 pub mod planning;
 pub mod reading;

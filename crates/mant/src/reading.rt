@@ -1,12 +1,12 @@
 // Reading: what the bytes of a PDU say.
-use super::header;
 use boundary::MantHeader;
 use pdu::Written;
 ghost use mathlib.Core.Path.{_≡_};
 ghost use lib.ListN.{length};
 ghost use Rattle.pdu.specs.Reading.{readOf};
 ghost use Rattle.editions.specs.Editions.{readUnder, writeAgainUnder, writtenAgainUnder};
-ghost use Rattle.boundary.specs.Boundary.{headerInC, pathAddressIn, pathHas};
+ghost use Rattle.view.specs.View.{pathAddressIn, pathHas};
+ghost use Rattle.boundary.specs.Boundary.{headerInC};
 
 // What an edition, 11 for 1.1 and 12 for 1.2, shows of the header of the PDU at the start of `bytes`, and its last sender; or 17 for any other edition, or
 // the number, 1 to 6, of why there is no PDU. Bytes after the PDU are not looked at.
@@ -15,14 +15,7 @@ ghost use Rattle.boundary.specs.Boundary.{headerInC, pathAddressIn, pathHas};
 pub extern "C" fn mant_read(edition: u64, bytes: &[u8]) -> MantHeader
     ensures { λ r. ⌜ r ≡ headerInC (readUnder edition (now (bytes .entry))) (now (bytes .entry)) ⌝ }
 {
-    if !editions::is_known(edition) {
-        return header::refused_header(17);
-    }
-    let extent = pdu::extent_of(bytes);
-    if extent.number != 0 {
-        return header::refused_header(extent.number);
-    }
-    header::whole_header(edition, bytes, extent)
+    boundary::summary_in_c(view::summary_of(bytes, edition))
 }
 
 // The address at place `i` of the path of the PDU at the start of `bytes`, the first at 0. 0 past the last one, and where there is no PDU.
@@ -31,10 +24,7 @@ pub extern "C" fn mant_read(edition: u64, bytes: &[u8]) -> MantHeader
 pub extern "C" fn mant_path_address(bytes: &[u8], i: usize) -> u16
     ensures { λ r. ⌜ r ≡ pathAddressIn (readOf (now (bytes .entry))) (now (bytes .entry)) i ⌝ }
 {
-    if pdu::fault(bytes) != 0 {
-        return 0;
-    }
-    pdu::parts::path_address(bytes, pdu::header_of(bytes), i)
+    view::path_address_of(bytes, i)
 }
 
 // Whether an address is anywhere in the path of the PDU at the start of `bytes`. Without a path none is, nor where there is no PDU.
@@ -43,10 +33,7 @@ pub extern "C" fn mant_path_address(bytes: &[u8], i: usize) -> u16
 pub extern "C" fn mant_path_has(bytes: &[u8], address: u16) -> bool
     ensures { λ r. ⌜ r ≡ pathHas (readOf (now (bytes .entry))) (now (bytes .entry)) address ⌝ }
 {
-    if pdu::fault(bytes) != 0 {
-        return false;
-    }
-    pdu::parts::path_has(bytes, pdu::header_of(bytes), address)
+    view::path_has_of(bytes, address)
 }
 
 // Writes the PDU at the start of `bytes` again, from what the edition shows of it, and answers 0 and its length. Answers 17 for an edition other than 11

@@ -1,5 +1,5 @@
 // Stations heard: who was heard, how often, and over how short a path.
-use super::a_node::mant_hear_eight;
+use super::a_node::mant_hear;
 use boundary::MantAnswer;
 use boundary::MantListened;
 use boundary::MantNode;
@@ -7,7 +7,8 @@ use counting::Heard;
 use stations::Found;
 ghost use mathlib.Core.Path.{_≡_};
 ghost use lib.ListN.{length};
-ghost use Rattle.seasons.specs.Choosing.{eightLent, seasonNodeOf};
+ghost use Rattle.lists.specs.Lists.{listsIn};
+ghost use Rattle.decision.specs.Decision.{nodeOf};
 ghost use Rattle.stations.specs.Table.{capacity, tableIn};
 ghost use Rattle.stations.specs.Asking.{stationOf, foundAt};
 ghost use Rattle.counting.specs.Counting.{countNumber, memoryAfterCount};
@@ -74,45 +75,22 @@ pub extern "C" fn mant_count_answer(table: &mut [u16], received: &[u8], answer: 
     listening::count_answer(table, received, boundary::answer_from_c(answer))
 }
 
-// What `mant_hear_eight` answers and leaves, whatever the table holds; and the PDU counted in the table as by `mant_count_answer`, if it was read, so nothing
-// with 17 or a fault of the lists. The table's number stands beside the answer. Document 02, W-201, W-209 and W-211.
+// What `mant_hear` answers and leaves, whatever the table holds; and the PDU counted in the table as by `mant_count_answer`, if it was read, so nothing with
+// 17 or a fault of the lists. The table's number stands beside the answer. Document 02, W-201, W-209 and W-211.
 #[no_mangle]
-pub extern "C" fn mant_hear_and_count_eight<'a>(
-    edition: u64,
-    settings: MantNode,
-    source_pass_first: &'a [u16],
-    source_pass_second: &'a [u16],
-    source_reject_first: &'a [u16],
-    source_reject_second: &'a [u16],
-    destination_pass_first: &'a [u16],
-    destination_pass_second: &'a [u16],
-    destination_reject_first: &'a [u16],
-    destination_reject_second: &'a [u16],
+pub extern "C" fn mant_hear_and_count(
+    node: MantNode,
+    lists: &[u16],
     received: &[u8],
     output: &mut [u8],
     table: &mut [u16],
 ) -> MantListened
-    ensures { λ r. ⌜ ListensInC edition (seasonNodeOf (nodeFromC settings) (eightLent
-        «source_pass_first» «source_pass_second» «source_reject_first» «source_reject_second»
-        «destination_pass_first» «destination_pass_second» «destination_reject_first» «destination_reject_second»))
+    ensures { λ r. ⌜ ListensInC (nodeOf (nodeFromC node) (listsIn (now (lists .entry))))
         (now (received .entry)) (now (output .entry)) (now (table .entry)) r (now (output .exit)) (now (table .exit)) ⌝ }
 {
-    let told = mant_hear_eight(
-        edition,
-        settings,
-        source_pass_first,
-        source_pass_second,
-        source_reject_first,
-        source_reject_second,
-        destination_pass_first,
-        destination_pass_second,
-        destination_reject_first,
-        destination_reject_second,
-        received,
-        output,
-    );
+    let answer = mant_hear(node, &lists[..], &received[..], output);
     MantListened {
-        answer: told,
-        table_number: mant_count_answer(table, received, told),
+        answer,
+        table_number: mant_count_answer(table, &received[..], answer),
     }
 }

@@ -1,12 +1,12 @@
 -- The answer, from the numbers that its parts gave.
 use Prim.Native.Nat.{ℕ, _≤_, _<_}
 use native.Mathlib.Omega.{arith}
-use mathlib.Core.Bool.{Bool, true, false, cond}
+use mathlib.Core.Bool.{Bool, cond}
 use mathlib.Core.List.{List}
 use mathlib.Core.Path.{_≡_, refl, ap, sym, _∙_}
-use lib.Dec.{eqb, ltb}
+use lib.Dec.{eqb}
 use lib.ListN.{length}
-use borrow.Author.Tests.{ne-eqb, lt-ltb, le-ltb, ltb-true, ltb-false}
+use borrow.Author.Tests.{ne-eqb, lt-ltb, le-ltb}
 use Rattle.octets.specs.Numbers.{_orElse_}
 use Rattle.octets.specs.Octets.{over}
 use Rattle.octets.proofs.Numbering.{orElse-first, orElse-later, gives-last, gives-none}
@@ -22,11 +22,10 @@ use Rattle.pdu.specs.Sizes.{headerLength, pduLength}
 use Rattle.pdu.specs.Reading.{readOf, readingNumber, refusalNumber}
 use Rattle.pdu.specs.Parts.{lastSender}
 use Rattle.pdu.proofs.Inversion.{shown}
-use Rattle.lists.specs.Lists.{listFault}
 use Rattle.node.specs.declared.Answer.{Answer}
 use Rattle.decision.specs.Decision.{Node, dropFault, deliveryFault, repeatFault}
 use Rattle.node.specs.Repeat.{repeated, repeatedLength}
-use Rattle.node.specs.Answers.{roomFault, listOrReadingFault, stopFault, deliveryNumber, repeatNumber, taken, heardFrom}
+use Rattle.node.specs.Answers.{nodeFault, roomFault, nodeOrReadingFault, stopFault, deliveryNumber, repeatNumber, taken, heardFrom}
 use Rattle.node.specs.Answers.{answerOf, twice, outputAfter, Hears}
 
 -- the answer for a PDU with this header
@@ -68,23 +67,6 @@ whole-is header sender d r n place long bytes e1 e2 e3 =
       «last_sender» = sender;
     }
 
--- what a length says that is 0 where there was no room
-module _ (n room long : ℕ) (output written now : List ℕ) (e : (n ≡ cond (ltb room long) 0 long) × (now ≡ cond (ltb room long) output written)) where
-  pub was-short : n ≡ 0 → 0 < long → (room < long) × (now ≡ output)
-  was-short z p = go (ltb room long) refl (e .0) (e .1)
-    where
-      go : (t : Bool) → ltb room long ≡ t → n ≡ cond t 0 long → now ≡ cond t output written → (room < long) × (now ≡ output)
-      go true b en eo = (ltb-true room long b, eo)
-      go false b en eo = absurd (omega arith)
-
-  pub was-room : (n ≡ 0 → ⊥) → (long ≤ room) × (n ≡ long) × (now ≡ written)
-  was-room ne = go (ltb room long) refl (e .0) (e .1)
-    where
-      go : (t : Bool) → ltb room long ≡ t → n ≡ cond t 0 long → now ≡ cond t output written
-          → (long ≤ room) × (n ≡ long) × (now ≡ written)
-      go true b en eo = absurd (ne en)
-      go false b en eo = (ltb-false room long b, en, eo)
-
 module _ (node : Node) (received output : List ℕ) where
   abbrev room : ℕ
   room = length output
@@ -107,11 +89,11 @@ module _ (node : Node) (received output : List ℕ) where
     own-repeat z = rw e (orElse-later n _ z)
 
   -- who the PDU was heard from
-  pub read-sender : listOrReadingFault node received ≡ 0 → heardFrom node received ≡ lastSender (headerOf received) received
+  pub read-sender : nodeOrReadingFault node received ≡ 0 → heardFrom node received ≡ lastSender (headerOf received) received
   unfolding heardFrom
   read-sender z = ap (λ (n : ℕ). cond (eqb n 0) (lastSender (headerOf received) received) Unknown) z
 
-  pub unread-sender : (listOrReadingFault node received ≡ 0 → ⊥) → heardFrom node received ≡ Unknown
+  pub unread-sender : (nodeOrReadingFault node received ≡ 0 → ⊥) → heardFrom node received ≡ Unknown
   unfolding heardFrom
   unread-sender ne = ap (λ (t : Bool). cond t (lastSender (headerOf received) received) Unknown) (ne-eqb _ 0 ne)
 
@@ -123,25 +105,25 @@ module _ (node : Node) (received output : List ℕ) where
   given-twice n bytes sender ne e et es = rw (twice-delivery n e ne, twice-repeat n e ne, et, es, ne-eqb n 0 ne) (refl, refl)
 
   -- a fault of the lists, or a PDU that can't be read
-  unreadable : (n : ℕ) → (n ≡ 0 → ⊥) → listOrReadingFault node received ≡ n → Hears node received output (twice n 0 Unknown) output
+  unreadable : (n : ℕ) → (n ≡ 0 → ⊥) → nodeOrReadingFault node received ≡ n → Hears node received output (twice n 0 Unknown) output
   unfolding stopFault taken
   unreadable n ne e =
       given-twice n 0 Unknown ne (rw e (orElse-first n _ ne)) (rw (e, ne-eqb n 0 ne)) (unread-sender (λ z. ne (sym e ∙ z)))
 
-  pub fault-given : (n : ℕ) → (n ≡ 0 → ⊥) → n ≡ listFault (node .lists) → Hears node received output (twice n 0 Unknown) output
-  unfolding listOrReadingFault
+  pub fault-given : (n : ℕ) → (n ≡ 0 → ⊥) → n ≡ nodeFault node → Hears node received output (twice n 0 Unknown) output
+  unfolding nodeOrReadingFault
   fault-given n ne e = unreadable n ne (rw (← e) (orElse-first n _ ne))
 
-  module _ (clean : listFault (node .lists) ≡ 0) where
+  module _ (clean : nodeFault node ≡ 0) where
     pub refusal-given : (n : ℕ) → (n ≡ 0 → ⊥) → n ≡ readingNumber (readOf received)
         → Hears node received output (twice n 0 Unknown) output
-    unfolding listOrReadingFault
-    refusal-given n ne e = unreadable n ne (orElse-later (listFault (node .lists)) _ clean ∙ sym e)
+    unfolding nodeOrReadingFault
+    refusal-given n ne e = unreadable n ne (orElse-later (nodeFault node) _ clean ∙ sym e)
 
     module _ (header : Header) (e : readOf received ≡ Pdu header) where
-      pub is-readable : listOrReadingFault node received ≡ 0
-      unfolding listOrReadingFault
-      is-readable = orElse-later (listFault (node .lists)) _ clean ∙ ap readingNumber e
+      pub is-readable : nodeOrReadingFault node received ≡ 0
+      unfolding nodeOrReadingFault
+      is-readable = orElse-later (nodeFault node) _ clean ∙ ap readingNumber e
 
       pub stopped : (n bytes : ℕ) (sender : Sender) → (n ≡ 0 → ⊥) → n ≡ dropFault node header received → bytes ≡ pduLength header
           → sender ≡ lastSender header received
@@ -158,7 +140,7 @@ module _ (node : Node) (received output : List ℕ) where
 
 -- delivery and repeating, once no earlier number stopped the PDU
 module _ (node : Node) (received output : List ℕ) (header : Header) (e : readOf received ≡ Pdu header)
-    (clean : listOrReadingFault node received ≡ 0) (passes : dropFault node header received ≡ 0) where
+    (clean : nodeOrReadingFault node received ≡ 0) (passes : dropFault node header received ≡ 0) where
   is : header ≡ headerOf received
   is = shown received header e .is
 

@@ -10,7 +10,7 @@ use Rattle.pdu.specs.Reading.{readOf, readingNumber}
 use Rattle.pdu.proofs.Number.{reading-within}
 use Rattle.lists.specs.Lists.{faultOf, firstFault}
 use Rattle.decision.specs.Decision.{Node, echoFault, passFault, dropFault, deliveryFault, repeatFault}
-use Rattle.node.specs.Answers.{listOrReadingFault, stopFault, deliveryNumber, repeatNumber}
+use Rattle.node.specs.Answers.{nodeFault, nodeOrReadingFault, stopFault, deliveryNumber, repeatNumber}
 
 module _ (P : ℕ → Type 0) (none : P 0) where
   holds-gives : (test : Bool) (n : ℕ) → P n → P (test gives n)
@@ -30,8 +30,8 @@ module _ (P : ℕ → Type 0) (none : P 0) where
         holds-orElse _ _ (holds-gives _ 31 a)
         (λ e. holds-orElse _ _ (holds-gives _ 32 b) (λ f. holds-orElse _ _ (holds-gives _ 33 c) (λ g. holds-gives _ 34 d)))
 
-    pub holds-stop : P (listOrReadingFault node received)
-        → (listOrReadingFault node received ≡ 0 → P (echoFault (node .settings) (headerOf received) received))
+    pub holds-stop : P (nodeOrReadingFault node received)
+        → (nodeOrReadingFault node received ≡ 0 → P (echoFault (node .settings) (headerOf received) received))
         → P 31 → P 32 → P 33 → P 34 → P 40 → P (stopFault node room received)
     unfolding stopFault dropFault
     holds-stop unread echo a b c d e =
@@ -65,8 +65,9 @@ unfolding firstFault
 lists-small [] = omega arith
 lists-small (list ∷ lists) = holds-orElse Small (omega arith) _ _ (list-small list) (λ e. lists-small lists)
 
-pub unread-small : (node : Node) (received : List ℕ) → listOrReadingFault node received ≤ 22
-unfolding listOrReadingFault
+pub unread-small : (node : Node) (received : List ℕ) → nodeOrReadingFault node received ≤ 22
+unfolding nodeOrReadingFault nodeFault
 unread-small node received =
     let read : readingNumber (readOf received) ≤ 22 = omega (arith, reading-within (readOf received)) in
-    holds-orElse Small (omega arith) _ _ (lists-small _) (λ e. read)
+    holds-orElse Small (omega arith) _ _
+    (holds-orElse Small (omega arith) _ _ (holds-gives Small (omega arith) _ 17 (omega arith)) (λ e. lists-small _)) (λ e. read)

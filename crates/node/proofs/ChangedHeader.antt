@@ -22,10 +22,6 @@ module _ (header : Header) where
   unfolding repeatedHeader
   changed-hop = refl
 
-  pub changed-count : repeatedHeader header .«path_count» ≡ header .«path_count» + flag (header .«path_bit»)
-  unfolding repeatedHeader
-  changed-count = refl
-
   pub same-path-bit : repeatedHeader header .«path_bit» ≡ header .«path_bit»
   unfolding repeatedHeader
   same-path-bit = refl

@@ -19,11 +19,10 @@ use Rattle.pdu.specs.Sizes.{headerLength}
 use Rattle.pdu.specs.Reading.{readOf, readingNumber}
 use Rattle.pdu.specs.Parts.{pathIn, inPath, payloadIn}
 use Rattle.pdu.proofs.Inversion.{shown}
-use Rattle.lists.specs.Lists.{listFault}
 use Rattle.decision.specs.Decision.{Node, dropFault, repeatFault}
 use Rattle.decision.proofs.Dropping.{drops-30, passed}
 use Rattle.node.specs.Repeat.{repeated, repeatedLength, repeatedHeader}
-use Rattle.node.specs.Answers.{listOrReadingFault, stopFault, deliveryNumber, repeatNumber, delivered, answerOf}
+use Rattle.node.specs.Answers.{nodeFault, nodeOrReadingFault, stopFault, deliveryNumber, repeatNumber, delivered, answerOf}
 use Rattle.node.proofs.Repeating.{Ready, ready}
 use Rattle.node.proofs.Answering.{is-readable, refusal-number}
 use Rattle.node.proofs.Encoded.{alone-reads, alone-path}
@@ -63,7 +62,7 @@ pub record Repeats (node : Node) (room : ℕ) (received : List ℕ) : Type 0 whe
   pub not-own : node .settings .echo ≡ true → header .source ≡ node .settings .own → ⊥
   pub repeats : repeatFault (node .settings) header ≡ 0
   pub passes : dropFault node header received ≡ 0
-  pub clean : listFault (node .lists) ≡ 0
+  pub clean : nodeFault node ≡ 0
   pub fits : repeatedLength header ≤ room
 
 not-echo : (echo bit found : Bool) → (echo && (bit && found)) ≡ false → echo ≡ true → bit ≡ true → found ≡ false
@@ -90,7 +89,7 @@ module _ (node : Node) where
 
   module _ (room : ℕ) (received : List ℕ) where
     pub repeats : repeatNumber node room received ≡ 0 → Repeats node room received
-    unfolding repeatNumber stopFault listOrReadingFault
+    unfolding repeatNumber stopFault nodeOrReadingFault
     repeats zero =
         let t1 = orElse-zero _ _ zero in
         let t2 = orElse-zero _ _ (t1 .0) in
@@ -99,7 +98,7 @@ module _ (node : Node) where
         go (readOf received) refl (t3 .0) (t3 .1) (t4 .0) (t1 .1)
         (room-enough _ _ _ (eq-eqb (repeatFault (node .settings) (headerOf received)) 0 (t1 .1)) (gives-zero _ 40 (omega arith) (t4 .1)))
       where
-        go : (reading : Reading) → readOf received ≡ reading → listFault (node .lists) ≡ 0 → readingNumber reading ≡ 0
+        go : (reading : Reading) → readOf received ≡ reading → nodeFault node ≡ 0 → readingNumber reading ≡ 0
             → dropFault node (headerOf received) received ≡ 0
             → repeatFault (node .settings) (headerOf received) ≡ 0 → repeatedLength (headerOf received) ≤ room → Repeats node room received
         go (Refused refusal) e clean number pass again fit = absurd (refusal-number (Refused refusal) refusal refl refl number)
@@ -119,7 +118,7 @@ module _ (node : Node) where
               fits = omega (arith, fit, ap (λ (x : Header). repeatedLength x) is);
             }
 
-    pub will-repeat : (header : Header) → listFault (node .lists) ≡ 0 → readOf received ≡ Pdu header → dropFault node header received ≡ 0
+    pub will-repeat : (header : Header) → nodeFault node ≡ 0 → readOf received ≡ Pdu header → dropFault node header received ≡ 0
         → repeatFault (node .settings) header ≡ 0 → repeatedLength header ≤ room → repeatNumber node room received ≡ 0
     unfolding repeatNumber stopFault
     will-repeat header clean e passes repeats fits =
@@ -144,7 +143,7 @@ module _ (node : Node) where
         go false = refl
 
     -- a PDU that was read and is dropped: its number, twice
-    module _ (read : listOrReadingFault node received ≡ 0) (n : ℕ) (some : n ≡ 0 → ⊥)
+    module _ (read : nodeOrReadingFault node received ≡ 0) (n : ℕ) (some : n ≡ 0 → ⊥)
         (drops : dropFault node (headerOf received) received ≡ n) where
       pub dropped-stop : stopFault node room received ≡ n
       unfolding stopFault
@@ -175,14 +174,14 @@ module _ (received : List ℕ) (header : Header) (small : AllBytes received) (re
         (all-true (node .settings .echo) (header .«path_bit») _ on bit
         (ap (λ (address : ℕ). inPath address (pathIn (repeatedHeader header) (repeated own received))) same ∙ own-in-path))
 
-    module _ (clean : listFault (node .lists) ≡ 0) where
+    module _ (clean : nodeFault node ≡ 0) where
       abbrev again : List ℕ
       again = repeated own received
 
       again-reads : readOf again ≡ Pdu (repeatedHeader header)
       again-reads = alone-reads received header small read is-ready own
 
-      again-read : listOrReadingFault node again ≡ 0
+      again-read : nodeOrReadingFault node again ≡ 0
       again-read = is-readable node again [] clean (repeatedHeader header) again-reads
 
       again-dropped : dropFault node (headerOf again) again ≡ 30

@@ -3,7 +3,10 @@ pub mod Answering
 pub mod Chain
 pub mod ChangedHeader
 pub mod Encoded
-pub mod Given
 pub mod Heard
 pub mod ShutOut
 pub mod Neighbour
+pub mod Faults
+pub mod Alike
+pub mod Editions
+pub mod Choices

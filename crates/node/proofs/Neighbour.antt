@@ -17,10 +17,9 @@ use Rattle.pdu.specs.Reading.{readOf}
 use Rattle.pdu.specs.Parts.{pathIn, lastSender}
 use Rattle.pdu.proofs.Inversion.{shown}
 use Rattle.pdu.proofs.Senders.{sender-unknown, sender-behind}
-use Rattle.lists.specs.Lists.{listFault}
 use Rattle.decision.specs.Decision.{Node}
 use Rattle.node.specs.Repeat.{repeated, repeatedHeader}
-use Rattle.node.specs.Answers.{listOrReadingFault, stopFault, deliveryNumber, repeatNumber, answerOf, outputAfter}
+use Rattle.node.specs.Answers.{nodeFault, nodeOrReadingFault, stopFault, deliveryNumber, repeatNumber, answerOf, outputAfter}
 use Rattle.node.proofs.Repeating.{Ready}
 use Rattle.node.proofs.Answering.{is-readable, read-sender, unread-sender}
 use Rattle.node.proofs.Chain.{unread-small}
@@ -40,34 +39,34 @@ module _ (received : List ℕ) (header : Header) (small : AllBytes received) (re
 
 -- the node's answer
 module _ (node : Node) (room : ℕ) (received : List ℕ) where
-  pub carried : listOrReadingFault node received ≡ 0 → answerOf node room received .«last_sender» ≡ lastSender (headerOf received) received
+  pub carried : nodeOrReadingFault node received ≡ 0 → answerOf node room received .«last_sender» ≡ lastSender (headerOf received) received
   unfolding answerOf
   carried read = read-sender node received [] read
 
-  pub not-carried : (listOrReadingFault node received ≡ 0 → ⊥) → answerOf node room received .«last_sender» ≡ Unknown
+  pub not-carried : (nodeOrReadingFault node received ≡ 0 → ⊥) → answerOf node room received .«last_sender» ≡ Unknown
   unfolding answerOf
   not-carried unread = unread-sender node received [] unread
 
   -- the number of the lists or of reading is given as it is
-  unread-stop : (listOrReadingFault node received ≡ 0 → ⊥) → stopFault node room received ≡ listOrReadingFault node received
+  unread-stop : (nodeOrReadingFault node received ≡ 0 → ⊥) → stopFault node room received ≡ nodeOrReadingFault node received
   unfolding stopFault
-  unread-stop some = orElse-first (listOrReadingFault node received) _ some
+  unread-stop some = orElse-first (nodeOrReadingFault node received) _ some
 
-  unread-delivery : (listOrReadingFault node received ≡ 0 → ⊥) → deliveryNumber node room received ≡ listOrReadingFault node received
+  unread-delivery : (nodeOrReadingFault node received ≡ 0 → ⊥) → deliveryNumber node room received ≡ nodeOrReadingFault node received
   unfolding deliveryNumber
-  unread-delivery some = rw (unread-stop some) (orElse-first (listOrReadingFault node received) _ some)
+  unread-delivery some = rw (unread-stop some) (orElse-first (nodeOrReadingFault node received) _ some)
 
   pub carried-from-30 : 30 ≤ deliveryNumber node room received → answerOf node room received .«last_sender» ≡ lastSender (headerOf received) received
-  carried-from-30 large = carried (go (eqb (listOrReadingFault node received) 0) refl)
+  carried-from-30 large = carried (go (eqb (nodeOrReadingFault node received) 0) refl)
     where
-      go : (t : Bool) → eqb (listOrReadingFault node received) 0 ≡ t → listOrReadingFault node received ≡ 0
-      go true e = eqb-true (listOrReadingFault node received) 0 e
+      go : (t : Bool) → eqb (nodeOrReadingFault node received) 0 ≡ t → nodeOrReadingFault node received ≡ 0
+      go true e = eqb-true (nodeOrReadingFault node received) 0 e
       go false e =
-          let given = unread-delivery (eqb-false (listOrReadingFault node received) 0 e) in
+          let given = unread-delivery (eqb-false (nodeOrReadingFault node received) 0 e) in
           absurd (omega (arith, large, given, unread-small node received))
 
   -- of bytes that were read
-  pub heard : (header : Header) → listFault (node .lists) ≡ 0 → readOf received ≡ Pdu header
+  pub heard : (header : Header) → nodeFault node ≡ 0 → readOf received ≡ Pdu header
       → answerOf node room received .«last_sender» ≡ lastSender header received
   heard header clean read =
       carried (is-readable node received [] clean header read) ∙ ap (λ (h : Header). lastSender h received) (sym (shown received header read .is))
@@ -111,7 +110,7 @@ unfolding outputAfter over
 left node received output again = rw again
 
 pub neighbour : (repeater installer : Node) (received output : List ℕ) (room : ℕ) → AllBytes received
-    → repeatNumber repeater (length output) received ≡ 0 → headerOf received .«path_bit» ≡ true → listFault (installer .lists) ≡ 0
+    → repeatNumber repeater (length output) received ≡ 0 → headerOf received .«path_bit» ≡ true → nodeFault installer ≡ 0
     → answerOf installer room (outputAfter repeater received output) .«last_sender» ≡ Known (repeater .settings .own)
 neighbour repeater installer received output room small again bit clean =
     let own = repeater .settings .own in

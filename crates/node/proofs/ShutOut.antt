@@ -15,26 +15,29 @@ use Rattle.pdu.specs.declared.Sender.the-variants.{Unknown, Known}
 use Rattle.pdu.specs.Header.{headerOf}
 use Rattle.pdu.specs.Reading.{readOf}
 use Rattle.pdu.specs.Parts.{addressesAt, inPath, lastOr}
-use Rattle.lists.specs.Lists.{listsOf, lowAboveHigh, faultOf, firstFault}
+use Rattle.decision.specs.declared.Choice.the-variants.{First, Neither}
+use Rattle.lists.specs.Lists.{two, lowAboveHigh, faultOf, firstFault}
 use Rattle.node.specs.declared.Answer.{Answer}
 use Rattle.decision.specs.Decision.{Node, echoFault, passFault, dropFault, deliveryFault, repeatFault}
 use Rattle.node.specs.Repeat.{repeated}
-use Rattle.node.specs.Answers.{listOrReadingFault, stopFault, deliveryNumber, repeatNumber, taken, heardFrom, answerOf, twice, outputAfter, Hears}
+use Rattle.node.specs.Answers.{nodeFault, nodeOrReadingFault, stopFault, deliveryNumber, repeatNumber, taken, heardFrom}
+use Rattle.node.specs.Answers.{answerOf, twice, outputAfter, Hears}
 
 -- a node of an address, repeating, echo on or off, its source pass list on or off, no other list on, and all of them empty
 abbrev nodeWith : ℕ → Bool → Bool → Node
 nodeWith own echo pass =
     record {
       settings = record {
+        edition = 12;
         own = own;
         echo = echo;
         repeating = true;
-        «source_pass» = pass;
-        «source_reject» = false;
-        «destination_pass» = false;
-        «destination_reject» = false;
+        «source_pass» = cond pass First Neither;
+        «source_reject» = Neither;
+        «destination_pass» = Neither;
+        «destination_reject» = Neither;
       };
-      lists = listsOf [] [] [] [];
+      lists = record { sourcePass = two [] []; sourceReject = two [] []; destinationPass = two [] []; destinationReject = two [] [] };
     }
 
 -- one with echo on and no list on
@@ -99,7 +102,7 @@ record Given : Type 0 where
   is-for-own : answerOf (nodeAt 2000) 100 forOwn .repeat ≡ 41
 
 given : Given
-unfolding answerOf outputAfter deliveryNumber repeatNumber stopFault listOrReadingFault dropFault echoFault passFault deliveryFault
+unfolding answerOf outputAfter deliveryNumber repeatNumber stopFault nodeFault nodeOrReadingFault dropFault echoFault passFault deliveryFault
     repeatFault taken heardFrom repeated over readOf headerOf addressesAt inPath lastOr firstFault faultOf lowAboveHigh _gives_ _orElse_
 given =
     record {

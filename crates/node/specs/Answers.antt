@@ -1,7 +1,7 @@
 -- Document 01, "One PDU at one node" and "Numbers answered": what a node answers, as one value, and what it leaves in its output. Document 02, W-205: the
--- answer carries the last sender.
+-- answer carries the last sender; W-209: an edition that is not known is refused first.
 use Prim.Native.Nat.{ℕ}
-use mathlib.Core.Bool.{false, cond, _&&_}
+use mathlib.Core.Bool.{not, cond, _&&_}
 use mathlib.Core.List.{List, []}
 use mathlib.Core.Path.{_≡_}
 use lib.Dec.{eqb, ltb}
@@ -15,15 +15,20 @@ use Rattle.pdu.specs.Header.{headerOf}
 use Rattle.pdu.specs.Sizes.{headerLength, pduLength}
 use Rattle.pdu.specs.Reading.{readOf, readingNumber}
 use Rattle.pdu.specs.Parts.{payloadIn, lastSender}
-use Rattle.lists.specs.Lists.{listsOf, listFault}
+use Rattle.editions.specs.Editions.{known}
+use Rattle.lists.specs.Lists.{listFault}
 use Rattle.decision.specs.declared.Settings.{Settings}
-use Rattle.decision.specs.Decision.{Node, nodeOf, echoFault, dropFault, deliveryFault, repeatFault}
+use Rattle.decision.specs.Decision.{Node, dropFault, deliveryFault, repeatFault}
 use Rattle.node.specs.declared.Answer.{Answer}
 use Rattle.node.specs.Repeat.{repeated, repeatedLength}
 
--- steps 1 and 2: the fault of the lists, then number 1 to 6, or 0
-unfoldable pub listOrReadingFault : Node → List ℕ → ℕ
-listOrReadingFault node received = listFault (node .lists) orElse readingNumber (readOf received)
+-- what stops every PDU: 17 for an edition that is not known (document 02, W-209), then step 1, the fault of the lists
+unfoldable pub nodeFault : Node → ℕ
+nodeFault node = not (known (node .settings .edition)) gives 17 orElse listFault (node .lists)
+
+-- then step 2: number 1 to 6, or 0
+unfoldable pub nodeOrReadingFault : Node → List ℕ → ℕ
+nodeOrReadingFault node received = nodeFault node orElse readingNumber (readOf received)
 
 -- step 6, its last sentence: 40, where the PDU would be repeated and the output is too short for that
 abbrev pub roomFault : Settings → Header → ℕ → ℕ
@@ -32,7 +37,7 @@ roomFault settings header room = (eqb (repeatFault settings header) 0 && ltb roo
 -- what stops the PDU, in the order of the steps: the numbers that are given twice
 unfoldable pub stopFault : Node → ℕ → List ℕ → ℕ
 stopFault node room received =
-    listOrReadingFault node received
+    nodeOrReadingFault node received
     orElse dropFault node (headerOf received) received
     orElse roomFault (node .settings) (headerOf received) room
 
@@ -47,13 +52,13 @@ repeatNumber node room received = stopFault node room received orElse repeatFaul
 unfoldable pub delivered : Node → ℕ → List ℕ → List ℕ
 delivered node room received = cond (eqb (deliveryNumber node room received) 0) (payloadIn (headerOf received) received) []
 
--- where the next PDU begins in the received bytes ("A batch": after this one's payload); 0 where a list is at fault or this one can't be read
+-- where the next PDU begins in the received bytes ("A batch": after this one's payload); 0 where 17 or a list's fault is given, or this one can't be read
 unfoldable pub taken : Node → List ℕ → ℕ
-taken node received = cond (eqb (listOrReadingFault node received) 0) (pduLength (headerOf received)) 0
+taken node received = cond (eqb (nodeOrReadingFault node received) 0) (pduLength (headerOf received)) 0
 
--- who the PDU was heard from (document 02, W-205), whenever it was read; unknown where a list is at fault or it can't be read
+-- who the PDU was heard from (document 02, W-205), whenever it was read; else unknown
 unfoldable pub heardFrom : Node → List ℕ → Sender
-heardFrom node received = cond (eqb (listOrReadingFault node received) 0) (lastSender (headerOf received) received) Unknown
+heardFrom node received = cond (eqb (nodeOrReadingFault node received) 0) (lastSender (headerOf received) received) Unknown
 
 -- the two numbers; where the delivered payload lies in the received bytes, 0 and 0 where nothing is delivered; the length of the repeated PDU, 0
 -- where nothing is repeated; where the next PDU begins, also where a number from 30 on was given: a walk goes on there; and who it was heard from
@@ -91,34 +96,3 @@ outputAfter node received output =
 abbrev pub Hears : Node → List ℕ → List ℕ → Answer → List ℕ → Type 0
 Hears node received output answer left =
     (answer ≡ answerOf node (length output) received) × (left ≡ outputAfter node received output)
-
--- a node that looks at no lists
-abbrev pub unlisted : Settings → Node
-unlisted settings =
-    nodeOf
-    (record {
-      own = settings .own;
-      echo = settings .echo;
-      repeating = settings .repeating;
-      «source_pass» = false;
-      «source_reject» = false;
-      «destination_pass» = false;
-      «destination_reject» = false;
-    })
-    (listsOf [] [] [] [])
-
--- steps 2 to 6 of a node whose lists are looked at apart and give that number in step 4: with 0 it is a node that looks at none; another number is given
--- twice, after 1 to 6, 30 and 42, and before 40
-unfoldable pub answerGiven : Settings → ℕ → ℕ → List ℕ → Answer
-answerGiven settings number room received =
-    cond (eqb number 0) (answerOf (unlisted settings) room received)
-    (twice (readingNumber (readOf received) orElse echoFault settings (headerOf received) received orElse number)
-    (taken (unlisted settings) received) (heardFrom (unlisted settings) received))
-
--- and what it leaves in the output
-unfoldable pub outputGiven : Settings → ℕ → List ℕ → List ℕ → List ℕ
-outputGiven settings number received output = cond (eqb number 0) (outputAfter (unlisted settings) received output) output
-
-abbrev pub HearsGiven : Settings → ℕ → List ℕ → List ℕ → Answer → List ℕ → Type 0
-HearsGiven settings number received output answer left =
-    (answer ≡ answerGiven settings number (length output) received) × (left ≡ outputGiven settings number received output)

@@ -1,6 +1,6 @@
 // One PDU at one node: what is delivered, what is repeated, and the repeated PDU.
 ghost use mathlib.Core.Path.{_≡_};
-ghost use mathlib.Core.Bool.{true, cond};
+ghost use mathlib.Core.Bool.{cond};
 ghost use lib.Dec.{eqb};
 ghost use lib.ListN.{length};
 ghost use Rattle.octets.specs.Octets.{IsPart};
@@ -8,9 +8,9 @@ ghost use Rattle.pdu.specs.declared.Reading.the-variants.{Pdu};
 ghost use Rattle.pdu.specs.Sizes.{headerLength, pduLength};
 ghost use Rattle.pdu.specs.Reading.{readOf};
 ghost use Rattle.pdu.specs.Parts.{lastSender};
-ghost use Rattle.lists.specs.Lists.{Lists, listsOf, listFault};
+ghost use Rattle.lists.specs.Lists.{Lists, listsIn};
 ghost use Rattle.decision.specs.Decision.{nodeOf, dropFault};
-ghost use Rattle.node.specs.Answers.{listOrReadingFault, twice, unlisted, Hears, HearsGiven};
+ghost use Rattle.node.specs.Answers.{nodeFault, nodeOrReadingFault, twice, Hears};
 use decision::Settings;
 use pdu::Header;
 use pdu::Reading;
@@ -18,9 +18,9 @@ use pdu::Sender;
 
 mod repeat;
 
-// What a node answers for one PDU. The delivered payload lies at `delivered_place` in the received bytes; place and length are 0 where nothing is
-// delivered. `repeated_length` is 0 where nothing is repeated. `taken` is where the next PDU begins in the received bytes, and 0 where a list is at
-// fault or no PDU can be read. `last_sender` is who the PDU was heard from, whenever it was read, and unknown where `taken` is 0.
+// What a node returns for one PDU. The delivered payload lies at `delivered_place` in the received bytes; place and length are 0 if nothing is delivered.
+// `repeated_length` is 0 if nothing is repeated. `taken` is where the next PDU begins in the received bytes. `last_sender` is who the PDU was heard from.
+// If the edition or a list is refused, or no PDU can be read, `taken` is 0 and the last sender unknown.
 pub struct Answer {
     pub delivery: u8,
     pub repeat: u8,
@@ -31,119 +31,38 @@ pub struct Answer {
     pub last_sender: Sender,
 }
 
-// What the node answers for the PDU at the start of `received`: document 01's order, lists first, then reading, echo, the lists' tests, delivery and
-// repeating. Faults of the lists (20 to 22) and of reading (1 to 6), 30 to 34, 40 and 42 are answered as both numbers, and nothing is delivered then. Any
-// settings, lists, bytes and output get an answer. The output changes only where the repeat number is 0, and then only the bytes of the repeated PDU
-// at its start. The last sender is told with every number but those of the lists and of reading. Document 01, "One PDU at one node", 1 to 6, and its
-// last paragraph for the bytes of the repeat; document 02, W-205.
-pub fn hear<'a>(
-    settings: Settings,
-    source_pass: &'a [u16],
-    source_reject: &'a [u16],
-    destination_pass: &'a [u16],
-    destination_reject: &'a [u16],
-    received: &[u8],
-    output: &mut [u8],
-) -> Answer
-    ensures { λ r. ⌜ Hears (nodeOf settings (listsOf (now («source_pass» .entry)) (now («source_reject» .entry))
-        (now («destination_pass» .entry)) (now («destination_reject» .entry))))
-        (now (received .entry)) (now (output .entry)) r (now (output .exit)) ⌝ }
+// Hears the PDU at the start of `received`, and returns one number for delivery and one for repeating. It checks in this order: the edition (17); the eight
+// lists, chosen or not (20 to 22); reading (1 to 6); echo (30, 42); the lists chosen (31 to 34); the room for a repeat (40). The numbers named here are given
+// twice, and nothing is delivered then. Else delivery is 39, 35 or 0, and repeating 41, 36, 37, 38 or 0. The output changes only if the repeat number is 0,
+// and then only the bytes of the repeated PDU at its start. Every input gets a result.
+// Document 01, "One PDU at one node"; document 02, W-203, W-205, W-209 and W-211.
+pub fn hear(settings: Settings, lists: &[u16], received: &[u8], output: &mut [u8]) -> Answer
+    ensures { λ r. ⌜ Hears (nodeOf settings (listsIn (now (lists .entry)))) (now (received .entry)) (now (output .entry)) r (now (output .exit)) ⌝ }
 {
-    let fault = list_fault(
-        source_pass,
-        source_reject,
-        destination_pass,
-        destination_reject,
-    );
+    let fault = node_fault(settings, &lists[..]);
     if fault != 0 {
         return twice(fault, 0, Sender::Unknown);
     }
-    let reading = pdu::read(received);
+    let reading = pdu::read(&received[..]);
     let Reading::Pdu(header) = reading else {
         return twice(pdu::reading_number(reading), 0, Sender::Unknown);
     };
-    let sender = pdu::parts::last_sender(received, header);
-    let number = decision::drop_fault(
-        settings,
-        source_pass,
-        source_reject,
-        destination_pass,
-        destination_reject,
-        header,
-        received,
-    );
+    let sender = pdu::parts::last_sender(&received[..], header);
+    let number = decision::drop_fault(settings, &lists[..], header, &received[..]);
     if number != 0 {
         return twice(number, header.pdu_length(), sender);
     }
-    decide(settings, received, header, sender, output)
+    decide(settings, &received[..], header, sender, output)
 }
 
-// The fault of the lists. Where all four are empty there is none, and they are not handed on.
-fn list_fault<'a>(
-    source_pass: &'a [u16],
-    source_reject: &'a [u16],
-    destination_pass: &'a [u16],
-    destination_reject: &'a [u16],
-) -> u8
-    ensures { λ r. ⌜ r ≡ listFault (listsOf (now («source_pass» .entry)) (now («source_reject» .entry))
-        (now («destination_pass» .entry)) (now («destination_reject» .entry))) ⌝ }
+// What stops every PDU: 17, then the fault of the lists.
+fn node_fault(settings: Settings, lists: &[u16]) -> u8
+    ensures { λ r. ⌜ r ≡ nodeFault (nodeOf settings (listsIn (now (lists .entry)))) ⌝ }
 {
-    if are_empty(source_pass, source_reject) {
-        if are_empty(destination_pass, destination_reject) {
-            return 0;
-        }
+    if !editions::is_known(settings.edition) {
+        return 17;
     }
-    lists::fault(
-        &source_pass[..],
-        &source_reject[..],
-        &destination_pass[..],
-        &destination_reject[..],
-    )
-}
-
-fn are_empty<'a>(first: &'a [u16], second: &'a [u16]) -> bool
-    ensures { λ r. ⌜ (r ≡ true → (length (now (first .entry)) ≡ 0) × (length (now (second .entry)) ≡ 0)) ⌝ }
-{
-    if first.len() == 0 {
-        second.len() == 0
-    } else {
-        false
-    }
-}
-
-// What the node answers where its lists are looked at apart: `number` is what they give, 31 to 34, or 0 where they let the PDU pass. As `hear`, without
-// a look at lists; that number is given in step 4. Document 01, "One PDU at one node", 2 to 6; document 02, W-205.
-pub fn hear_given(settings: Settings, number: u8, received: &[u8], output: &mut [u8]) -> Answer
-    ensures { λ r. ⌜ HearsGiven settings number (now (received .entry)) (now (output .entry)) r (now (output .exit)) ⌝ }
-{
-    let alone = without_lists(settings);
-    let reading = pdu::read(received);
-    let Reading::Pdu(header) = reading else {
-        return twice(pdu::reading_number(reading), 0, Sender::Unknown);
-    };
-    let sender = pdu::parts::last_sender(received, header);
-    let echo = decision::echo_fault(alone, header, received);
-    if echo != 0 {
-        return twice(echo, header.pdu_length(), sender);
-    }
-    if number != 0 {
-        return twice(number, header.pdu_length(), sender);
-    }
-    decide(alone, received, header, sender, output)
-}
-
-fn without_lists(settings: Settings) -> Settings
-    ensures { λ r. ⌜ r ≡ unlisted settings .settings ⌝ }
-{
-    Settings {
-        own: settings.own,
-        echo: settings.echo,
-        repeating: settings.repeating,
-        source_pass: false,
-        source_reject: false,
-        destination_pass: false,
-        destination_reject: false,
-    }
+    lists::fault(lists).number
 }
 
 // Delivery and repeating, of a PDU that no earlier number stopped.
@@ -155,7 +74,7 @@ fn decide(
     output: &mut [u8],
 ) -> Answer
     requires { ⌜ (readOf (now received) ≡ Pdu header) × (sender ≡ lastSender header (now received)) ⌝ }
-    ensures { λ r. ⌜ ((lists : Lists) → listOrReadingFault (nodeOf settings lists) (now (received .entry)) ≡ 0
+    ensures { λ r. ⌜ ((lists : Lists) → nodeOrReadingFault (nodeOf settings lists) (now (received .entry)) ≡ 0
         → dropFault (nodeOf settings lists) header (now (received .entry)) ≡ 0
         → Hears (nodeOf settings lists) (now (received .entry)) (now (output .entry)) r (now (output .exit))) ⌝ }
 {

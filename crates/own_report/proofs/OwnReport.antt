@@ -20,7 +20,7 @@ use Rattle.origin.specs.Origination.{freshHeader, fresh}
 use Rattle.decision.specs.Decision.{Node, isEcho, isOwnReport, echoFault, passFault, dropFault, deliveryFault, repeatFault}
 use Rattle.decision.proofs.Dropping.{drops-30, drops-42}
 use Rattle.node.specs.Repeat.{repeated}
-use Rattle.node.specs.Answers.{listOrReadingFault, stopFault, deliveryNumber, repeatNumber, delivered, taken, heardFrom, answerOf, twice}
+use Rattle.node.specs.Answers.{nodeFault, nodeOrReadingFault, stopFault, deliveryNumber, repeatNumber, delivered, taken, heardFrom, answerOf, twice}
 use Rattle.node.specs.Answers.{Hears}
 use Rattle.node.proofs.Answering.{read-sender, given-twice}
 use Rattle.node.proofs.Chain.{holds-stop, holds-delivery, holds-repeat, unread-small}
@@ -40,7 +40,7 @@ neither echo rest off = rw off
 
 module _ (node : Node) (received : List ℕ) where
   -- a number that drops the PDU, answered twice
-  module _ (output : List ℕ) (read : listOrReadingFault node received ≡ 0) where
+  module _ (output : List ℕ) (read : nodeOrReadingFault node received ≡ 0) where
     twice-given : (n : ℕ) → (n ≡ 0 → ⊥) → dropFault node (headerOf received) received ≡ n
         → Hears node received output (twice n (pduLength (headerOf received)) (lastSender (headerOf received) received)) output
     unfolding taken
@@ -59,7 +59,7 @@ module _ (node : Node) (received : List ℕ) where
   -- 42, and where it comes from
   abbrev Place : Type 0
   Place =
-      (listOrReadingFault node received ≡ 0) × (node .settings .echo ≡ true) × (headerOf received .source ≡ node .settings .own)
+      (nodeOrReadingFault node received ≡ 0) × (node .settings .echo ≡ true) × (headerOf received .source ≡ node .settings .own)
       × (isEcho (node .settings) (headerOf received) received ≡ false)
 
   abbrev Placed : ℕ → Type 0
@@ -68,7 +68,7 @@ module _ (node : Node) (received : List ℕ) where
   other : (n : ℕ) → (n ≡ 42 → ⊥) → Placed n
   other n not-42 e = absurd (not-42 e)
 
-  from-echo : listOrReadingFault node received ≡ 0 → Placed (echoFault (node .settings) (headerOf received) received)
+  from-echo : nodeOrReadingFault node received ≡ 0 → Placed (echoFault (node .settings) (headerOf received) received)
   unfolding echoFault
   from-echo read =
       go (isEcho (node .settings) (headerOf received) received) (isOwnReport (node .settings) (headerOf received)) refl refl
@@ -144,8 +144,8 @@ never-three receptions once =
     subst (λ (first : List ℕ). length (onTheAir (network true) first receptions) ≤ 2) report-is (examples.never-three receptions once)
 
 pub own-report : OwnReport
-unfolding bound series fallingProduct terms others flood answer sends repeated repeatNumber deliveryNumber stopFault listOrReadingFault firstFault faultOf
-    lowAboveHigh holds readOf headerOf dropFault echoFault passFault deliveryFault repeatFault taken heardFrom answerOf addressesAt inPath
+unfolding bound series fallingProduct terms others flood answer sends repeated repeatNumber deliveryNumber stopFault nodeFault nodeOrReadingFault firstFault
+    faultOf lowAboveHigh holds readOf headerOf dropFault echoFault passFault deliveryFault repeatFault taken heardFrom answerOf addressesAt inPath
     lastOr _gives_ _orElse_
 own-report =
     record {

@@ -12,9 +12,10 @@ use Rattle.pdu.specs.declared.Sender.the-variants.{Unknown, Known}
 use Rattle.pdu.specs.Header.{headerOf, sourceOf}
 use Rattle.pdu.specs.Sizes.{pduLength}
 use Rattle.pdu.specs.Parts.{lastSender}
-use Rattle.lists.specs.Lists.{listsOf}
+use Rattle.lists.specs.Lists.{two}
+use Rattle.decision.specs.declared.Choice.the-variants.{First}
 use Rattle.decision.specs.Decision.{Node, isEcho, passFault, dropFault}
-use Rattle.node.specs.Answers.{listOrReadingFault, deliveryNumber, repeatNumber, delivered, answerOf, twice, Hears}
+use Rattle.node.specs.Answers.{nodeOrReadingFault, deliveryNumber, repeatNumber, delivered, answerOf, twice, Hears}
 use Rattle.bound.specs.Bound.{bound}
 use Rattle.flood.specs.Flood.{Reception, others}
 use Rattle.flood.specs.Air.{Repeater, Nodes, Begins, address, sends, onTheAir}
@@ -27,7 +28,7 @@ ownReport = 0x00 ∷ 0x00 ∷ 0x10 ∷ 0x00 ∷ 0x07 ∷ 0xD0 ∷ []
 abbrev pub ownReportBy : ℕ → ℕ → List ℕ
 ownReportBy high low = 0x02 ∷ 0x00 ∷ 0x10 ∷ 0x00 ∷ 0x07 ∷ 0xD0 ∷ 0x01 ∷ high ∷ low ∷ []
 
--- a PDU of source 2000 for address 5, and node 2000 with all lists on, each of which stops it
+-- a PDU of source 2000 for address 5, and node 2000 with the first list of each kind on, each of which stops it
 abbrev pub ownReportTo5 : List ℕ
 ownReportTo5 = 0x01 ∷ 0x00 ∷ 0x10 ∷ 0x00 ∷ 0x07 ∷ 0xD0 ∷ 0x00 ∷ 0x05 ∷ []
 
@@ -35,15 +36,22 @@ abbrev pub strict : Bool → Node
 strict echo =
     record {
       settings = record {
+        edition = 12;
         own = 2000;
         echo = echo;
         repeating = true;
-        «source_pass» = true;
-        «source_reject» = true;
-        «destination_pass» = true;
-        «destination_reject» = true;
+        «source_pass» = First;
+        «source_reject» = First;
+        «destination_pass» = First;
+        «destination_reject» = First;
       };
-      lists = listsOf [] (0 ∷ 65535 ∷ []) [] (0 ∷ 65535 ∷ []);
+      lists =
+          record {
+            sourcePass = two [] [];
+            sourceReject = two (0 ∷ 65535 ∷ []) [];
+            destinationPass = two [] [];
+            destinationReject = two (0 ∷ 65535 ∷ []) [];
+          };
     }
 
 -- a PDU of source 1000 for address 2000
@@ -66,18 +74,18 @@ pub record OwnReport : Type 0 where
   -- I. WHAT 02 ASKS
   -- a PDU that was read, whose source is the own address, echo on, and that is not dropped by 30: 42 twice, nothing delivered, the output untouched;
   -- with the path bit or without, and whatever the lists say
-  pub dropped : (node : Node) (received output : List ℕ) → listOrReadingFault node received ≡ 0 → node .settings .echo ≡ true
+  pub dropped : (node : Node) (received output : List ℕ) → nodeOrReadingFault node received ≡ 0 → node .settings .echo ≡ true
       → headerOf received .source ≡ node .settings .own → isEcho (node .settings) (headerOf received) received ≡ false
       → Hears node received output (twice 42 (pduLength (headerOf received)) (lastSender (headerOf received) received)) output
       × (delivered node (length output) received ≡ [])
   -- with both, 30
-  pub echo-first : (node : Node) (received output : List ℕ) → listOrReadingFault node received ≡ 0
+  pub echo-first : (node : Node) (received output : List ℕ) → nodeOrReadingFault node received ≡ 0
       → isEcho (node .settings) (headerOf received) received ≡ true
       → Hears node received output (twice 30 (pduLength (headerOf received)) (lastSender (headerOf received) received)) output
   -- 42 is answered nowhere else
   pub dropped-only : (node : Node) (room : ℕ) (received : List ℕ)
       → (deliveryNumber node room received ≡ 42) ⊎ (repeatNumber node room received ≡ 42)
-      → (listOrReadingFault node received ≡ 0) × (node .settings .echo ≡ true) × (headerOf received .source ≡ node .settings .own)
+      → (nodeOrReadingFault node received ≡ 0) × (node .settings .echo ≡ true) × (headerOf received .source ≡ node .settings .own)
       × (isEcho (node .settings) (headerOf received) received ≡ false)
   -- with echo off, neither
   pub echo-off : (node : Node) (room : ℕ) (received : List ℕ) → node .settings .echo ≡ false

@@ -21,7 +21,7 @@ use Rattle.pdu.specs.Reading.{readOf, readingNumber, exactlyOne}
 use Rattle.pdu.specs.Parts.{addressesAt, pathIn, payloadIn}
 use Rattle.pdu.proofs.Inversion.{Whole, read-whole, Shown, shown}
 use Rattle.pdu.proofs.Number.{read-0}
-use Rattle.pdu.proofs.Showing.{header-is, length-shown}
+use Rattle.pdu.proofs.Showing.{header-found, header-is, length-shown}
 
 where-called : {A : Type 0} {x y : A} (called : Bool) (otherwise : A) → (called ≡ true → x ≡ y)
     → cond called x otherwise ≡ cond called y otherwise
@@ -77,8 +77,9 @@ module _ (bytes other : List ℕ) (header : Header) (read : readOf bytes ≡ Pdu
   header-same : headerOf other ≡ headerOf bytes
   unfolding headerOf
   header-same =
-      header-is bytes first-same (byte-same 1 (omega arith)) (byte-same 2 (omega arith)) (ap (payloadLength (at other 2)) (byte-same 3 (omega arith)))
-      (word-same sourcePlace (omega arith)) destination-same id-same count-same
+      header-is bytes (destinationIn other) (pduIdIn other) (pathCountIn other) first-same (byte-same 1 (omega arith)) (byte-same 2 (omega arith))
+      (ap (payloadLength (at other 2)) (byte-same 3 (omega arith))) (word-same sourcePlace (omega arith))
+      ∙ header-found bytes destination-same id-same count-same
 
   pub same-reads : readOf other ≡ Pdu header
   same-reads =

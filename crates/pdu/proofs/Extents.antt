@@ -1,15 +1,11 @@
 -- How far a PDU reaches, found step by step as its number is.
 use Prim.Native.Nat.{ℕ, _<_}
 use native.Mathlib.Omega.{arith}
-use mathlib.Core.List.{List}
 use mathlib.Core.Path.{_≡_, refl, ap}
-use lib.ListN.{length}
-use borrow.Author.Tests.{lt-ltb}
 use Rattle.pdu.specs.declared.Extent.{Extent}
 use Rattle.pdu.specs.declared.Reading.{Reading}
 use Rattle.pdu.specs.declared.Reading.the-variants.{Pdu, Refused}
-use Rattle.pdu.specs.Sizes.{fixedLength}
-use Rattle.pdu.specs.Reading.{readOf, readingNumber, noExtent, extentOf}
+use Rattle.pdu.specs.Reading.{readingNumber, noExtent, extentOf}
 
 pub extent-number : (reading : Reading) → extentOf reading .number ≡ readingNumber reading
 extent-number (Pdu header) = refl
@@ -18,10 +14,6 @@ extent-number (Refused refusal) = refl
 pub extent-refused : (reading : Reading) (number : ℕ) → number ≡ readingNumber reading → 0 < number → noExtent number ≡ extentOf reading
 extent-refused (Pdu header) number same some = absurd (omega arith)
 extent-refused (Refused refusal) number same some = ap noExtent same
-
-pub too-short : (bytes : List ℕ) → length bytes < fixedLength → 1 ≡ readingNumber (readOf bytes)
-unfolding readOf
-too-short bytes short = simp (lt-ltb _ _ short)
 
 pub extent-is : {count path size payload head header whole pdu : ℕ} → count ≡ path → size ≡ payload → head ≡ header → whole ≡ pdu
     → _≡_ {A = Extent}

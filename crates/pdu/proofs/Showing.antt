@@ -10,13 +10,12 @@ use Rattle.pdu.specs.declared.Destination.{Destination}
 use Rattle.pdu.specs.declared.Destination.the-variants.{Everyone, Address}
 use Rattle.pdu.specs.declared.Header.{Header}
 use Rattle.pdu.specs.Header.{isSet, protocol, timeStampBit, pathBit, destinationBit, port, encryptedBit, reserved, ackBit, addedHeaderBit}
-use Rattle.pdu.specs.Header.{hopLimit, payloadLength, sourcePlace, destinationPlace, pathCountPlace, destinationIn, pduIdIn, pathCountIn, headerOf}
+use Rattle.pdu.specs.Header.{hopLimit, payloadLength, sourcePlace, destinationPlace, pathCountPlace}
+use Rattle.pdu.specs.Header.{destinationIn, pduIdIn, pathCountIn, headerWith, headerOf}
 use Rattle.pdu.specs.Sizes.{destinationFlag, pathEntries, pathStart, headerLength, pduLength}
 
-pub header-is : (bytes : List ℕ) {byte0 byte1 byte2 byte3 from id count : ℕ} {to : Destination}
-    → byte0 ≡ at bytes 0 → byte1 ≡ at bytes 1 → byte2 ≡ at bytes 2 → byte3 ≡ payloadLength byte2 (at bytes 3)
-    → from ≡ wordAt bytes sourcePlace
-    → to ≡ destinationIn bytes → id ≡ pduIdIn bytes → count ≡ pathCountIn bytes
+pub header-is : (bytes : List ℕ) (to : Destination) (id count : ℕ) {byte0 byte1 byte2 byte3 from : ℕ}
+    → byte0 ≡ at bytes 0 → byte1 ≡ at bytes 1 → byte2 ≡ at bytes 2 → byte3 ≡ payloadLength byte2 (at bytes 3) → from ≡ wordAt bytes sourcePlace
     → _≡_ {A = Header}
     (record {
       protocol = protocol byte0;
@@ -34,9 +33,14 @@ pub header-is : (bytes : List ℕ) {byte0 byte1 byte2 byte3 from id count : ℕ}
       «pdu_id» = id;
       «path_count» = count;
     })
-    (headerOf bytes)
+    (headerWith bytes to id count)
+header-is bytes to id count e0 e1 e2 e3 e4 = rw (e3, e0, e1, e2, e4)
+
+-- with the fields that may be missing found in the bytes, it is the header that they show
+pub header-found : (bytes : List ℕ) {to : Destination} {id count : ℕ} → to ≡ destinationIn bytes → id ≡ pduIdIn bytes → count ≡ pathCountIn bytes
+    → headerWith bytes to id count ≡ headerOf bytes
 unfolding headerOf
-header-is bytes e0 e1 e2 e3 e4 e5 e6 e7 = rw (e3, e0, e1, e2, e4, e5, e6, e7)
+header-found bytes e f g = rw (e, f, g)
 
 -- a bit as a test, and back
 pub flag-isSet : (bit : ℕ) → bit < 2 → flag (isSet bit) ≡ bit
@@ -81,9 +85,11 @@ module _ (bytes : List ℕ) where
   unfolding headerOf
   pdu-length-shown = refl
 
-  -- the PDU's length, from the bytes that tell it
-  pub length-told : (byte0 byte2 byte3 count head payload : ℕ) → byte0 ≡ at bytes 0 → byte2 ≡ at bytes 2 → byte3 ≡ at bytes 3
-      → count ≡ pathCountIn bytes → head ≡ pathCountPlace byte0 + pathBit byte0 + 2 * count → payload ≡ payloadLength byte2 byte3
-      → head + payload ≡ pduLength (headerOf bytes)
-  length-told byte0 byte2 byte3 count head payload e0 e2 e3 ec eh ep =
-      omega (arith, ap (λ (byte : ℕ). pathCountPlace byte) e0, length-shown, pdu-length-shown)
+  -- header's and PDU's length, from the bytes that tell them
+  pub header-told : {byte0 count head : ℕ} → byte0 ≡ at bytes 0 → count ≡ pathCountIn bytes
+      → head ≡ pathCountPlace byte0 + pathBit byte0 + 2 * count → head ≡ headerLength (headerOf bytes)
+  header-told e0 ec eh = omega (arith, ap (λ (byte : ℕ). pathCountPlace byte) e0, length-shown, eh, ec, e0)
+
+  pub length-told : {head byte2 byte3 payload : ℕ} → head ≡ headerLength (headerOf bytes) → byte2 ≡ at bytes 2 → byte3 ≡ at bytes 3
+      → payload ≡ payloadLength byte2 byte3 → head + payload ≡ pduLength (headerOf bytes)
+  length-told eh e2 e3 ep = omega (arith, pdu-length-shown, eh, e2, e3, ep)

@@ -88,9 +88,9 @@ pduIdIn bytes = cond (eqb (protocol (at bytes 0)) 1) (at bytes (pduIdPlace (at b
 abbrev pub pathCountIn : List ℕ → ℕ
 pathCountIn bytes = cond (isSet (pathBit (at bytes 0))) (at bytes (pathCountPlace (at bytes 0))) 0
 
--- the header that bytes show, every field
-unfoldable pub headerOf : List ℕ → Header
-headerOf bytes =
+-- a header: the fields that every header has as bytes show them, and these in the fields that may be missing
+abbrev pub headerWith : List ℕ → Destination → ℕ → ℕ → Header
+headerWith bytes destination id count =
     record {
       protocol = protocol (at bytes 0);
       «time_stamp_request» = isSet (timeStampBit (at bytes 0));
@@ -103,10 +103,14 @@ headerOf bytes =
       «hop_limit» = hopLimit (at bytes 2);
       «payload_length» = payloadLength (at bytes 2) (at bytes 3);
       source = wordAt bytes sourcePlace;
-      destination = destinationIn bytes;
-      «pdu_id» = pduIdIn bytes;
-      «path_count» = pathCountIn bytes;
+      destination = destination;
+      «pdu_id» = id;
+      «path_count» = count;
     }
+
+-- the header that bytes show, every field
+unfoldable pub headerOf : List ℕ → Header
+headerOf bytes = headerWith bytes (destinationIn bytes) (pduIdIn bytes) (pathCountIn bytes)
 
 -- the source among them
 abbrev pub sourceOf : List ℕ → ℕ

@@ -4,6 +4,7 @@ use mathlib.Core.Bool.{Bool, not, cond, _&&_}
 use mathlib.Core.List.{List}
 use lib.Dec.{eqb, ltb}
 use lib.ListN.{length}
+use Rattle.octets.specs.Numbers.{_gives_, _orElse_}
 use Rattle.octets.specs.Octets.{at}
 use Rattle.pdu.specs.declared.Extent.{Extent}
 use Rattle.pdu.specs.declared.Refusal.{Refusal}
@@ -23,6 +24,17 @@ readOf bytes =
     (cond (ltb (length bytes) (headerLength (headerOf bytes))) (Refused HeaderCut)
     (cond (ltb (length bytes) (pduLength (headerOf bytes))) (Refused PayloadCut)
     (Pdu (headerOf bytes)))))))
+
+-- the same as numbers, in two halves: 1 to 4 by how many bytes there are and byte 0, then 5 and 6 by the lengths of header and PDU
+abbrev pub startFault : ℕ → ℕ → ℕ
+startFault there byte0 =
+    ltb there fixedLength gives 1
+    orElse not (eqb (version byte0) 0) gives 2
+    orElse ltb 1 (protocol byte0) gives 3
+    orElse (eqb (protocol byte0) 1 && not (isSet (destinationBit byte0))) gives 4
+
+abbrev pub endFault : ℕ → ℕ → ℕ → ℕ
+endFault there header pdu = ltb there header gives 5 orElse ltb there pdu gives 6
 
 -- the number of each refusal
 abbrev pub refusalNumber : Refusal → ℕ

@@ -5,18 +5,20 @@ use octets::byte_value;
 ghost use mathlib.Core.Path.{_≡_};
 ghost use Prim.Native.Nat.{_+_, _*_, _≤_};
 ghost use mathlib.Core.Bool.{not, _&&_};
-ghost use lib.Dec.{eqb, ltb};
-ghost use Rattle.octets.specs.Numbers.{_gives_, _orElse_};
-ghost use Rattle.pdu.specs.Header.{isSet, version, protocol, pathBit, destinationBit, payloadLength};
-ghost use Rattle.pdu.specs.Header.{pduIdPlace, pathCountPlace, destinationIn, pduIdIn, pathCountIn, headerOf};
+ghost use lib.Dec.{eqb};
+ghost use Rattle.pdu.specs.Header.{isSet, protocol, pathBit, destinationBit, payloadLength};
+ghost use Rattle.pdu.specs.Header.{pduIdPlace, pathCountPlace, destinationIn, pduIdIn, pathCountIn, headerWith};
 ghost use Rattle.pdu.specs.Sizes.{headerLimit};
+ghost use Rattle.pdu.specs.Reading.{startFault, endFault};
 
-// What byte 0 alone is refused for: 2, 3 or 4, or 0.
-pub(crate) fn first_byte_fault(byte0: u8) -> u8
-    ensures { λ r. ⌜ r ≡ (not (eqb (version byte0) 0) gives 2
-        orElse ltb 1 (protocol byte0) gives 3
-        orElse (eqb (protocol byte0) 1 && not (isSet (destinationBit byte0))) gives 4) ⌝ }
+// What so many bytes that begin with `byte0` are refused for before their header is looked at: 1, 2, 3 or 4, or 0.
+// Document 01, "Numbers answered", 1 to 4.
+pub fn start_fault(there: usize, byte0: u8) -> u8
+    ensures { λ r. ⌜ r ≡ startFault there byte0 ⌝ }
 {
+    if there < Header::FIXED_LENGTH {
+        return 1;
+    }
     if byte0 / 64 != 0 {
         return 2;
     }
@@ -24,6 +26,16 @@ pub(crate) fn first_byte_fault(byte0: u8) -> u8
         return 3;
     }
     if no_destination(byte0) { 4 } else { 0 }
+}
+
+// What so many bytes are refused for as a PDU of those lengths: 5 or 6, or 0. Document 01, "Numbers answered", 5 and 6.
+pub fn end_fault(there: usize, header_length: usize, pdu_length: usize) -> u8
+    ensures { λ r. ⌜ r ≡ endFault there «header_length» «pdu_length» ⌝ }
+{
+    if there < header_length {
+        return 5;
+    }
+    if there < pdu_length { 6 } else { 0 }
 }
 
 // Reliable service without a destination.
@@ -37,15 +49,10 @@ fn no_destination(byte0: u8) -> bool
     }
 }
 
-// The header that bytes show, from the three fields that byte 0 calls for, found before; the others, always there, are read here.
-pub(crate) fn header_from(
-    bytes: &[u8],
-    destination: Destination,
-    pdu_id: u8,
-    path_count: u8,
-) -> Header
-    requires { ⌜ (destination ≡ destinationIn (now bytes)) × («pdu_id» ≡ pduIdIn (now bytes)) × («path_count» ≡ pathCountIn (now bytes)) ⌝ }
-    ensures { λ r. ⌜ r ≡ headerOf (now (bytes .entry)) ⌝ }
+// A header: the fields that every header has as bytes show them, and these in the fields that byte 0 calls for, found before.
+// Document 01, "Header, byte by byte".
+pub fn header_from(bytes: &[u8], destination: Destination, pdu_id: u8, path_count: u8) -> Header
+    ensures { λ r. ⌜ r ≡ headerWith (now (bytes .entry)) destination «pdu_id» «path_count» ⌝ }
 {
     let byte0 = octets::byte(bytes, 0);
     let byte1 = octets::byte(bytes, 1);
@@ -68,20 +75,23 @@ pub(crate) fn header_from(
     }
 }
 
-pub(crate) fn payload_length(byte2: u8, byte3: u8) -> u16
+// The payload's length by the bytes that hold it, 12 bits. Document 01, "Header, byte by byte": bytes 2 and 3.
+pub fn payload_length(byte2: u8, byte3: u8) -> u16
     ensures { λ r. ⌜ r ≡ payloadLength byte2 byte3 ⌝ }
 {
     (byte2 % 16) as u16 * 256 + byte3 as u16
 }
 
-// The header's length by its bytes: up to the path count, the count's own byte if the path bit is set, and 2 bytes for each address.
-pub(crate) fn header_length_in(byte0: u8, path_count: u8) -> usize
+// The header's length by byte 0 and the path count: up to the count, its own byte if the path bit is set, and 2 bytes for each address.
+// Document 01, "Header, byte by byte", the fields called for.
+pub fn header_length_in(byte0: u8, path_count: u8) -> usize
     ensures { λ r. ⌜ (r ≡ pathCountPlace byte0 + pathBit byte0 + 2 * «path_count») × (r ≤ headerLimit) ⌝ }
 {
     path_count_place(byte0) + byte_value(byte0 / 2 % 2) + 2 * byte_value(path_count)
 }
 
-pub(crate) fn destination_in(bytes: &[u8]) -> Destination
+// Who the bytes are for, by byte 0: the address after byte 5, or everyone. Document 01, "Header, byte by byte", the first field called for.
+pub fn destination_in(bytes: &[u8]) -> Destination
     ensures { λ r. ⌜ r ≡ destinationIn (now (bytes .entry)) ⌝ }
 {
     let byte0 = octets::byte(bytes, 0);
@@ -92,7 +102,8 @@ pub(crate) fn destination_in(bytes: &[u8]) -> Destination
     }
 }
 
-pub(crate) fn pdu_id_in(bytes: &[u8]) -> u8
+// The PDU ID at its place; 0 where byte 0 calls for none. Document 01, "Header, byte by byte", the second field called for.
+pub fn pdu_id_in(bytes: &[u8]) -> u8
     ensures { λ r. ⌜ r ≡ pduIdIn (now (bytes .entry)) ⌝ }
 {
     let byte0 = octets::byte(bytes, 0);
@@ -103,7 +114,8 @@ pub(crate) fn pdu_id_in(bytes: &[u8]) -> u8
     }
 }
 
-pub(crate) fn path_count_in(bytes: &[u8]) -> u8
+// The path count at its place; 0 where byte 0 calls for none. Document 01, "Header, byte by byte", the third field called for.
+pub fn path_count_in(bytes: &[u8]) -> u8
     ensures { λ r. ⌜ r ≡ pathCountIn (now (bytes .entry)) ⌝ }
 {
     let byte0 = octets::byte(bytes, 0);
@@ -114,13 +126,15 @@ pub(crate) fn path_count_in(bytes: &[u8]) -> u8
     }
 }
 
-fn pdu_id_place(byte0: u8) -> usize
+// Where the PDU ID stands, if there is one. Document 01, "Header, byte by byte", after the destination.
+pub fn pdu_id_place(byte0: u8) -> usize
     ensures { λ r. ⌜ r ≡ pduIdPlace byte0 ⌝ }
 {
     Header::FIXED_LENGTH + 2 * byte_value(byte0 % 2)
 }
 
-fn path_count_place(byte0: u8) -> usize
+// Where the path count stands, if there is one. Document 01, "Header, byte by byte", after destination and PDU ID.
+pub fn path_count_place(byte0: u8) -> usize
     ensures { λ r. ⌜ (r ≡ pathCountPlace byte0) × (r ≤ 9) ⌝ }
 {
     pdu_id_place(byte0) + byte_value(octets::flag(byte0 / 8 % 8 == 1))

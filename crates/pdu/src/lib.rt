@@ -1,5 +1,5 @@
 // A PDU: its header and its limits, reading it, and its parts.
-mod fields;
+pub mod fields;
 pub mod parts;
 
 ghost use mathlib.Core.Path.{_≡_};
@@ -159,12 +159,9 @@ pub fn destination_flag(destination: Destination) -> u8
 pub fn read(bytes: &[u8]) -> Reading
     ensures { λ r. ⌜ r ≡ readOf (now (bytes .entry)) ⌝ }
 {
-    if bytes.len() < Header::FIXED_LENGTH {
-        return Reading::Refused(Refusal::TooShort);
-    }
-    let first = fields::first_byte_fault(bytes[0]);
-    if first != 0 {
-        return Reading::Refused(refusal_of(first));
+    let start = fields::start_fault(bytes.len(), octets::byte(bytes, 0));
+    if start != 0 {
+        return Reading::Refused(refusal_of(start));
     }
     let header = fields::header_from(
         bytes,
@@ -172,11 +169,9 @@ pub fn read(bytes: &[u8]) -> Reading
         fields::pdu_id_in(bytes),
         fields::path_count_in(bytes),
     );
-    if bytes.len() < header.header_length() {
-        return Reading::Refused(Refusal::HeaderCut);
-    }
-    if bytes.len() < header.pdu_length() {
-        return Reading::Refused(Refusal::PayloadCut);
+    let end = fields::end_fault(bytes.len(), header.header_length(), header.pdu_length());
+    if end != 0 {
+        return Reading::Refused(refusal_of(end));
     }
     Reading::Pdu(header)
 }
@@ -194,23 +189,18 @@ pub fn fault(bytes: &[u8]) -> u8
 pub fn extent_of(bytes: &[u8]) -> Extent
     ensures { λ r. ⌜ r ≡ extentOf (readOf (now (bytes .entry))) ⌝ }
 {
-    if bytes.len() < Header::FIXED_LENGTH {
-        return no_extent(1);
-    }
-    let byte0 = bytes[0];
-    let first = fields::first_byte_fault(byte0);
-    if first != 0 {
-        return no_extent(first);
+    let byte0 = octets::byte(bytes, 0);
+    let start = fields::start_fault(bytes.len(), byte0);
+    if start != 0 {
+        return no_extent(start);
     }
     let path_count = fields::path_count_in(bytes);
+    let payload_length = fields::payload_length(octets::byte(bytes, 2), octets::byte(bytes, 3));
     let header_length = fields::header_length_in(byte0, path_count);
-    if bytes.len() < header_length {
-        return no_extent(5);
-    }
-    let payload_length = fields::payload_length(bytes[2], bytes[3]);
     let pdu_length = header_length + word_value(payload_length);
-    if bytes.len() < pdu_length {
-        return no_extent(6);
+    let end = fields::end_fault(bytes.len(), header_length, pdu_length);
+    if end != 0 {
+        return no_extent(end);
     }
     Extent {
         number: 0,

@@ -12,7 +12,7 @@ use Rattle.batch.proofs.numbers_of.Kinds as numbers-of-kinds
 pub cursor-start : Promised 0 cursor-start-kinds.ps cursor-start-kinds.r cursor-start-reads.Asked cursor-start-reads.Post (λ κs x. x)
 cursor-start = (λ κs a. tt, λ κs a x y s t p q. p ∙ sym q)
 
-pub step : PromisedWithOutput 3 step-kinds.ps step-kinds.r step-reads.Asked step-reads.Post (λ κs s. now (s .1 .1 .1 .1 .1 .1 .1 .0))
+pub step : PromisedWithOutput 3 step-kinds.ps step-kinds.r step-reads.Asked step-reads.Post (λ κs s. now (s .1 .1 .1 .1 .0))
 step = (λ κs a. tt, λ κs a x y s t p q. (p .0 ∙ sym (q .0), p .1 ∙ sym (q .1)))
 
 pub numbers-of : Promised 0 numbers-of-kinds.ps numbers-of-kinds.r numbers-of-reads.Asked numbers-of-reads.Post (λ κs x. x)

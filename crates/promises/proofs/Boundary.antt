@@ -1,6 +1,8 @@
 -- Every public function of `boundary`: its promise asks nothing of the caller and determines what the caller sees.
 use mathlib.Core.Path.{sym, _∙_}
 use Rattle.promises.specs.Promise.{Promised}
+use Rattle.boundary.proofs.reading.summary_in_c.Reads as summary-in-c-reads
+use Rattle.boundary.proofs.reading.summary_in_c.Kinds as summary-in-c-kinds
 use Rattle.boundary.proofs.originating.fresh_from_c.Reads as fresh-from-c-reads
 use Rattle.boundary.proofs.originating.fresh_from_c.Kinds as fresh-from-c-kinds
 use Rattle.boundary.proofs.a_node.node_from_c.Reads as node-from-c-reads
@@ -15,6 +17,9 @@ use Rattle.boundary.proofs.planning.bound_in_c.Reads as bound-in-c-reads
 use Rattle.boundary.proofs.planning.bound_in_c.Kinds as bound-in-c-kinds
 use Rattle.boundary.proofs.planning.limits_in_c.Reads as limits-in-c-reads
 use Rattle.boundary.proofs.planning.limits_in_c.Kinds as limits-in-c-kinds
+
+pub summary-in-c : Promised 0 summary-in-c-kinds.ps summary-in-c-kinds.r summary-in-c-reads.Asked summary-in-c-reads.Post (λ κs x. x)
+summary-in-c = (λ κs a. tt, λ κs a x y s t p q. p ∙ sym q)
 
 pub fresh-from-c : Promised 0 fresh-from-c-kinds.ps fresh-from-c-kinds.r fresh-from-c-reads.Asked fresh-from-c-reads.Post (λ κs x. x)
 fresh-from-c = (λ κs a. tt, λ κs a x y s t p q. p ∙ sym q)

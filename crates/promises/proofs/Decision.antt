@@ -1,8 +1,6 @@
 -- Every public function of `decision`: its promise asks nothing of the caller and determines what the caller sees.
 use mathlib.Core.Path.{sym, _∙_}
 use Rattle.promises.specs.Promise.{Promised}
-use Rattle.decision.proofs.listed_fault.Reads as listed-fault-reads
-use Rattle.decision.proofs.listed_fault.Kinds as listed-fault-kinds
 use Rattle.decision.proofs.echo_fault.Reads as echo-fault-reads
 use Rattle.decision.proofs.echo_fault.Kinds as echo-fault-kinds
 use Rattle.decision.proofs.drop_fault.Reads as drop-fault-reads
@@ -11,9 +9,6 @@ use Rattle.decision.proofs.delivery_fault.Reads as delivery-fault-reads
 use Rattle.decision.proofs.delivery_fault.Kinds as delivery-fault-kinds
 use Rattle.decision.proofs.repeat_fault.Reads as repeat-fault-reads
 use Rattle.decision.proofs.repeat_fault.Kinds as repeat-fault-kinds
-
-pub listed-fault : Promised 2 listed-fault-kinds.ps listed-fault-kinds.r listed-fault-reads.Asked listed-fault-reads.Post (λ κs x. x)
-listed-fault = (λ κs a. tt, λ κs a x y s t p q. p ∙ sym q)
 
 pub echo-fault : Promised 1 echo-fault-kinds.ps echo-fault-kinds.r echo-fault-reads.Asked echo-fault-reads.Post (λ κs x. x)
 echo-fault = (λ κs a. tt, λ κs a x y s t p q. p ∙ sym q)

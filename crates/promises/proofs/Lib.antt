@@ -11,11 +11,10 @@ pub mod Writing
 pub mod Editions
 pub mod Origin
 pub mod Lists
+pub mod ListBlock
 pub mod Decision
 pub mod Node
 pub mod Batch
-pub mod Hearing
-pub mod Seasons
 pub mod Text
 pub mod Lines
 pub mod Job

@@ -12,14 +12,18 @@ use Rattle.mant.proofs.reading.mant_write_again.Reads as mant-write-again-reads
 use Rattle.mant.proofs.reading.mant_write_again.Kinds as mant-write-again-kinds
 use Rattle.mant.proofs.originating.mant_originate.Reads as mant-originate-reads
 use Rattle.mant.proofs.originating.mant_originate.Kinds as mant-originate-kinds
-use Rattle.mant.proofs.a_node.mant_list_fault_eight.Reads as mant-list-fault-eight-reads
-use Rattle.mant.proofs.a_node.mant_list_fault_eight.Kinds as mant-list-fault-eight-kinds
-use Rattle.mant.proofs.a_node.mant_list_holds.Reads as mant-list-holds-reads
-use Rattle.mant.proofs.a_node.mant_list_holds.Kinds as mant-list-holds-kinds
-use Rattle.mant.proofs.a_node.mant_hear_eight.Reads as mant-hear-eight-reads
-use Rattle.mant.proofs.a_node.mant_hear_eight.Kinds as mant-hear-eight-kinds
-use Rattle.mant.proofs.a_node.mant_step_eight.Reads as mant-step-eight-reads
-use Rattle.mant.proofs.a_node.mant_step_eight.Kinds as mant-step-eight-kinds
+use Rattle.mant.proofs.address_lists.mant_list_fault.Reads as mant-list-fault-reads
+use Rattle.mant.proofs.address_lists.mant_list_fault.Kinds as mant-list-fault-kinds
+use Rattle.mant.proofs.address_lists.mant_list_holds.Reads as mant-list-holds-reads
+use Rattle.mant.proofs.address_lists.mant_list_holds.Kinds as mant-list-holds-kinds
+use Rattle.mant.proofs.address_lists.mant_lay_eight.Reads as mant-lay-eight-reads
+use Rattle.mant.proofs.address_lists.mant_lay_eight.Kinds as mant-lay-eight-kinds
+use Rattle.mant.proofs.a_node.mant_hear.Reads as mant-hear-reads
+use Rattle.mant.proofs.a_node.mant_hear.Kinds as mant-hear-kinds
+use Rattle.mant.proofs.a_node.mant_step.Reads as mant-step-reads
+use Rattle.mant.proofs.a_node.mant_step.Kinds as mant-step-kinds
+use Rattle.mant.proofs.a_node.mant_change_over.Reads as mant-change-over-reads
+use Rattle.mant.proofs.a_node.mant_change_over.Kinds as mant-change-over-kinds
 use Rattle.mant.proofs.planning.mant_most_transmissions.Reads as mant-most-transmissions-reads
 use Rattle.mant.proofs.planning.mant_most_transmissions.Kinds as mant-most-transmissions-kinds
 use Rattle.mant.proofs.planning.mant_most_bytes.Reads as mant-most-bytes-reads
@@ -40,8 +44,8 @@ use Rattle.mant.proofs.stations_heard.mant_count_heard.Reads as mant-count-hear
 use Rattle.mant.proofs.stations_heard.mant_count_heard.Kinds as mant-count-heard-kinds
 use Rattle.mant.proofs.stations_heard.mant_count_answer.Reads as mant-count-answer-reads
 use Rattle.mant.proofs.stations_heard.mant_count_answer.Kinds as mant-count-answer-kinds
-use Rattle.mant.proofs.stations_heard.mant_hear_and_count_eight.Reads as mant-hear-and-count-eight-reads
-use Rattle.mant.proofs.stations_heard.mant_hear_and_count_eight.Kinds as mant-hear-and-count-eight-kinds
+use Rattle.mant.proofs.stations_heard.mant_hear_and_count.Reads as mant-hear-and-count-reads
+use Rattle.mant.proofs.stations_heard.mant_hear_and_count.Kinds as mant-hear-and-count-kinds
 use Rattle.mant.proofs.serial_exchange.mant_read_exchange.Reads as mant-read-exchange-reads
 use Rattle.mant.proofs.serial_exchange.mant_read_exchange.Kinds as mant-read-exchange-kinds
 use Rattle.mant.proofs.serial_exchange.mant_write_exchange.Reads as mant-write-exchange-reads
@@ -77,22 +81,30 @@ pub mant-originate : PromisedWithOutput 2 mant-originate-kinds.ps mant-originate
     mant-originate-reads.Post (λ κs s. now (s .1 .1 .0))
 mant-originate = (λ κs a. tt, λ κs a x y s t p q. (p .0 ∙ sym (q .0), p .1 ∙ sym (q .1)))
 
-pub mant-list-fault-eight : Promised 1 mant-list-fault-eight-kinds.ps mant-list-fault-eight-kinds.r mant-list-fault-eight-reads.Asked
-    mant-list-fault-eight-reads.Post (λ κs x. x)
-mant-list-fault-eight = (λ κs a. tt, λ κs a x y s t p q. p ∙ sym q)
+pub mant-list-fault : Promised 1 mant-list-fault-kinds.ps mant-list-fault-kinds.r mant-list-fault-reads.Asked
+    mant-list-fault-reads.Post (λ κs x. x)
+mant-list-fault = (λ κs a. tt, λ κs a x y s t p q. p ∙ sym q)
 
 pub mant-list-holds : Promised 1 mant-list-holds-kinds.ps mant-list-holds-kinds.r mant-list-holds-reads.Asked mant-list-holds-reads.Post (λ κs x. x)
 mant-list-holds = (λ κs a. tt, λ κs a x y s t p q. p ∙ sym q)
 
-pub mant-hear-eight : PromisedWithOutput 3 mant-hear-eight-kinds.ps mant-hear-eight-kinds.r mant-hear-eight-reads.Asked
-    mant-hear-eight-reads.Post
-    (λ κs s. now (s .1 .1 .1 .1 .1 .1 .1 .1 .1 .1 .1 .0))
-mant-hear-eight = (λ κs a. tt, λ κs a x y s t p q. (p .0 ∙ sym (q .0), p .1 ∙ sym (q .1)))
+pub mant-lay-eight : PromisedWithOutput 2 mant-lay-eight-kinds.ps mant-lay-eight-kinds.r mant-lay-eight-reads.Asked
+    mant-lay-eight-reads.Post (λ κs s. now (s .0))
+mant-lay-eight = (λ κs a. tt, λ κs a x y s t p q. (p .1 ∙ sym (q .1), p .0 ∙ sym (q .0)))
 
-pub mant-step-eight : PromisedWithOutput 3 mant-step-eight-kinds.ps mant-step-eight-kinds.r mant-step-eight-reads.Asked
-    mant-step-eight-reads.Post
-    (λ κs s. now (s .1 .1 .1 .1 .1 .1 .1 .1 .1 .1 .1 .1 .0))
-mant-step-eight = (λ κs a. tt, λ κs a x y s t p q. (p .0 ∙ sym (q .0), p .1 ∙ sym (q .1)))
+pub mant-hear : PromisedWithOutput 3 mant-hear-kinds.ps mant-hear-kinds.r mant-hear-reads.Asked
+    mant-hear-reads.Post
+    (λ κs s. now (s .1 .1 .1 .0))
+mant-hear = (λ κs a. tt, λ κs a x y s t p q. (p .0 ∙ sym (q .0), p .1 ∙ sym (q .1)))
+
+pub mant-step : PromisedWithOutput 3 mant-step-kinds.ps mant-step-kinds.r mant-step-reads.Asked
+    mant-step-reads.Post
+    (λ κs s. now (s .1 .1 .1 .1 .0))
+mant-step = (λ κs a. tt, λ κs a x y s t p q. (p .0 ∙ sym (q .0), p .1 ∙ sym (q .1)))
+
+pub mant-change-over : Promised 0 mant-change-over-kinds.ps mant-change-over-kinds.r mant-change-over-reads.Asked
+    mant-change-over-reads.Post (λ κs x. x)
+mant-change-over = (λ κs a. tt, λ κs a x y s t p q. p ∙ sym q)
 
 pub mant-most-transmissions : Promised 0 mant-most-transmissions-kinds.ps mant-most-transmissions-kinds.r
     mant-most-transmissions-reads.Asked mant-most-transmissions-reads.Post (λ κs x. x)
@@ -135,11 +147,11 @@ pub mant-count-answer : PromisedWithOutput 2 mant-count-answer-kinds.ps mant-cou
     (λ κs s. now (s .0))
 mant-count-answer = (λ κs a. tt, λ κs a x y s t p q. (p .0 ∙ sym (q .0), p .1 ∙ sym (q .1)))
 
-pub mant-hear-and-count-eight : PromisedWithOutput 4 mant-hear-and-count-eight-kinds.ps mant-hear-and-count-eight-kinds.r
-    mant-hear-and-count-eight-reads.Asked
-    mant-hear-and-count-eight-reads.Post
-    (λ κs s. both (now (s .1 .1 .1 .1 .1 .1 .1 .1 .1 .1 .1 .0)) (now (s .1 .1 .1 .1 .1 .1 .1 .1 .1 .1 .1 .1 .0)))
-mant-hear-and-count-eight = (
+pub mant-hear-and-count : PromisedWithOutput 4 mant-hear-and-count-kinds.ps mant-hear-and-count-kinds.r
+    mant-hear-and-count-reads.Asked
+    mant-hear-and-count-reads.Post
+    (λ κs s. both (now (s .1 .1 .1 .0)) (now (s .1 .1 .1 .1 .0)))
+mant-hear-and-count = (
   λ κs a. tt,
   λ κs a x y s t p q. (
     λ i. record { answer = (p .0 .0 ∙ sym (q .0 .0)) i; «table_number» = (p .1 ∙ sym (q .1)) i },

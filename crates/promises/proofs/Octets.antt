@@ -7,6 +7,8 @@ use Rattle.octets.proofs.byte.Reads as byte-reads
 use Rattle.octets.proofs.byte.Kinds as byte-kinds
 use Rattle.octets.proofs.word.Reads as word-reads
 use Rattle.octets.proofs.word.Kinds as word-kinds
+use Rattle.octets.proofs.word_of.Reads as word-of-reads
+use Rattle.octets.proofs.word_of.Kinds as word-of-kinds
 use Rattle.octets.proofs.byte_value.Reads as byte-value-reads
 use Rattle.octets.proofs.byte_value.Kinds as byte-value-kinds
 use Rattle.octets.proofs.word_value.Reads as word-value-reads
@@ -29,6 +31,9 @@ byte = (λ κs a. tt, λ κs a x y s t p q. p ∙ sym q)
 
 pub word : Promised 1 word-kinds.ps word-kinds.r word-reads.Asked word-reads.Post (λ κs x. x)
 word = (λ κs a. tt, λ κs a x y s t p q. p ∙ sym q)
+
+pub word-of : Promised 0 word-of-kinds.ps word-of-kinds.r word-of-reads.Asked word-of-reads.Post (λ κs x. x)
+word-of = (λ κs a. tt, λ κs a x y s t p q. p ∙ sym q)
 
 pub byte-value : Promised 0 byte-value-kinds.ps byte-value-kinds.r byte-value-reads.Asked byte-value-reads.Post (λ κs x. x)
 byte-value = (λ κs a. tt, λ κs a x y s t p q. p .0 ∙ sym (q .0))

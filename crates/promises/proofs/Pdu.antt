@@ -26,6 +26,26 @@ use Rattle.pdu.proofs.header_of.Reads as header-of-reads
 use Rattle.pdu.proofs.header_of.Kinds as header-of-kinds
 use Rattle.pdu.proofs.pdu_length_in.Reads as pdu-length-in-reads
 use Rattle.pdu.proofs.pdu_length_in.Kinds as pdu-length-in-kinds
+use Rattle.pdu.proofs.fields.start_fault.Reads as fields-start-fault-reads
+use Rattle.pdu.proofs.fields.start_fault.Kinds as fields-start-fault-kinds
+use Rattle.pdu.proofs.fields.end_fault.Reads as fields-end-fault-reads
+use Rattle.pdu.proofs.fields.end_fault.Kinds as fields-end-fault-kinds
+use Rattle.pdu.proofs.fields.payload_length.Reads as fields-payload-length-reads
+use Rattle.pdu.proofs.fields.payload_length.Kinds as fields-payload-length-kinds
+use Rattle.pdu.proofs.fields.header_length_in.Reads as fields-header-length-in-reads
+use Rattle.pdu.proofs.fields.header_length_in.Kinds as fields-header-length-in-kinds
+use Rattle.pdu.proofs.fields.destination_in.Reads as fields-destination-in-reads
+use Rattle.pdu.proofs.fields.destination_in.Kinds as fields-destination-in-kinds
+use Rattle.pdu.proofs.fields.pdu_id_in.Reads as fields-pdu-id-in-reads
+use Rattle.pdu.proofs.fields.pdu_id_in.Kinds as fields-pdu-id-in-kinds
+use Rattle.pdu.proofs.fields.path_count_in.Reads as fields-path-count-in-reads
+use Rattle.pdu.proofs.fields.path_count_in.Kinds as fields-path-count-in-kinds
+use Rattle.pdu.proofs.fields.pdu_id_place.Reads as fields-pdu-id-place-reads
+use Rattle.pdu.proofs.fields.pdu_id_place.Kinds as fields-pdu-id-place-kinds
+use Rattle.pdu.proofs.fields.path_count_place.Reads as fields-path-count-place-reads
+use Rattle.pdu.proofs.fields.path_count_place.Kinds as fields-path-count-place-kinds
+use Rattle.pdu.proofs.fields.header_from.Reads as fields-header-from-reads
+use Rattle.pdu.proofs.fields.header_from.Kinds as fields-header-from-kinds
 use Rattle.pdu.proofs.parts.path_address.Reads as parts-path-address-reads
 use Rattle.pdu.proofs.parts.path_address.Kinds as parts-path-address-kinds
 use Rattle.pdu.proofs.parts.path_has.Reads as parts-path-has-reads
@@ -94,3 +114,43 @@ parts-payload = (λ κs a. tt, λ κs a x y s t p q. one-part _ _ _ x y p q)
 pub destination-flag : Promised 0 destination-flag-kinds.ps destination-flag-kinds.r destination-flag-reads.Asked
     destination-flag-reads.Post (λ κs x. x)
 destination-flag = (λ κs a. tt, λ κs a x y s t p q. p .0 ∙ sym (q .0))
+
+pub fields-start-fault : Promised 0 fields-start-fault-kinds.ps fields-start-fault-kinds.r fields-start-fault-reads.Asked
+    fields-start-fault-reads.Post (λ κs x. x)
+fields-start-fault = (λ κs a. tt, λ κs a x y s t p q. p ∙ sym q)
+
+pub fields-end-fault : Promised 0 fields-end-fault-kinds.ps fields-end-fault-kinds.r fields-end-fault-reads.Asked
+    fields-end-fault-reads.Post (λ κs x. x)
+fields-end-fault = (λ κs a. tt, λ κs a x y s t p q. p ∙ sym q)
+
+pub fields-payload-length : Promised 0 fields-payload-length-kinds.ps fields-payload-length-kinds.r fields-payload-length-reads.Asked
+    fields-payload-length-reads.Post (λ κs x. x)
+fields-payload-length = (λ κs a. tt, λ κs a x y s t p q. p ∙ sym q)
+
+pub fields-header-length-in : Promised 0 fields-header-length-in-kinds.ps fields-header-length-in-kinds.r fields-header-length-in-reads.Asked
+    fields-header-length-in-reads.Post (λ κs x. x)
+fields-header-length-in = (λ κs a. tt, λ κs a x y s t p q. p .0 ∙ sym (q .0))
+
+pub fields-destination-in : Promised 1 fields-destination-in-kinds.ps fields-destination-in-kinds.r fields-destination-in-reads.Asked
+    fields-destination-in-reads.Post (λ κs x. x)
+fields-destination-in = (λ κs a. tt, λ κs a x y s t p q. p ∙ sym q)
+
+pub fields-pdu-id-in : Promised 1 fields-pdu-id-in-kinds.ps fields-pdu-id-in-kinds.r fields-pdu-id-in-reads.Asked
+    fields-pdu-id-in-reads.Post (λ κs x. x)
+fields-pdu-id-in = (λ κs a. tt, λ κs a x y s t p q. p ∙ sym q)
+
+pub fields-path-count-in : Promised 1 fields-path-count-in-kinds.ps fields-path-count-in-kinds.r fields-path-count-in-reads.Asked
+    fields-path-count-in-reads.Post (λ κs x. x)
+fields-path-count-in = (λ κs a. tt, λ κs a x y s t p q. p ∙ sym q)
+
+pub fields-pdu-id-place : Promised 0 fields-pdu-id-place-kinds.ps fields-pdu-id-place-kinds.r fields-pdu-id-place-reads.Asked
+    fields-pdu-id-place-reads.Post (λ κs x. x)
+fields-pdu-id-place = (λ κs a. tt, λ κs a x y s t p q. p ∙ sym q)
+
+pub fields-path-count-place : Promised 0 fields-path-count-place-kinds.ps fields-path-count-place-kinds.r fields-path-count-place-reads.Asked
+    fields-path-count-place-reads.Post (λ κs x. x)
+fields-path-count-place = (λ κs a. tt, λ κs a x y s t p q. p .0 ∙ sym (q .0))
+
+pub fields-header-from : Promised 1 fields-header-from-kinds.ps fields-header-from-kinds.r fields-header-from-reads.Asked
+    fields-header-from-reads.Post (λ κs x. x)
+fields-header-from = (λ κs a. tt, λ κs a x y s t p q. p ∙ sym q)

@@ -13,30 +13,30 @@ use Rattle.transmit.specs.Adding.{addNumber, memoryAfterAdd}
 use Rattle.transmit.specs.Taking.{batchOf, memoryAfterTake}
 use Rattle.transmit.specs.History.{Adding, Taking, Clearing, memoryAfter, takenAndCleared}
 use Rattle.transmit.proofs.Histories.{added-kept, added-level, add-refused, add-kept, taken-kept, take-none, take-kept, take-level, queued}
-use Rattle.transmit_queue.specs.TransmitQueue.{six, seven, eight}
+use Rattle.transmit_queue.specs.TransmitQueue.{of6, of7, of8}
 use Rattle.queue_level.specs.QueueLevel.{level, after, QueueLevel}
 
 -- the cases that compute, each by itself
 module _ where
-  clear-there : keptLevel (after (Clearing ∷ Adding seven ∷ Adding six ∷ [])) ≡ level 0 0
+  clear-there : keptLevel (after (Clearing ∷ Adding of7 ∷ Adding of6 ∷ [])) ≡ level 0 0
   unfolding heldIn pdusIn memoryOf memoryAfterClear over placed flatten exactlyOne readOf headerOf _gives_ _orElse_ addNumber memoryAfterAdd memoryAfter
   clear-there = refl
 
-  take-there : keptLevel (after (Taking 14 ∷ Adding eight ∷ Adding seven ∷ Adding six ∷ [])) ≡ level 1 8
+  take-there : keptLevel (after (Taking 14 ∷ Adding of8 ∷ Adding of7 ∷ Adding of6 ∷ [])) ≡ level 1 8
   unfolding heldIn pdusIn memoryOf over flatten fitting exactlyOne readOf headerOf _gives_ _orElse_ addNumber memoryAfterAdd memoryAfterTake memoryAfter
   take-there = refl
 
-  refusal-there : keptLevel (after (Adding (0 ∷ []) ∷ Adding six ∷ [])) ≡ level 1 6
+  refusal-there : keptLevel (after (Adding (0 ∷ []) ∷ Adding of6 ∷ [])) ≡ level 1 6
   unfolding heldIn pdusIn memoryOf over flatten exactlyOne readOf headerOf _gives_ _orElse_ addNumber memoryAfterAdd memoryAfter
   refusal-there = refl
 
-  between-there : takenAndCleared (replicate 50 0) (Taking 7 ∷ Adding seven ∷ Clearing ∷ Taking 6 ∷ Adding eight ∷ Adding six ∷ [])
-      ≡ six ∷ eight ∷ seven ∷ []
+  between-there : takenAndCleared (replicate 50 0) (Taking 7 ∷ Adding of7 ∷ Clearing ∷ Taking 6 ∷ Adding of8 ∷ Adding of6 ∷ [])
+      ≡ of6 ∷ of8 ∷ of7 ∷ []
   unfolding heldIn pdusIn memoryOf memoryAfterClear over placed flatten fitting exactlyOne readOf headerOf _gives_ _orElse_ addNumber memoryAfterAdd
       memoryAfterTake memoryAfter takenAndCleared
   between-there = refl
 
-  hand-there : let memory = 0 ∷ 9 ∷ 0 ∷ 13 ∷ six ++ seven in (keptLevel memory ≡ level 9 13) × (levelOf (heldIn memory) ≡ level 2 13)
+  hand-there : let memory = 0 ∷ 9 ∷ 0 ∷ 13 ∷ of6 ++ of7 in (keptLevel memory ≡ level 9 13) × (levelOf (heldIn memory) ≡ level 2 13)
   unfolding heldIn pdusIn flatten readOf headerOf
   hand-there = (refl, refl)
 

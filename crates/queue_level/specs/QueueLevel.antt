@@ -10,7 +10,7 @@ use Rattle.queue.specs.Queue.{heldIn, levelOf, keptLevel, Kept, memoryAfterClea
 use Rattle.transmit.specs.Adding.{addNumber, memoryAfterAdd}
 use Rattle.transmit.specs.Taking.{batchOf, memoryAfterTake}
 use Rattle.transmit.specs.History.{Deed, Adding, Taking, Clearing, memoryAfter, takenAndCleared}
-use Rattle.transmit_queue.specs.TransmitQueue.{six, seven, eight}
+use Rattle.transmit_queue.specs.TransmitQueue.{of6, of7, of8}
 
 abbrev pub level : ℕ → ℕ → Level
 level pdus bytes = record { pdus = pdus; bytes = bytes }
@@ -51,11 +51,11 @@ pub record QueueLevel : Type 0 where
   pub too-short : (memory : List ℕ) → length memory < 4 → memoryAfterClear memory ≡ memory
   -- IV. WORKED CASES
   -- after a clear; after a take of two of three; after an add that was refused
-  pub after-clear : keptLevel (after (Clearing ∷ Adding seven ∷ Adding six ∷ [])) ≡ level 0 0
-  pub after-take : keptLevel (after (Taking 14 ∷ Adding eight ∷ Adding seven ∷ Adding six ∷ [])) ≡ level 1 8
-  pub after-refusal : keptLevel (after (Adding (0 ∷ []) ∷ Adding six ∷ [])) ≡ level 1 6
+  pub after-clear : keptLevel (after (Clearing ∷ Adding of7 ∷ Adding of6 ∷ [])) ≡ level 0 0
+  pub after-take : keptLevel (after (Taking 14 ∷ Adding of8 ∷ Adding of7 ∷ Adding of6 ∷ [])) ≡ level 1 8
+  pub after-refusal : keptLevel (after (Adding (0 ∷ []) ∷ Adding of6 ∷ [])) ≡ level 1 6
   -- a clear between two takes: what it drops stands between what they took
-  pub in-between : takenAndCleared (replicate 50 0) (Taking 7 ∷ Adding seven ∷ Clearing ∷ Taking 6 ∷ Adding eight ∷ Adding six ∷ [])
-      ≡ six ∷ eight ∷ seven ∷ []
+  pub in-between : takenAndCleared (replicate 50 0) (Taking 7 ∷ Adding of7 ∷ Clearing ∷ Taking 6 ∷ Adding of8 ∷ Adding of6 ∷ [])
+      ≡ of6 ∷ of8 ∷ of7 ∷ []
   -- put together by hand: the level is what the memory says, and not what a walk gives
-  pub by-hand : let memory = 0 ∷ 9 ∷ 0 ∷ 13 ∷ six ++ seven in (keptLevel memory ≡ level 9 13) × (levelOf (heldIn memory) ≡ level 2 13)
+  pub by-hand : let memory = 0 ∷ 9 ∷ 0 ∷ 13 ∷ of6 ++ of7 in (keptLevel memory ≡ level 9 13) × (levelOf (heldIn memory) ≡ level 2 13)

@@ -6,7 +6,6 @@ use mathlib.Core.List.{List, [], _∷_, _++_, flatten, append-nil, append-assoc}
 use mathlib.Core.Path.{_≡_, refl, ap, sym, _∙_}
 use lib.Dec.{eqb, leb}
 use lib.ListN.{length, drop}
-use borrow.Author.Tests.{le-ltb}
 use Rattle.octets.specs.Numbers.{_gives_, _orElse_}
 use Rattle.pdu.specs.Header.{headerOf}
 use Rattle.pdu.specs.Reading.{readOf}
@@ -14,14 +13,15 @@ use Rattle.pdu.specs.Parts.{addressesAt, inPath, lastOr}
 use Rattle.lists.specs.Lists.{lowAboveHigh, faultOf, firstFault}
 use Rattle.decision.specs.Decision.{Node, echoFault, passFault, dropFault, deliveryFault, repeatFault}
 use Rattle.node.specs.Repeat.{repeated}
-use Rattle.node.specs.Answers.{listOrReadingFault, stopFault, deliveryNumber, repeatNumber, taken, heardFrom, answerOf}
-use Rattle.batch.specs.Walk.{batchLimit, Walk, endingAt, before, walkFrom, walk}
+use Rattle.node.specs.Answers.{nodeFault, nodeOrReadingFault, stopFault, deliveryNumber, repeatNumber, taken, heardFrom, answerOf}
+use Rattle.batch.specs.Walk.{Walk, endingAt, before, walkFrom, walk}
+use Rattle.batch.proofs.Stepping.{not-too-long}
 use Rattle.text.specs.Text.{text, digit, decimalWithin, decimal, hex}
 use Rattle.lines.specs.Lines.{firstLine, shown, pduLine, lastLine, refusedLine}
 use Rattle.job.specs.declared.Job.{Job}
 use Rattle.job.specs.declared.JobReading.the-variants as reading
-use Rattle.job.specs.Jobs.{jobHead, rangesNumber, listNumber, batchNumber, listAt, batchAt, sectionsOf, jobOf, settingsOf, batchIn, nodeIn}
-use Rattle.job.proofs.Inversion.{job-in, lists-right}
+use Rattle.job.specs.Jobs.{jobHead, rangesNumber, listNumber, batchNumber, listSection, batchSection, sectionsOf, jobOf, settingsOf, batchIn, nodeIn}
+use Rattle.job.proofs.Inversion.{job-in, node-right}
 use Rattle.run.specs.Run.{roomForOne, pduLines, walkLines, batchLines, runLines, printed}
 use Rattle.run.proofs.Jobs.{batch-short}
 use Rattle.run.proofs.Short.{printed-within}
@@ -49,7 +49,7 @@ module _ (node : Node) (room : ℕ) (batch : List ℕ) where
   unfolding walkFrom
   no-number zero offset = refl
   no-number (suc turns) offset =
-      go (leb (length batch) offset) (eqb (listOrReadingFault node (drop offset batch)) 0)
+      go (leb (length batch) offset) (eqb (nodeOrReadingFault node (drop offset batch)) 0)
       (no-number turns (offset + taken node (drop offset batch)))
     where
       go : (done read : Bool) → walkFrom turns node room batch (offset + taken node (drop offset batch)) .number ≡ 0
@@ -85,18 +85,18 @@ module _ (bytes : List ℕ) (job : Job) (e : jobOf bytes ≡ reading.Job job) wh
 
   not-54 : found .number ≡ 0
   unfolding walk
-  not-54 = rw (le-ltb batchLimit (length batch) (batch-short bytes job batch e refl)) (no-number node roomForOne batch (length batch) 0)
+  not-54 = rw (not-too-long node batch (batch-short bytes job batch e refl)) (no-number node roomForOne batch (length batch) 0)
 
 pub relays : Relayed
 unfolding printed runLines batchLines walkLines pduLines flatten firstLine pduLine lastLine refusedLine shown hex decimal decimalWithin digit
-    jobOf jobHead sectionsOf listAt batchAt listNumber batchNumber rangesNumber settingsOf walk walkFrom deliveryNumber repeatNumber stopFault
-    listOrReadingFault dropFault echoFault passFault deliveryFault repeatFault taken heardFrom repeated readOf headerOf addressesAt inPath lastOr
+    jobOf jobHead sectionsOf listSection batchSection listNumber batchNumber rangesNumber settingsOf walk walkFrom deliveryNumber repeatNumber stopFault
+    nodeFault nodeOrReadingFault dropFault echoFault passFault deliveryFault repeatFault taken heardFrom repeated readOf headerOf addressesAt inPath lastOr
     faultOf firstFault lowAboveHigh _gives_ _orElse_
 relays =
     record {
       refused = λ bytes number e. refused bytes number e;
       relayed = λ bytes job e. relayed bytes job e;
-      no-fault = λ bytes job e. (lists-right bytes job (job-in bytes job e), not-54 bytes job e);
+      no-fault = λ bytes job e. (node-right bytes job (job-in bytes job e), not-54 bytes job e);
       longest-text = λ bytes small. printed-within bytes small;
       whole = λ bytes before after end ran room. ran .whole room;
       longest-input = λ input room enough. printed-cut input room (omega arith);

@@ -11,7 +11,7 @@ use Rattle.writing.specs.Writing.{headerBytes, pathBytes, encode}
 use Rattle.pdu.specs.Parts.{addressesAt, inPath}
 use Rattle.lists.specs.Lists.{lowAboveHigh, faultOf, firstFault, holds}
 use Rattle.decision.specs.Decision.{echoFault, passFault, dropFault, deliveryFault, repeatFault}
-use Rattle.node.specs.Answers.{listOrReadingFault, stopFault, deliveryNumber}
+use Rattle.node.specs.Answers.{nodeFault, nodeOrReadingFault, stopFault, deliveryNumber}
 use Rattle.retained.specs.Records.{isRetainable, unfit, isUsed, namesOf, isNamed, isDue, retainedRecord, freedRecord}
 use Rattle.retained.specs.Table.{first, retainNumber, retain, tableRetained, stepNumber, retryStep, tableStepped}
 use Rattle.answering.specs.Delivered.{acknowledgement, acknowledgeNumber, acknowledge, tableAcknowledged}
@@ -58,7 +58,7 @@ module _ where
 
   delivered-at : (deliveryNumber (nodeAt 1000 true false) 100 command ≡ 0) × (deliveryNumber (nodeAt 2000 true false) 100 reply ≡ 0)
       × (deliveryNumber (nodeAt 3000 true false) 100 command ≡ 39)
-  unfolding deliveryNumber stopFault listOrReadingFault lowAboveHigh faultOf firstFault holds echoFault passFault dropFault deliveryFault repeatFault
+  unfolding deliveryNumber stopFault nodeFault nodeOrReadingFault lowAboveHigh faultOf firstFault holds echoFault passFault dropFault deliveryFault repeatFault
       addressesAt inPath readOf headerOf _gives_ _orElse_
   delivered-at = (refl, refl, refl)
 

@@ -73,16 +73,10 @@ fn names_in(r: Retained) -> Names
 {
     let bytes = r.pdu;
     Names {
-        source: word_of(bytes[4], bytes[5]),
-        destination: word_of(bytes[6], bytes[7]),
+        source: octets::word_of(bytes[4], bytes[5]),
+        destination: octets::word_of(bytes[6], bytes[7]),
         pdu_id: bytes[8],
     }
-}
-
-fn word_of(high: u8, low: u8) -> u16
-    ensures { λ r. ⌜ r ≡ high * 256 + low ⌝ }
-{
-    high as u16 * 256 + low as u16
 }
 
 // Whether a record is in use and has these names.

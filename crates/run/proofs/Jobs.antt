@@ -4,43 +4,45 @@ use native.Mathlib.Omega.{arith}
 use mathlib.Core.List.{List, [], _∷_}
 use mathlib.Core.Path.{_≡_, refl, ap, sym, _∙_}
 use lib.ListN.{length, take, drop, length-take}
-use lib.Seq.{length-take-le}
-use Rattle.octets.specs.Octets.{placed, placeAfter}
+use Rattle.octets.specs.Octets.{over, placed, placeAfter}
 use Rattle.octets.proofs.Placing.{length-placed, after-within}
 use Rattle.decision.specs.declared.Settings.{Settings}
-use Rattle.lists.specs.Lists.{Lists, listsOf}
+use Rattle.lists.specs.Lists.{Lists, listsIn, laid}
+use Rattle.list_block.specs.Laying.{cutLists, eight}
+use Rattle.list_block.proofs.Laws.{same-lists}
 use Rattle.decision.specs.Decision.{Node, nodeOf}
 use Rattle.batch.specs.Walk.{batchLimit, walk}
 use Rattle.lines.specs.Lines.{firstLine, refusedLine}
 use Rattle.job.specs.declared.Section.{Section}
 use Rattle.job.specs.declared.Job.{Job}
 use Rattle.job.specs.declared.JobReading.the-variants as reading
-use Rattle.job.specs.Jobs.{jobOf, settingsOf, valuesIn, paddedValues, listsIn, batchIn, nodeIn}
-use Rattle.job.proofs.Inversion.{job-in}
-use Rattle.job.proofs.Padding.{length-padded, values-start}
+use Rattle.job.specs.Jobs.{jobOf, settingsOf, valuesIn, paddedValues, jobLists, batchIn, nodeIn}
+use Rattle.job.proofs.Inversion.{job-in, lists-right}
+use Rattle.job.proofs.Padding.{values-start}
 use Rattle.run.specs.Run.{roomForOne, walkLines, batchLines, runLines, textWith, placeWith}
-
--- a list's values, as the start of an array
-module _ (bytes : List ℕ) (section : Section) (few : section .count ≤ 64) (array : List ℕ) (e : array ≡ paddedValues (valuesIn bytes section)) where
-  pub in-array : 2 * section .count ≤ length array
-  in-array = omega (arith, ap length e, length-padded (valuesIn bytes section))
-
-  pub list-long : 2 * section .count ≡ length (take (2 * section .count) array)
-  list-long = sym (length-take-le (2 * section .count) array in-array)
-
-  pub list-is : take (2 * section .count) array ≡ valuesIn bytes section
-  list-is = ap (take (2 * section .count)) e ∙ values-start bytes section few
-
-pub lists-are : (bytes : List ℕ) (job : Job) (a b c d : List ℕ) → a ≡ valuesIn bytes (job .«source_pass»)
-    → b ≡ valuesIn bytes (job .«source_reject»)
-    → c ≡ valuesIn bytes (job .«destination_pass») → d ≡ valuesIn bytes (job .«destination_reject») → listsOf a b c d ≡ listsIn bytes job
-lists-are bytes job a b c d ea eb ec ed = λ i. record { sourcePass = ea i; sourceReject = eb i; destinationPass = ec i; destinationReject = ed i }
 
 pub batch-short : (bytes : List ℕ) (job : Job) (batch : List ℕ) → jobOf bytes ≡ reading.Job job → batch ≡ batchIn bytes job
     → length batch ≤ batchLimit
 batch-short bytes job batch e eb =
     let i = job-in bytes job e in
     omega (arith, ap length eb, length-take (job .batch .count) (drop (job .batch .place) bytes), i .batch-limit)
+
+-- the values of a list section, from the start of their array
+module _ (bytes : List ℕ) (section : Section) (few : section .count ≤ 64) where
+  pub list-is : (array list : List ℕ) → array ≡ paddedValues (valuesIn bytes section) → list ≡ take (2 * section .count) array
+      → list ≡ valuesIn bytes section
+  list-is array list e el = el ∙ ap (take (2 * section .count)) e ∙ values-start bytes section few
+
+-- a block into which a job's lists were laid holds them
+pub lists-are : (bytes : List ℕ) (job : Job) (a b c d before block : List ℕ) → jobOf bytes ≡ reading.Job job
+    → a ≡ valuesIn bytes (job .«source_pass») → b ≡ valuesIn bytes (job .«source_reject»)
+    → c ≡ valuesIn bytes (job .«destination_pass») → d ≡ valuesIn bytes (job .«destination_reject»)
+    → block ≡ over (laid (cutLists (eight a [] b [] c [] d []))) before → listsIn block ≡ jobLists bytes job
+lists-are bytes job a b c d before block e ea eb ec ed el =
+    let given : eight a [] b [] c [] d [] ≡ jobLists bytes job =
+    λ j. eight (ea j) [] (eb j) [] (ec j) [] (ed j) [] in
+    ap listsIn el ∙ ap (λ (lists : Lists). listsIn (over (laid (cutLists lists)) before)) given
+    ∙ same-lists (jobLists bytes job) before (lists-right bytes job (job-in bytes job e))
 
 -- the first line, then those of the walk
 pub own-is : (job : Job) → settingsOf job .own ≡ job .own
@@ -72,7 +74,7 @@ batch-put node batch text t1 t2 own p1 p2 eo e1 e2 =
     )
 
 pub job-put : (bytes : List ℕ) (job : Job) (settings : Settings) (lists : Lists) (batch text t1 t2 : List ℕ) (p1 p2 : ℕ)
-    → settings ≡ settingsOf job → lists ≡ listsIn bytes job → batch ≡ batchIn bytes job
+    → settings ≡ settingsOf job → lists ≡ jobLists bytes job → batch ≡ batchIn bytes job
     → (p1 ≡ placeAfter text 0 (firstLine (job .own))) × (t1 ≡ placed text 0 (firstLine (job .own)))
     → (p2 ≡ placeWith t1 p1 (walkLines (nodeOf settings lists) batch 0 (walk (nodeOf settings lists) roomForOne batch)))
     × (t2 ≡ textWith t1 p1 (walkLines (nodeOf settings lists) batch 0 (walk (nodeOf settings lists) roomForOne batch)))

@@ -7,7 +7,7 @@ use mathlib.Core.Logic.{_⊎_, ⊎-elim}
 use mathlib.Core.Path.{_≡_, refl, ap, sym, _∙_}
 use lib.Dec.{eqb, leb}
 use lib.ListN.{length, take, drop, length-drop}
-use borrow.Author.Tests.{le-ltb, lt-leb, eqb-false}
+use borrow.Author.Tests.{lt-leb, eqb-false}
 use denote.Enum.Declared.{tagOf}
 use Rattle.batch.proofs.Stepped.{the-type}
 use Rattle.octets.specs.Numbers.{flag}
@@ -16,12 +16,12 @@ use Rattle.octets.proofs.Placing.{length-placed}
 use Rattle.node.specs.declared.Answer.{Answer}
 use Rattle.decision.specs.Decision.{Node}
 use Rattle.node.specs.Repeat.{repeated}
-use Rattle.node.specs.Answers.{listOrReadingFault, taken, answerOf}
+use Rattle.node.specs.Answers.{nodeOrReadingFault, taken, answerOf}
 use Rattle.batch.specs.declared.Cursor.{Cursor}
 use Rattle.batch.specs.declared.Stepped.{Stepped}
 use Rattle.batch.specs.declared.Stepped.the-variants.{TooLong, Ended, Answered}
 use Rattle.batch.specs.Walk.{batchLimit, nextCursor, stepOf, Walk, endingAt, before, walkFrom, walk}
-use Rattle.batch.proofs.Stepping.{taken-within}
+use Rattle.batch.proofs.Stepping.{taken-within, not-too-long}
 use Rattle.batch.proofs.Walking.{walk-end, walk-more, not-taken}
 use Rattle.lines.specs.Lines.{pduLine, lastLine}
 use Rattle.run.specs.Run.{roomForOne, lineAt, pduLines, walkLines, textWith, placeWith}
@@ -78,7 +78,7 @@ module _ (node : Node) (batch : List ℕ) where
     later : Walk
     later = left (lines + 1) (next .place) (next .ended)
 
-    left-later : (t : Bool) → eqb (listOrReadingFault node (drop offset batch)) 0 ≡ t
+    left-later : (t : Bool) → eqb (nodeOrReadingFault node (drop offset batch)) 0 ≡ t
         → cond t (walkFrom (length batch - (lines + 1)) node roomForOne batch (offset + taken node (drop offset batch))) (endingAt 0 offset)
         ≡ cond (not t) (endingAt 0 (offset + taken node (drop offset batch)))
         (walkFrom (length batch - (lines + 1)) node roomForOne batch (offset + taken node (drop offset batch)))
@@ -92,7 +92,7 @@ module _ (node : Node) (batch : List ℕ) where
         ap (λ (n : ℕ). walkFrom n node roomForOne batch offset) turns
         ∙ walk-more node roomForOne batch (length batch - (lines + 1)) offset (lt-leb (length batch) offset (w .inside))
         ∙ ap (before offset (answerOf node roomForOne (drop offset batch)))
-        (left-later (eqb (listOrReadingFault node (drop offset batch)) 0) refl ∙ ap (λ (n : Cursor). left (lines + 1) (n .place) (n .ended))
+        (left-later (eqb (nodeOrReadingFault node (drop offset batch)) 0) refl ∙ ap (λ (n : Cursor). left (lines + 1) (n .place) (n .ended))
         (sym (w .moves)))
 
     lines-after : walkLines node batch lines (left lines offset false)
@@ -191,7 +191,7 @@ module _ (node : Node) (batch : List ℕ) where
     unfolding walk
     start-walk =
         let turns : length batch - 0 ≡ length batch = omega arith in
-        ap (λ (n : ℕ). walkFrom n node roomForOne batch 0) turns ∙ rw (le-ltb batchLimit (length batch) short)
+        ap (λ (n : ℕ). walkFrom n node roomForOne batch 0) turns ∙ rw (not-too-long node batch short)
 
     start-text : (text : List ℕ) (place : ℕ)
         → finalText text place 0 0 false ≡ textWith text place (walkLines node batch 0 (walk node roomForOne batch))

@@ -6,7 +6,7 @@ use mathlib.Core.List.{List, [], _∷_, _++_, flatten}
 use mathlib.Core.Path.{_≡_, refl, ap, _∙_}
 use lib.Dec.{leb, eqb}
 use lib.ListN.{length, drop, length-append, length-drop}
-use borrow.Author.Tests.{le-ltb, leb-false, eq-eqb, ne-eqb, eqb-true, eqb-false}
+use borrow.Author.Tests.{leb-false, eq-eqb, ne-eqb, eqb-true, eqb-false}
 use Rattle.octets.specs.Numbers.{flag}
 use Rattle.octets.proofs.Numbering.{orElse-zero}
 use Rattle.octets.specs.Octets.{AllBytes}
@@ -24,12 +24,12 @@ use Rattle.lists.specs.Lists.{faultOf, firstFault}
 use Rattle.node.specs.declared.Answer.{Answer}
 use Rattle.decision.specs.Decision.{Node, echoFault, passFault, dropFault, deliveryFault, repeatFault}
 use Rattle.node.specs.Repeat.{repeated, repeatedLength}
-use Rattle.node.specs.Answers.{listOrReadingFault, stopFault, deliveryNumber, repeatNumber, taken, heardFrom}
+use Rattle.node.specs.Answers.{nodeFault, nodeOrReadingFault, stopFault, deliveryNumber, repeatNumber, taken, heardFrom}
 use Rattle.node.proofs.Answering.{read-sender, unread-sender}
 use Rattle.node.proofs.Heard.{repeats}
 use Rattle.node.proofs.Repeating.{length-repeated}
 use Rattle.batch.specs.Walk.{batchLimit, Walk, endingAt, before, walkFrom, walk}
-use Rattle.batch.proofs.Stepping.{taken-within}
+use Rattle.batch.proofs.Stepping.{taken-within, not-too-long}
 use Rattle.batch.proofs.Walking.{answer, walk-none, walk-end, walk-more}
 use Rattle.text.specs.Text.{decimal}
 use Rattle.lines.specs.Lines.{shown, senderShown, firstLine, lastLine, refusedLine}
@@ -82,10 +82,11 @@ module _ (node : Node) (received : List ℕ) where
       (orElse-within _ _ (gives-within _ (omega arith)) (orElse-within _ _ (gives-within _ (omega arith)) (gives-within _ (omega arith)))))
 
   stop-within : stopFault node roomForOne received ≤ 42
-  unfolding stopFault listOrReadingFault
+  unfolding stopFault nodeOrReadingFault nodeFault
   stop-within =
       let read : readingNumber (readOf received) ≤ 42 = omega (arith, reading-within (readOf received)) in
-      orElse-within _ _ (orElse-within _ _ (first-within _) read) (orElse-within _ _ drop-within (gives-within _ (omega arith)))
+      orElse-within _ _ (orElse-within _ _ (orElse-within _ _ (gives-within _ (omega arith)) (first-within _)) read)
+      (orElse-within _ _ drop-within (gives-within _ (omega arith)))
 
   delivery-within : deliveryNumber node roomForOne received ≤ 42
   unfolding deliveryNumber deliveryFault
@@ -99,7 +100,7 @@ module _ (node : Node) (received : List ℕ) where
       (orElse-within _ _ (gives-within _ (omega arith)) (orElse-within _ _ (gives-within _ (omega arith)) (gives-within _ (omega arith)))))
 
 -- how long a PDU is that was read
-read-taken : (node : Node) (received : List ℕ) → listOrReadingFault node received ≡ 0 → taken node received ≡ pduLength (headerOf received)
+read-taken : (node : Node) (received : List ℕ) → nodeOrReadingFault node received ≡ 0 → taken node received ≡ pduLength (headerOf received)
 unfolding taken
 read-taken node received z = rw (eq-eqb _ 0 z)
 
@@ -136,11 +137,11 @@ module _ (node : Node) (batch : List ℕ) (bytes : AllBytes batch) (number offse
       let digits = length-decimal 1 repeatOf (omega (arith, repeat-within node received)) in
       omega (arith, line-within, digits, ap length (ap shown none), length-shown [])
 
-  sender-read : listOrReadingFault node received ≡ 0 → length (senderShown sender) ≤ 1 + 4 * flag (headerOf received .«path_bit»)
+  sender-read : nodeOrReadingFault node received ≡ 0 → length (senderShown sender) ≤ 1 + 4 * flag (headerOf received .«path_bit»)
   sender-read z = rw (read-sender node received [] z) (sender-within received (bytes-drop offset batch bytes))
 
   -- a repeat is 2 bytes longer than what was received, with the path bit, and that has 7 bytes at least
-  line-repeated : listOrReadingFault node received ≡ 0 → eqb repeatOf 0 ≡ true
+  line-repeated : nodeOrReadingFault node received ≡ 0 → eqb repeatOf 0 ≡ true
       → length (lineAt node batch number offset) ≤ 6 * pduLength (headerOf received)
   line-repeated read e =
       let z = eqb-true repeatOf 0 e in
@@ -152,7 +153,7 @@ module _ (node : Node) (batch : List ℕ) (bytes : AllBytes batch) (number offse
       omega (arith, line-within, hex, length-decimal 0 repeatOf (omega arith), sender-read read, flag-small (headerOf received .«path_bit»))
 
   -- of a PDU that was read: 6 characters a byte
-  line-of-read : listOrReadingFault node received ≡ 0
+  line-of-read : nodeOrReadingFault node received ≡ 0
       → (length (lineAt node batch number offset) ≤ 6 * taken node received) × (6 ≤ taken node received)
   line-of-read z = (go (eqb repeatOf 0) refl, omega (arith, size))
     where
@@ -163,7 +164,7 @@ module _ (node : Node) (batch : List ℕ) (bytes : AllBytes batch) (number offse
       go true e = omega (arith, line-repeated z e, size)
       go false e = omega (arith, line-not-repeated e, sender-read z, flag-small (headerOf received .«path_bit»), size)
 
-  line-of-fault : (listOrReadingFault node received ≡ 0 → ⊥) → length (lineAt node batch number offset) ≤ 21
+  line-of-fault : (nodeOrReadingFault node received ≡ 0 → ⊥) → length (lineAt node batch number offset) ≤ 21
   unfolding repeatNumber stopFault
   line-of-fault h =
       let unknown : length (senderShown sender) ≡ 1 = ap (λ (s : Sender). length (senderShown s)) (unread-sender node received [] h) in
@@ -182,7 +183,7 @@ module _ (node : Node) (batch : List ℕ) (bytes : AllBytes batch) (short : leng
 
   -- one line more
   module _ (printed offset : ℕ) (behind : 6 * printed ≤ offset) (inside : offset < length batch) (answer : Answer) where
-    few-read : listOrReadingFault node (drop offset batch) ≡ 0 → (w : Walk) → Few (printed + 1) (offset + taken node (drop offset batch)) w
+    few-read : nodeOrReadingFault node (drop offset batch) ≡ 0 → (w : Walk) → Few (printed + 1) (offset + taken node (drop offset batch)) w
         → Few printed offset (before offset answer w)
     unfolding pduLines
     few-read z w f =
@@ -190,7 +191,7 @@ module _ (node : Node) (batch : List ℕ) (bytes : AllBytes batch) (short : leng
         let all = one-more (lineAt node batch (printed + 1) offset) (pduLines node batch (printed + 1 + 1) (w .offsets)) in
         record { all = omega (arith, all, line .0, f .all); within = f .within; lines = omega (arith, line .1, f .lines) }
 
-    few-fault : (listOrReadingFault node (drop offset batch) ≡ 0 → ⊥) → Few printed offset (before offset answer (endingAt 0 offset))
+    few-fault : (nodeOrReadingFault node (drop offset batch) ≡ 0 → ⊥) → Few printed offset (before offset answer (endingAt 0 offset))
     unfolding pduLines flatten
     few-fault h =
         let line = line-of-fault node batch bytes (printed + 1) offset (omega arith) (omega arith) h in
@@ -205,7 +206,7 @@ module _ (node : Node) (batch : List ℕ) (bytes : AllBytes batch) (short : leng
   few-walk (suc n) printed offset h k =
       at-end (leb (length batch) offset) refl (λ a b. few-walk n (printed + 1) (offset + taken node (drop offset batch)) a b)
     where
-      after : (t : Bool) → eqb (listOrReadingFault node (drop offset batch)) 0 ≡ t → offset < length batch
+      after : (t : Bool) → eqb (nodeOrReadingFault node (drop offset batch)) 0 ≡ t → offset < length batch
           → (6 * (printed + 1) ≤ offset + taken node (drop offset batch) → offset + taken node (drop offset batch) ≤ length batch
           → Few (printed + 1) (offset + taken node (drop offset batch)) (walked n (offset + taken node (drop offset batch))))
           → Few printed offset
@@ -224,11 +225,11 @@ module _ (node : Node) (batch : List ℕ) (bytes : AllBytes batch) (short : leng
       at-end true e below = rw (walk-end node roomForOne batch (suc n) offset e) (few-none printed offset 0 k)
       at-end false e below =
           rw (walk-more node roomForOne batch n offset e)
-          (after (eqb (listOrReadingFault node (drop offset batch)) 0) refl (leb-false (length batch) offset e) below)
+          (after (eqb (nodeOrReadingFault node (drop offset batch)) 0) refl (leb-false (length batch) offset e) below)
 
   walk-is : walk node roomForOne batch ≡ walked (length batch) 0
   unfolding walk
-  walk-is = rw (le-ltb batchLimit (length batch) short)
+  walk-is = rw (not-too-long node batch short)
 
   batch-within : node .settings .own < 65536 → characters (batchLines node batch) ≤ textRoom
   unfolding batchLines walkLines

@@ -1,8 +1,8 @@
 // One run of `relay`: a job's bytes to the text that is printed.
 ghost use mathlib.Core.Path.{_≡_};
-ghost use Prim.Native.Nat.{_≤_};
-ghost use lib.ListN.{length};
-ghost use Rattle.lists.specs.Lists.{listsOf};
+ghost use Prim.Native.Nat.{_*_, _≤_};
+ghost use lib.ListN.{length, take};
+ghost use Rattle.lists.specs.Lists.{listsIn};
 ghost use Rattle.decision.specs.Decision.{nodeOf};
 ghost use Rattle.batch.specs.Walk.{batchLimit};
 ghost use Rattle.job.specs.declared.JobReading.the-variants as reading;
@@ -14,9 +14,6 @@ use decision::Settings;
 use job::Job;
 use job::JobReading;
 use pdu::Header;
-
-// A job has no edition: `relay` uses 1.2. What it prints is the same under 1.1. Document 02, W-209.
-const EDITION: u64 = 12;
 
 // Writes what `relay` prints for a job's bytes into the text, line after line from its start, and answers where the lines end. Any bytes get an
 // answer. A text of 98,352 bytes has room for the lines of every job, whole; in a shorter one a line that does not fit is left out, and a shorter one
@@ -40,38 +37,38 @@ fn put_job(text: &mut [u8], bytes: &[u8], job: Job) -> usize
     let source_reject = job::values(bytes, job.source_reject);
     let destination_pass = job::values(bytes, job.destination_pass);
     let destination_reject = job::values(bytes, job.destination_reject);
-    let source_passes = 2 * job.source_pass.count;
-    let source_rejects = 2 * job.source_reject.count;
-    let destination_passes = 2 * job.destination_pass.count;
-    let destination_rejects = 2 * job.destination_reject.count;
+    let none = [0u16; 0];
+    let mut block = [0u16; list_block::BLOCK_LIMIT];
+    list_block::lay(
+        &mut block,
+        ranges(&source_pass, job.source_pass.count),
+        &none,
+        ranges(&source_reject, job.source_reject.count),
+        &none,
+        ranges(&destination_pass, job.destination_pass.count),
+        &none,
+        ranges(&destination_reject, job.destination_reject.count),
+        &none,
+    );
     let place = lines::put_first_line(text, 0, job.own);
-    put_walk(
-        text,
-        place,
-        job.settings(),
-        &source_pass[..source_passes],
-        &source_reject[..source_rejects],
-        &destination_pass[..destination_passes],
-        &destination_reject[..destination_rejects],
-        job::batch(bytes, job),
-    )
+    put_walk(text, place, job.settings(), &block, job::batch(bytes, job))
+}
+
+// Low and high of so many ranges, from the start of the values; all of them where there are fewer.
+fn ranges(values: &[u16], count: usize) -> &[u16]
+    ensures { λ r. ⌜ now r ≡ take (2 * count) (now (values .entry)) ⌝ }
+{
+    if values.len() / 2 < count {
+        return values;
+    }
+    &values[0..2 * count]
 }
 
 // A line for each PDU of the batch, and the last line.
-fn put_walk<'a>(
-    text: &mut [u8],
-    place: usize,
-    settings: Settings,
-    source_pass: &'a [u16],
-    source_reject: &'a [u16],
-    destination_pass: &'a [u16],
-    destination_reject: &'a [u16],
-    batch: &[u8],
-) -> usize
+fn put_walk(text: &mut [u8], place: usize, settings: Settings, lists: &[u16], batch: &[u8]) -> usize
     requires { ⌜ length (now batch) ≤ batchLimit ⌝ }
-    ensures { λ r. ⌜ LinesPut (now (text .entry)) place (linesOf (nodeOf settings
-        (listsOf (now («source_pass» .entry)) (now («source_reject» .entry)) (now («destination_pass» .entry)) (now («destination_reject» .entry))))
-        (now (batch .entry))) (now (text .exit)) r ⌝ }
+    ensures { λ r. ⌜ LinesPut (now (text .entry)) place (linesOf (nodeOf settings (listsIn (now (lists .entry)))) (now (batch .entry)))
+        (now (text .exit)) r ⌝ }
 {
     let mut repeated = [0u8; Header::PDU_LIMIT];
     let mut next_place = place;
@@ -83,17 +80,7 @@ fn put_walk<'a>(
             place: offset,
             ended,
         };
-        let stepped = hearing::step(
-            EDITION,
-            settings,
-            source_pass,
-            source_reject,
-            destination_pass,
-            destination_reject,
-            batch,
-            cursor,
-            &mut repeated,
-        );
+        let stepped = batch::step(settings, lists, batch, cursor, &mut repeated);
         let Stepped::Answered(answer, next) = stepped else {
             break;
         };

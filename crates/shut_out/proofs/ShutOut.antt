@@ -15,7 +15,7 @@ use Rattle.pdu.specs.Parts.{addressesAt, inPath, lastOr}
 use Rattle.lists.specs.Lists.{lowAboveHigh, faultOf, firstFault, holds}
 use Rattle.decision.specs.Decision.{Node, echoFault, passFault, dropFault, deliveryFault, repeatFault}
 use Rattle.node.specs.Repeat.{lowered}
-use Rattle.node.specs.Answers.{listOrReadingFault, stopFault, deliveryNumber, repeatNumber, taken, heardFrom, answerOf}
+use Rattle.node.specs.Answers.{nodeFault, nodeOrReadingFault, stopFault, deliveryNumber, repeatNumber, taken, heardFrom, answerOf}
 use Rattle.node.proofs.ShutOut as shut
 use Rattle.batch.specs.declared.Cursor.{Cursor}
 use Rattle.batch.specs.declared.Stepped.{Stepped}
@@ -48,12 +48,12 @@ said : (batch : List ℕ) → ℕ
 said batch = deliveryIn (stepOf (nodeAt 2000 true false) 100 batch second)
 
 read-there : said right ≡ 0
-unfolding said stepOf answerOf deliveryNumber stopFault listOrReadingFault dropFault echoFault passFault deliveryFault repeatFault readOf headerOf
+unfolding said stepOf answerOf deliveryNumber stopFault nodeFault nodeOrReadingFault dropFault echoFault passFault deliveryFault repeatFault readOf headerOf
     faultOf firstFault lowAboveHigh _gives_ _orElse_
 read-there = refl
 
 unread-there : said wrong ≡ 2
-unfolding said stepOf answerOf deliveryNumber stopFault listOrReadingFault readOf headerOf faultOf firstFault lowAboveHigh _gives_ _orElse_
+unfolding said stepOf answerOf deliveryNumber stopFault nodeFault nodeOrReadingFault readOf headerOf faultOf firstFault lowAboveHigh _gives_ _orElse_
 unread-there = refl
 
 -- a stepper that says the same of both does not keep the promise
@@ -88,7 +88,7 @@ module _ (stepper : Stepper) (keeps : KeepsStepping stepper) (node : Node) (batc
 
 offsets-follow : (node : Node) (room : ℕ) (batch : List ℕ) → Follows node batch 0 (walk node room batch .offsets) (walk node room batch .end)
 unfolding walk
-offsets-follow node room batch = go (isTooLong batch)
+offsets-follow node room batch = go (isTooLong (node .settings) batch)
   where
     same : (place : ℕ) (offsets : List ℕ) (end : ℕ) → walking.Follows node room batch place offsets end → Follows node batch place offsets end
     same place [] end follows = follows
@@ -114,7 +114,7 @@ lowered-by-one : (hop : ℕ) → 0 < hop → hop < 7 → lowered hop + 1 ≡ hop
 lowered-by-one hop some few = rw (ne-eqb hop 7 (λ e. omega arith)) (omega arith)
 
 pub shut-out : ShutOut
-unfolding answerOf deliveryNumber repeatNumber stopFault listOrReadingFault dropFault echoFault passFault deliveryFault repeatFault taken heardFrom
+unfolding answerOf deliveryNumber repeatNumber stopFault nodeFault nodeOrReadingFault dropFault echoFault passFault deliveryFault repeatFault taken heardFrom
     readOf headerOf addressesAt inPath lastOr faultOf firstFault lowAboveHigh holds _gives_ _orElse_
 shut-out =
     record {
@@ -127,7 +127,7 @@ shut-out =
           ∙ walking.stepping-walks node (length output) batch;
       offsets-follow = λ node room batch. offsets-follow node room batch;
       invented-count = λ answer left invented right. shut.invented-count answer left invented right;
-      source-sought = (refl, refl);
+      source-sought = (refl, refl, refl, refl);
       seven-kept = (refl, λ hop some few. lowered-by-one hop some few);
       zero-stays = λ node room received none again. zero-stays node room received none again;
       hop-before-echo = λ answer left hop right. shut.hop-before-echo answer left hop right;

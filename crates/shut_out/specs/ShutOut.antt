@@ -1,7 +1,7 @@
 -- Document 01, "What the contracts must say", the programs to try against demand 2, and "Slips to rule out", as one record; `proofs/ShutOut.antt` gives it
 -- from its parts.
 use Prim.Native.Nat.{ℕ, zero, suc, _+_, _<_}
-use mathlib.Core.Bool.{Bool, true, false}
+use mathlib.Core.Bool.{true, false}
 use mathlib.Core.List.{List, [], _∷_}
 use mathlib.Core.Path.{_≡_}
 use lib.ListN.{length, take, drop, replicate}
@@ -9,7 +9,9 @@ use Rattle.octets.specs.Octets.{at}
 use Rattle.pdu.specs.declared.Sender.the-variants.{Known}
 use Rattle.pdu.specs.Header.{headerOf}
 use Rattle.pdu.specs.Parts.{pathIn}
-use Rattle.lists.specs.Lists.{Lists, listsOf}
+use Rattle.lists.specs.Lists.{ListPair, two}
+use Rattle.decision.specs.declared.Choice.{Choice}
+use Rattle.decision.specs.declared.Choice.the-variants.{First, Second, Neither}
 use Rattle.decision.specs.Decision.{Node}
 use Rattle.node.specs.declared.Answer.{Answer}
 use Rattle.node.specs.Repeat.{lowered}
@@ -51,21 +53,26 @@ Follows node batch place (offset ∷ later) end = (offset ≡ place) × Follows 
 abbrev pub lentOutput : List ℕ
 lentOutput = replicate 100 0
 
--- node 2000 with these lists, and its source pass or its source reject list on
-abbrev pub listing : Bool → Bool → Lists → Node
-listing pass reject lists =
+-- node 2000 with these lists of sources, and which of them are chosen
+abbrev pub listing : Choice → ListPair → Choice → ListPair → Node
+listing pass passing reject rejecting =
     record {
       settings = record {
+        edition = 12;
         own = 2000;
         echo = true;
         repeating = true;
         «source_pass» = pass;
         «source_reject» = reject;
-        «destination_pass» = false;
-        «destination_reject» = false;
+        «destination_pass» = Neither;
+        «destination_reject» = Neither;
       };
-      lists = lists;
+      lists = record { sourcePass = passing; sourceReject = rejecting; destinationPass = two [] []; destinationReject = two [] [] };
     }
+
+-- a range that holds the own address alone
+abbrev pub ownRange : List ℕ
+ownRange = 2000 ∷ 2000 ∷ []
 
 -- a reliable PDU to 1600 with 2000 in its path: destination and PDU ID come before the count
 abbrev pub reliablePdu : List ℕ
@@ -94,9 +101,11 @@ pub record ShutOut : Type 0 where
       → Follows node batch 0 (walk node room batch .offsets) (walk node room batch .end)
   -- an invented count of path entries, in the repeat of the example of document 002
   pub invented-count : (answer : Answer) (left : List ℕ) → (at (take 22 left) 8 ≡ 1 → ⊥) → Hears (nodeAt 2000 true false) example lentOutput answer left → ⊥
-  -- slips. The own address sought in the source lists: the PDU's source, 1000, is in neither
-  pub source-sought : (answerOf (listing true false (listsOf (2000 ∷ 2000 ∷ []) [] [] [])) 100 example ≡ twice 31 20 (Known 1000))
-      × (answerOf (listing false true (listsOf [] (2000 ∷ 2000 ∷ []) [] [])) 100 example .delivery ≡ 39)
+  -- slips. The own address sought in the source lists, the first or the second: the PDU's source, 1000, is in none of them
+  pub source-sought : (answerOf (listing First (two ownRange []) Neither (two [] [])) 100 example ≡ twice 31 20 (Known 1000))
+      × (answerOf (listing Second (two [] ownRange) Neither (two [] [])) 100 example ≡ twice 31 20 (Known 1000))
+      × (answerOf (listing Neither (two [] []) First (two ownRange [])) 100 example .delivery ≡ 39)
+      × (answerOf (listing Neither (two [] []) Second (two [] ownRange)) 100 example .delivery ≡ 39)
   -- 7 lowered, 0 become 7: 7 is kept, 1 to 6 are lowered by one, and a PDU of hop limit 0 is never repeated
   pub seven-kept : (lowered 7 ≡ 7) × ((hop : ℕ) → 0 < hop → hop < 7 → lowered hop + 1 ≡ hop)
   pub zero-stays : (node : Node) (room : ℕ) (received : List ℕ) → headerOf received .«hop_limit» ≡ 0 → repeatNumber node room received ≡ 0 → ⊥

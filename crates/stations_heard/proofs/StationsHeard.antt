@@ -8,7 +8,9 @@ use lib.Dec.{ltb}
 use lib.ListN.{length}
 use borrow.Author.Tests.{lt-ltb, le-ltb, ne-eqb}
 use Rattle.octets.specs.Octets.{at}
+use Rattle.decision.specs.Decision.{Node}
 use Rattle.node.specs.declared.Answer.{Answer}
+use Rattle.node.specs.Answers.{nodeOrReadingFault, answerOf}
 use Rattle.stations.specs.declared.Station.{Station}
 use Rattle.stations.specs.Table.{tableIn, addresses, placeOf, isHeld}
 use Rattle.stations.specs.Asking.{foundIf, stationOf, foundAt}
@@ -21,6 +23,22 @@ use Rattle.listening.proofs.Judging.{read-judged, unread-judged, echo-judged}
 use Rattle.listening.proofs.Rising.{place-within, found-where, not-held}
 use Rattle.listening.proofs.Told.{history-told}
 use Rattle.stations_heard.specs.StationsHeard.{StationsHeard}
+
+counted-not : (answer : Answer) (received memory : List ℕ) → wasRead answer ≡ false
+    → (answerNumber answer received memory ≡ 0) × (memoryAfterAnswer answer received memory ≡ memory)
+unfolding answerNumber memoryAfterAnswer
+counted-not answer received memory e = (rw e, rw e)
+
+nothing-counted : (node : Node) (room : ℕ) (received memory : List ℕ) → (nodeOrReadingFault node received ≡ 0 → ⊥)
+    → let answer = answerOf node room received in (answerNumber answer received memory ≡ 0) × (memoryAfterAnswer answer received memory ≡ memory)
+nothing-counted node room received memory fault = go (wasRead answer) refl
+  where
+    answer : Answer
+    answer = answerOf node room received
+
+    go : (t : Bool) → wasRead answer ≡ t → (answerNumber answer received memory ≡ 0) × (memoryAfterAnswer answer received memory ≡ memory)
+    go true e = absurd (fault (unread-judged node room received e))
+    go false e = counted-not answer received memory e
 
 unchanged : (answer : Answer) (received memory : List ℕ) → answerNumber answer received memory ≡ 55
     → memoryAfterAnswer answer received memory ≡ memory
@@ -56,6 +74,7 @@ stations-heard =
       room-for-128 = λ memory h. omega arith;
       read = λ node room received e. (read-judged node room received e, echo-judged node room received e);
       read-only = unread-judged;
+      not-read = nothing-counted;
       counted-held = held-counts;
       counted-new = room-counts;
       full = λ heard memory e h. full-refuses heard memory e (omega (arith, h, length-table memory));

@@ -8,7 +8,7 @@ use Rattle.octets.specs.Octets.{at}
 use Rattle.pdu.specs.Header.{headerOf}
 use Rattle.decision.specs.Decision.{Node, isEcho, isOwnReport}
 use Rattle.node.specs.declared.Answer.{Answer}
-use Rattle.node.specs.Answers.{listOrReadingFault, answerOf}
+use Rattle.node.specs.Answers.{nodeOrReadingFault, answerOf}
 use Rattle.stations.specs.Table.{capacity, tableIn, addresses, placeOf, isHeld}
 use Rattle.stations.specs.Asking.{stationOf, foundAt}
 use Rattle.counting.specs.declared.Heard.{Heard}
@@ -19,13 +19,16 @@ use Rattle.listening.specs.History.{TableDeed, tableMemory, since, shownBy, Ris
 
 pub record StationsHeard : Type 0 where
   -- I. WHAT 02 ASKS
-  -- a PDU was read where no list is at fault and reading refused nothing, and nowhere else; it is an echo where echo dropped it, by its path or, W-203,
-  -- by its source
-  pub read : (node : Node) (room : ℕ) (received : List ℕ) → listOrReadingFault node received ≡ 0
+  -- a PDU was read where the edition is known, no list is at fault and reading refused nothing, and nowhere else; it is an echo where echo dropped it,
+  -- by its path or, W-203, by its source
+  pub read : (node : Node) (room : ℕ) (received : List ℕ) → nodeOrReadingFault node received ≡ 0
       → (wasRead (answerOf node room received) ≡ true)
       × (heardOf (answerOf node room received) received .echo
       ≡ (isEcho (node .settings) (headerOf received) received || isOwnReport (node .settings) (headerOf received)))
-  pub read-only : (node : Node) (room : ℕ) (received : List ℕ) → wasRead (answerOf node room received) ≡ true → listOrReadingFault node received ≡ 0
+  pub read-only : (node : Node) (room : ℕ) (received : List ℕ) → wasRead (answerOf node room received) ≡ true → nodeOrReadingFault node received ≡ 0
+  -- where it was not read, with 17 as with a fault of the lists or of reading, nothing is counted
+  pub not-read : (node : Node) (room : ℕ) (received memory : List ℕ) → (nodeOrReadingFault node received ≡ 0 → ⊥)
+      → let answer = answerOf node room received in (answerNumber answer received memory ≡ 0) × (memoryAfterAnswer answer received memory ≡ memory)
   -- a memory of 513 words or more has room for 128 stations
   pub room-for-128 : (memory : List ℕ) → 513 ≤ length memory → capacity memory ≡ 128
   -- one from a station that is held, or while there is room, is counted; any other is answered 55, and the table stays as it was

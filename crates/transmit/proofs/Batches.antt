@@ -8,7 +8,7 @@ use mathlib.Core.Path.{_≡_, refl, ap, sym, _∙_}
 use lib.Dec.{leb}
 use lib.ListN.{length, drop, length-append}
 use lib.Seq.{drop-at}
-use borrow.Author.Tests.{le-leb, lt-leb, le-ltb}
+use borrow.Author.Tests.{le-leb, lt-leb}
 use Rattle.octets.specs.Numbers.{_gives_, _orElse_}
 use Rattle.octets.proofs.Numbering.{orElse-later}
 use Rattle.pdu.specs.declared.Header.{Header}
@@ -17,10 +17,10 @@ use Rattle.pdu.specs.Sizes.{pduLength}
 use Rattle.pdu.specs.Reading.{readingNumber, exactlyOne}
 use Rattle.pdu.proofs.Inversion.{shown}
 use Rattle.pdu.proofs.Exact.{exact, exact-reads}
-use Rattle.lists.specs.Lists.{listFault}
 use Rattle.decision.specs.declared.Settings.{Settings}
 use Rattle.decision.specs.Decision.{Node, echoFault, passFault, dropFault, deliveryFault, repeatFault}
-use Rattle.node.specs.Answers.{listOrReadingFault, stopFault, deliveryNumber, repeatNumber, taken, answerOf}
+use Rattle.node.specs.Answers.{nodeFault, nodeOrReadingFault, stopFault, deliveryNumber, repeatNumber, taken, answerOf}
+use Rattle.batch.proofs.Stepping.{not-too-long}
 use Rattle.batch.specs.Walk.{batchLimit, Walk, before, walkFrom, walk}
 use Rattle.batch.proofs.Walking.{walk-end, walk-more}
 use Rattle.queue.specs.Queue.{heldIn, front, back}
@@ -71,7 +71,7 @@ module _ (settings : Settings) (header : Header) where
       (high-else _ _ (high-gives _ 36 (omega arith)) (high-else _ _ (high-gives _ 37 (omega arith)) (high-gives _ 38 (omega arith))))
 
 -- the answer for a PDU that was read
-module _ (node : Node) (room : ℕ) (received : List ℕ) (read : listOrReadingFault node received ≡ 0) where
+module _ (node : Node) (room : ℕ) (received : List ℕ) (read : nodeOrReadingFault node received ≡ 0) where
   stop-high : High (stopFault node room received)
   unfolding stopFault
   stop-high =
@@ -93,12 +93,12 @@ pub record Reads (walked : Walk) (offset : ℕ) (pdus : List (List ℕ)) (end : 
   pub answers : allReadable (walked .answers) ≡ true
   pub ends : walked .end ≡ end
 
-module _ (node : Node) (room : ℕ) (right : listFault (node .lists) ≡ 0) where
+module _ (node : Node) (room : ℕ) (right : nodeFault node ≡ 0) where
   -- one that is exactly a PDU, whatever follows it
   module _ (pdu rest : List ℕ) (one : exactlyOne pdu ≡ true) where
-    read-there : listOrReadingFault node (pdu ++ rest) ≡ 0
-    unfolding listOrReadingFault
-    read-there = orElse-later (listFault (node .lists)) _ right ∙ ap readingNumber (exact-reads pdu one rest ∙ exact pdu one .reads)
+    read-there : nodeOrReadingFault node (pdu ++ rest) ≡ 0
+    unfolding nodeOrReadingFault
+    read-there = orElse-later (nodeFault node) _ right ∙ ap readingNumber (exact-reads pdu one rest ∙ exact pdu one .reads)
 
     takes-it : taken node (pdu ++ rest) ≡ length pdu
     unfolding taken
@@ -107,7 +107,7 @@ module _ (node : Node) (room : ℕ) (right : listFault (node .lists) ≡ 0) wher
         rw read-there (ap pduLength (sym is) ∙ sym (exact pdu one .alone))
 
   -- one more before a walk
-  reads-more : (offset : ℕ) (pdu received : List ℕ) (later : List (List ℕ)) (end : ℕ) (rest : Walk) → listOrReadingFault node received ≡ 0
+  reads-more : (offset : ℕ) (pdu received : List ℕ) (later : List (List ℕ)) (end : ℕ) (rest : Walk) → nodeOrReadingFault node received ≡ 0
       → Reads rest (offset + length pdu) later end → Reads (before offset (answerOf node room received) rest) offset (pdu ∷ later) end
   unfolding places allReadable answerOf
   reads-more offset pdu received later end rest read r =
@@ -150,7 +150,7 @@ module _ (node : Node) (room : ℕ) (right : listFault (node .lists) ≡ 0) wher
       → Reads (walk node room (flatten pdus)) 0 pdus (length (flatten pdus))
   unfolding walk
   walk-reads pdus all short =
-      rw (le-ltb batchLimit (length (flatten pdus)) short)
+      rw (not-too-long node (flatten pdus) short)
       (reads-from (length (flatten pdus)) [] pdus all (omega (arith, exact-long pdus all)))
 
 -- a batch that was taken is no longer than a batch may be

@@ -7,6 +7,7 @@ use Rattle.octets.specs.Numbers.{_gives_, _orElse_}
 use Rattle.octets.specs.Octets.{over}
 use Rattle.pdu.specs.Header.{headerOf}
 use Rattle.pdu.specs.Reading.{readOf, exactlyOne}
+use Rattle.node.proofs.Faults.{no-fault}
 use Rattle.queue.specs.declared.Level.{Level}
 use Rattle.queue.specs.Queue.{heldIn, pdusIn, memoryOf, fitting, front}
 use Rattle.queue.proofs.Runs.{exact-at, exact-take, front-back, front-fits, front-longest}
@@ -17,42 +18,42 @@ use Rattle.transmit.specs.History.{Adding, Taking, memoryAfter, accepted, taken
 use Rattle.transmit.proofs.Answers.{not-one, full, full-pdus, full-bytes, none-held, oldest-too-long, oldest-fits, written-first}
 use Rattle.transmit.proofs.Histories.{added-held, released-held, queued}
 use Rattle.transmit.proofs.Batches.{walk-reads, front-short}
-use Rattle.transmit_queue.specs.TransmitQueue.{six, seven, eight, of2042, of2043, queueOf, batch, TransmitQueue}
+use Rattle.transmit_queue.specs.TransmitQueue.{of6, of7, of8, of2042, of2043, queueOf, batch, TransmitQueue}
 
 -- the cases that compute, each by itself
 module _ where
-  in-order-there : let deeds = Taking 14 ∷ Adding eight ∷ Adding seven ∷ Adding six ∷ [] in
-      (takenAndCleared (replicate 50 0) deeds ≡ six ∷ seven ∷ []) × (heldIn (memoryAfter (replicate 50 0) deeds) ≡ eight ∷ [])
+  in-order-there : let deeds = Taking 14 ∷ Adding of8 ∷ Adding of7 ∷ Adding of6 ∷ [] in
+      (takenAndCleared (replicate 50 0) deeds ≡ of6 ∷ of7 ∷ []) × (heldIn (memoryAfter (replicate 50 0) deeds) ≡ of8 ∷ [])
   unfolding heldIn pdusIn memoryOf over flatten fitting exactlyOne readOf headerOf _gives_ _orElse_ addNumber memoryAfterAdd memoryAfterTake memoryAfter
       takenAndCleared
   in-order-there = (refl, refl)
 
   accepted-there :
-      accepted (replicate 17 0) (Adding seven ∷ Adding six ∷ Adding [] ∷ Adding (six ++ six) ∷ Adding (0 ∷ []) ∷ Adding seven ∷ []) ≡ seven ∷ six ∷ []
+      accepted (replicate 17 0) (Adding of7 ∷ Adding of6 ∷ Adding [] ∷ Adding (of6 ++ of6) ∷ Adding (0 ∷ []) ∷ Adding of7 ∷ []) ≡ of7 ∷ of6 ∷ []
   unfolding heldIn pdusIn memoryOf over flatten exactlyOne readOf headerOf _gives_ _orElse_ addNumber memoryAfterAdd memoryAfter accepted
   accepted-there = refl
 
-  none-passed-there : (batchOf 7 (eight ∷ six ∷ []) ≡ batch 62 0 0) × (batchOf 14 (seven ∷ eight ∷ six ∷ []) ≡ batch 0 1 7)
+  none-passed-there : (batchOf 7 (of8 ∷ of6 ∷ []) ≡ batch 62 0 0) × (batchOf 14 (of7 ∷ of8 ∷ of6 ∷ []) ≡ batch 0 1 7)
   unfolding flatten fitting _gives_ takeNumber batchOf
   none-passed-there = (refl, refl)
 
-  add-31 : addNumber six (queueOf (replicate 31 six)) ≡ 0
+  add-31 : addNumber of6 (queueOf (replicate 31 of6)) ≡ 0
   unfolding heldIn pdusIn memoryOf over flatten exactlyOne readOf headerOf _gives_ _orElse_ addNumber
   add-31 = refl
 
-  add-32 : (addNumber six (queueOf (replicate 32 six)) ≡ 60) × (addNumber (0 ∷ []) (queueOf (replicate 32 six)) ≡ 61)
+  add-32 : (addNumber of6 (queueOf (replicate 32 of6)) ≡ 60) × (addNumber (0 ∷ []) (queueOf (replicate 32 of6)) ≡ 61)
   unfolding heldIn pdusIn memoryOf over flatten exactlyOne readOf headerOf _gives_ _orElse_ addNumber
   add-32 = (refl, refl)
 
-  add-2048 : addNumber six (queueOf (of2042 ∷ [])) ≡ 0
+  add-2048 : addNumber of6 (queueOf (of2042 ∷ [])) ≡ 0
   unfolding heldIn pdusIn memoryOf over flatten exactlyOne readOf headerOf _gives_ _orElse_ addNumber
   add-2048 = refl
 
-  add-2049 : addNumber six (queueOf (of2043 ∷ [])) ≡ 60
+  add-2049 : addNumber of6 (queueOf (of2043 ∷ [])) ≡ 60
   unfolding heldIn pdusIn memoryOf over flatten exactlyOne readOf headerOf _gives_ _orElse_ addNumber
   add-2049 = refl
 
-  held-by-hand : heldIn (0xFF ∷ 0xFF ∷ 0xFF ∷ 0xFF ∷ six ++ seven ++ (0x40 ∷ six)) ≡ six ∷ seven ∷ []
+  held-by-hand : heldIn (0xFF ∷ 0xFF ∷ 0xFF ∷ 0xFF ∷ of6 ++ of7 ++ (0x40 ∷ of6)) ≡ of6 ∷ of7 ∷ []
   unfolding heldIn pdusIn readOf headerOf
   held-by-hand = refl
 
@@ -79,11 +80,11 @@ transmit-queue =
       released = released-held;
       in-order = λ memory e0 e2 deeds. queued memory e0 e2 deeds .kept;
       says = λ memory e0 e2 deeds. let q = queued memory e0 e2 deeds in (q .long, ap (λ (l : Level). l .bytes) (q .level));
-      walked = λ edition named memory room node output right.
+      walked = λ memory room node output named clean.
           let pdus = front room (heldIn memory) in
           let exact = exact-take (fitting room (heldIn memory)) (heldIn memory) (holds memory .exact) in
-          let r = walk-reads node output right pdus exact (front-short room memory) in
-          rw named (r .number, r .offsets, r .answers, r .ends);
+          let r = walk-reads node output (no-fault node named clean) pdus exact (front-short room memory) in
+          (r .number, r .offsets, r .answers, r .ends);
       oldest-first = in-order-there;
       accepted-only = accepted-there;
       none-passed = none-passed-there;

@@ -1,5 +1,5 @@
 -- Document 02, W-206, as one record, with W-207's clears in its histories; `proofs/TransmitQueue.antt` gives it from its parts. "Any memory" is any
--- bytes, put together by hand or not.
+-- bytes at all.
 use Prim.Native.Nat.{ℕ, _+_, _≤_, _<_}
 use mathlib.Core.Bool.{true, false}
 use mathlib.Core.List.{List, [], _∷_, _++_, flatten}
@@ -10,7 +10,7 @@ use Rattle.pdu.specs.Reading.{exactlyOne}
 use Rattle.lists.specs.Lists.{listFault}
 use Rattle.decision.specs.Decision.{Node}
 use Rattle.editions.specs.Editions.{known}
-use Rattle.hearing.specs.Hearing.{walkUnder}
+use Rattle.batch.specs.Walk.{walk}
 use Rattle.queue.specs.Queue.{capacity, heldIn, memoryOf, front, back}
 use Rattle.transmit.specs.declared.Batch.{Batch}
 use Rattle.transmit.specs.Adding.{addNumber, memoryAfterAdd}
@@ -22,14 +22,14 @@ abbrev pub batch : ℕ → ℕ → ℕ → Batch
 batch number pdus bytes = record { number = number; pdus = pdus; bytes = bytes }
 
 -- For the worked cases: PDUs of 6, 7 and 8 bytes, one of 2,042 and one of 2,043; a memory for 2,048 bytes, with a queue in it
-abbrev pub six : List ℕ
-six = 0x00 ∷ 0x00 ∷ 0x00 ∷ 0x00 ∷ 0x00 ∷ 0x05 ∷ []
+abbrev pub of6 : List ℕ
+of6 = 0x00 ∷ 0x00 ∷ 0x00 ∷ 0x00 ∷ 0x00 ∷ 0x05 ∷ []
 
-abbrev pub seven : List ℕ
-seven = 0x00 ∷ 0x00 ∷ 0x00 ∷ 0x01 ∷ 0x00 ∷ 0x05 ∷ 0xAA ∷ []
+abbrev pub of7 : List ℕ
+of7 = 0x00 ∷ 0x00 ∷ 0x00 ∷ 0x01 ∷ 0x00 ∷ 0x05 ∷ 0xAA ∷ []
 
-abbrev pub eight : List ℕ
-eight = 0x00 ∷ 0x00 ∷ 0x00 ∷ 0x02 ∷ 0x00 ∷ 0x05 ∷ 0xBB ∷ 0xCC ∷ []
+abbrev pub of8 : List ℕ
+of8 = 0x00 ∷ 0x00 ∷ 0x00 ∷ 0x02 ∷ 0x00 ∷ 0x05 ∷ 0xBB ∷ 0xCC ∷ []
 
 abbrev pub of2042 : List ℕ
 of2042 = 0x00 ∷ 0x00 ∷ 0x07 ∷ 0xF4 ∷ 0x00 ∷ 0x05 ∷ replicate 2036 0
@@ -90,24 +90,24 @@ pub record TransmitQueue : Type 0 where
   pub says : (memory : List ℕ) → wordAt memory 0 ≡ 0 → wordAt memory 2 ≡ 0 → (deeds : List Deed)
       → (length (memoryAfter memory deeds) ≡ length memory)
       × (wordAt (memoryAfter memory deeds) 2 ≡ length (flatten (heldIn (memoryAfter memory deeds))))
-  -- 01's walk, under edition 1.1 or 1.2 (W-209) and no list at fault, reads each batch taken to its end: it comes to just the PDUs' places, and none of
-  -- its answers is 1 to 6
-  pub walked : (edition : ℕ) → known edition ≡ true → (memory : List ℕ) (room : ℕ) (node : Node) (output : ℕ) → listFault (node .lists) ≡ 0
-      → let pdus = front room (heldIn memory) in let found = walkUnder edition node output (flatten pdus) in
+  -- 01's walk, no list at fault and the edition 1.1 or 1.2 (W-209), reads each batch taken to its end: it comes to just the PDUs' places, and none of its
+  -- answers is 1 to 6
+  pub walked : (memory : List ℕ) (room : ℕ) (node : Node) (output : ℕ) → known (node .settings .edition) ≡ true → listFault (node .lists) ≡ 0
+      → let pdus = front room (heldIn memory) in let found = walk node output (flatten pdus) in
       (found .number ≡ 0) × (found .offsets ≡ places 0 pdus) × (allReadable (found .answers) ≡ true) × (found .end ≡ length (flatten pdus))
   -- IV. WORKED CASES
   -- the oldest first: of 6, 7 and 8 bytes, 14 are room for two, and the third stays
-  pub oldest-first : let deeds = Taking 14 ∷ Adding eight ∷ Adding seven ∷ Adding six ∷ [] in
-      (takenAndCleared (replicate 50 0) deeds ≡ six ∷ seven ∷ []) × (heldIn (memoryAfter (replicate 50 0) deeds) ≡ eight ∷ [])
+  pub oldest-first : let deeds = Taking 14 ∷ Adding of8 ∷ Adding of7 ∷ Adding of6 ∷ [] in
+      (takenAndCleared (replicate 50 0) deeds ≡ of6 ∷ of7 ∷ []) × (heldIn (memoryAfter (replicate 50 0) deeds) ≡ of8 ∷ [])
   -- what is refused is not accepted: with 61 bytes that are no PDU, two PDUs joined and none; with 60 one more than there is room for
   pub accepted-only :
-      accepted (replicate 17 0) (Adding seven ∷ Adding six ∷ Adding [] ∷ Adding (six ++ six) ∷ Adding (0 ∷ []) ∷ Adding seven ∷ []) ≡ seven ∷ six ∷ []
+      accepted (replicate 17 0) (Adding of7 ∷ Adding of6 ∷ Adding [] ∷ Adding (of6 ++ of6) ∷ Adding (0 ∷ []) ∷ Adding of7 ∷ []) ≡ of7 ∷ of6 ∷ []
   -- a later one that would fit is not taken past an older one that does not
-  pub none-passed : (batchOf 7 (eight ∷ six ∷ []) ≡ batch 62 0 0) × (batchOf 14 (seven ∷ eight ∷ six ∷ []) ≡ batch 0 1 7)
+  pub none-passed : (batchOf 7 (of8 ∷ of6 ∷ []) ≡ batch 62 0 0) × (batchOf 14 (of7 ∷ of8 ∷ of6 ∷ []) ≡ batch 0 1 7)
   -- 60 at 32 held and not at 31, at 2,049 bytes and not at 2,048; 61 before 60
-  pub at-31 : addNumber six (queueOf (replicate 31 six)) ≡ 0
-  pub at-32 : (addNumber six (queueOf (replicate 32 six)) ≡ 60) × (addNumber (0 ∷ []) (queueOf (replicate 32 six)) ≡ 61)
-  pub at-2048 : addNumber six (queueOf (of2042 ∷ [])) ≡ 0
-  pub at-2049 : addNumber six (queueOf (of2043 ∷ [])) ≡ 60
+  pub at-31 : addNumber of6 (queueOf (replicate 31 of6)) ≡ 0
+  pub at-32 : (addNumber of6 (queueOf (replicate 32 of6)) ≡ 60) × (addNumber (0 ∷ []) (queueOf (replicate 32 of6)) ≡ 61)
+  pub at-2048 : addNumber of6 (queueOf (of2042 ∷ [])) ≡ 0
+  pub at-2049 : addNumber of6 (queueOf (of2043 ∷ [])) ≡ 60
   -- bytes put together by hand: those held end where none can be read, whatever the first four bytes say
-  pub by-hand : heldIn (0xFF ∷ 0xFF ∷ 0xFF ∷ 0xFF ∷ six ++ seven ++ (0x40 ∷ six)) ≡ six ∷ seven ∷ []
+  pub by-hand : heldIn (0xFF ∷ 0xFF ∷ 0xFF ∷ 0xFF ∷ of6 ++ of7 ++ (0x40 ∷ of6)) ≡ of6 ∷ of7 ∷ []

@@ -1,12 +1,10 @@
--- Hearing under an edition: a node gives 17 for the edition alone, its repeat keeps the three bits, and walks and `relay` are as before.
+-- A node under an edition: 17 for one that is not known, and for nothing else; its repeat keeps the three bits.
 use Prim.Native.Nat.{ℕ, zero, suc}
 use native.Mathlib.Omega.{arith}
 use mathlib.Core.Bool.{Bool, true, false}
 use mathlib.Core.List.{List, [], _∷_, _++_}
 use mathlib.Core.Logic.{_⊎_, inl, inr}
 use mathlib.Core.Path.{_≡_, refl, ap, sym, _∙_}
-use lib.ListN.{length, drop}
-use borrow.Author.Tests.{ne-eqb}
 use Rattle.octets.specs.Numbers.{_gives_, _orElse_}
 use Rattle.octets.specs.Octets.{AllBytes, at}
 use Rattle.pdu.specs.declared.Header.{Header}
@@ -22,16 +20,42 @@ use Rattle.editions.proofs.Showing.{known-shows, bitsOf, bits-of-wire, seen-by}
 use Rattle.lists.specs.Lists.{faultOf, firstFault}
 use Rattle.decision.specs.Decision.{Node, echoFault}
 use Rattle.node.specs.Repeat.{repeated, repeatedHeader}
-use Rattle.node.specs.Answers.{listOrReadingFault, stopFault, deliveryNumber, repeatNumber, answerOf, twice}
+use Rattle.node.specs.Answers.{nodeOrReadingFault, stopFault, repeatNumber, answerOf, twice, outputAfter}
 use Rattle.node.proofs.Chain.{holds-stop, holds-delivery, holds-repeat}
+use Rattle.node.proofs.Faults.{unknown-fault, known-fault, fault-answer, fault-output}
 use Rattle.node.proofs.Heard.{repeats}
 use Rattle.node.proofs.Encoded.{repeat-reads}
-use Rattle.batch.specs.Walk.{walkFrom, walk}
-use Rattle.hearing.specs.Hearing.{answerUnder, walkUnder}
-use Rattle.lines.specs.Lines.{pduLine}
-use Rattle.run.specs.Run.{roomForOne, repeatedOrNone, lineAt, walkLines, linesOf}
+use Rattle.batch.specs.declared.Cursor.{Cursor}
+use Rattle.batch.specs.declared.Stepped.the-variants.{Ended, Answered}
+use Rattle.batch.specs.Walk.{isDone, stepOf, stepOutput, walk}
+use Rattle.batch.proofs.Faults.{unknown-not-long, done-step, fault-step, fault-step-output, fault-walk}
 
--- a node never gives 17 of itself
+-- an edition that is not known
+module _ (node : Node) (unnamed : known (node .settings .edition) ≡ false) where
+  some : _≡_ {A = ℕ} 17 0 → ⊥
+  some e = omega arith
+
+  pub hears-17 : (room : ℕ) (received output : List ℕ) → (answerOf node room received ≡ twice 17 0 Unknown) × (outputAfter node received output ≡ output)
+  hears-17 room received output =
+      let fault = unknown-fault node unnamed in (fault-answer node 17 some fault received room, fault-output node 17 some fault received output)
+
+  pub steps-17 : (room : ℕ) (batch output : List ℕ) (cursor : Cursor) → isDone batch cursor ≡ false
+      → (stepOf node room batch cursor ≡ Answered (twice 17 0 Unknown) (record { place = cursor .place; ended = true }))
+      × (stepOutput node batch cursor output ≡ output)
+  steps-17 room batch output cursor more =
+      let fault = unknown-fault node unnamed in let short = unknown-not-long node batch unnamed in
+      (fault-step node 17 some fault batch short room cursor more, fault-step-output node 17 some fault batch short cursor output)
+
+  pub steps-done : (room : ℕ) (batch output : List ℕ) (cursor : Cursor) → isDone batch cursor ≡ true
+      → (stepOf node room batch cursor ≡ Ended) × (stepOutput node batch cursor output ≡ output)
+  steps-done room batch output cursor = done-step node room batch cursor output (unknown-not-long node batch unnamed)
+
+  pub walks-17 : (room byte : ℕ) (bytes : List ℕ)
+      → walk node room (byte ∷ bytes) ≡ record { number = 0; offsets = 0 ∷ []; answers = twice 17 0 Unknown ∷ []; end = 0 }
+  walks-17 room byte bytes =
+      fault-walk node 17 some (unknown-fault node unnamed) room byte bytes (unknown-not-long node (byte ∷ bytes) unnamed)
+
+-- 17 is given for such an edition alone
 abbrev Other : ℕ → Type 0
 Other n = n ≡ 17 → ⊥
 
@@ -54,36 +78,32 @@ lists-other (list ∷ lists) =
     (lists-other lists)
 
 module _ (node : Node) (room : ℕ) (received : List ℕ) where
-  unread-other : Other (listOrReadingFault node received)
-  unfolding listOrReadingFault
-  unread-other = other-chain _ _ (lists-other _) (λ (e : readingNumber (readOf received) ≡ 17). omega (arith, reading-within (readOf received)))
+  module _ (named : known (node .settings .edition) ≡ true) where
+    unread-other : Other (nodeOrReadingFault node received)
+    unfolding nodeOrReadingFault
+    unread-other =
+        other-chain _ _ (rw (known-fault node named) (lists-other _))
+        (λ (e : readingNumber (readOf received) ≡ 17). omega (arith, reading-within (readOf received)))
 
-  echo-other : Other (echoFault (node .settings) (headerOf received) received)
-  unfolding echoFault
-  echo-other = other-chain _ _ (other-given _ 30 (omega arith)) (other-given _ 42 (omega arith))
+    echo-other : Other (echoFault (node .settings) (headerOf received) received)
+    unfolding echoFault
+    echo-other = other-chain _ _ (other-given _ 30 (omega arith)) (other-given _ 42 (omega arith))
 
-  stop-other : Other (stopFault node room received)
-  stop-other =
-      holds-stop Other (omega arith) node room received unread-other (λ read. echo-other) (omega arith) (omega arith) (omega arith) (omega arith)
-      (omega arith)
+    stop-other : Other (stopFault node room received)
+    stop-other =
+        holds-stop Other (omega arith) node room received unread-other (λ read. echo-other) (omega arith) (omega arith) (omega arith) (omega arith)
+        (omega arith)
 
-  delivery-other : Other (deliveryNumber node room received)
-  delivery-other = holds-delivery Other (omega arith) node room received stop-other (omega arith) (omega arith)
+    none-17 : (answerOf node room received .delivery ≡ 17) ⊎ (answerOf node room received .repeat ≡ 17) → ⊥
+    unfolding answerOf
+    none-17 (inl d) = holds-delivery Other (omega arith) node room received stop-other (omega arith) (omega arith) d
+    none-17 (inr r) = holds-repeat Other (omega arith) node room received stop-other (omega arith) (omega arith) (omega arith) (omega arith) r
 
-  repeat-other : Other (repeatNumber node room received)
-  repeat-other = holds-repeat Other (omega arith) node room received stop-other (omega arith) (omega arith) (omega arith) (omega arith)
-
-  pub hears-17-only : (edition : ℕ) → (answerUnder edition node room received .delivery ≡ 17) ⊎ (answerUnder edition node room received .repeat ≡ 17)
-      → known edition ≡ false
-  unfolding answerOf
-  hears-17-only edition is = go (known edition) refl
+  pub hears-17-only : (answerOf node room received .delivery ≡ 17) ⊎ (answerOf node room received .repeat ≡ 17) → known (node .settings .edition) ≡ false
+  hears-17-only is = go (known (node .settings .edition)) refl
     where
-      given : known edition ≡ true → (answerUnder edition node room received .delivery ≡ 17) ⊎ (answerUnder edition node room received .repeat ≡ 17) → ⊥
-      given e (inl d) = delivery-other (rw e at d)
-      given e (inr r) = repeat-other (rw e at r)
-
-      go : (named : Bool) → known edition ≡ named → known edition ≡ false
-      go true e = absurd (given e is)
+      go : (named : Bool) → known (node .settings .edition) ≡ named → known (node .settings .edition) ≡ false
+      go true e = absurd (none-17 e is)
       go false e = e
 
 -- the three bits of a repeat
@@ -106,26 +126,3 @@ bits-kept edition node room received rest seen small is goes =
     bits-of-wire edition sent ∙ ap (bitsOf edition) (sym header-is) ∙ same-bits edition (r .header)
     ∙ ap (bitsOf edition) (shown received (r .header) (r .read) .is) ∙ sym (bits-of-wire edition received) in
     (shownWith (bitsUnder edition (at sent 1)) (repeatedHeader (r .header)), shows, bits ∙ sym (ap (λ (x : Shown). x .bits) (s .is)))
-
--- a walk
-pub walks-17 : (edition : ℕ) (node : Node) (room byte : ℕ) (bytes : List ℕ) → known edition ≡ false
-    → walkUnder edition node room (byte ∷ bytes) ≡ record { number = 0; offsets = 0 ∷ []; answers = twice 17 0 Unknown ∷ []; end = 0 }
-walks-17 edition node room byte bytes e = rw (e, ne-eqb (suc (length bytes)) 0 (omega arith)) refl
-
-pub walks-empty : (edition : ℕ) (node : Node) (room : ℕ) → walkUnder edition node room [] ≡ record { number = 0; offsets = []; answers = []; end = 0 }
-unfolding walk walkFrom
-walks-empty edition node room = go (known edition) refl
-  where
-    go : (named : Bool) → known edition ≡ named
-        → walkUnder edition node room [] ≡ record { number = 0; offsets = []; answers = []; end = 0 }
-    go true e = rw e refl
-    go false e = rw e refl
-
--- `relay`
-pub relays-same : (edition : ℕ) (node : Node) (batch : List ℕ) (number offset : ℕ) → known edition ≡ true
-    → let received = drop offset batch in let answer = answerUnder edition node roomForOne received in
-    (walkLines node batch 0 (walkUnder edition node roomForOne batch) ≡ linesOf node batch)
-    × (pduLine number offset (answer .delivery) (answer .repeat) (repeatedOrNone node received) (answer .«last_sender»)
-    ≡ lineAt node batch number offset)
-unfolding answerOf
-relays-same edition node batch number offset e = rw e (refl, refl)

@@ -2,6 +2,7 @@
 use mathlib.Core.Bool.{true, false}
 use mathlib.Core.List.{[], _∷_}
 use mathlib.Core.Path.{_≡_, refl, ap}
+use lib.ListN.{replicate}
 use Rattle.octets.specs.Numbers.{_gives_, _orElse_}
 use Rattle.pdu.specs.declared.Sender.the-variants.{Unknown}
 use Rattle.pdu.specs.Header.{headerOf}
@@ -12,29 +13,31 @@ use Rattle.editions.proofs.Showing.{unknown-refused}
 use Rattle.editions.proofs.Same.{wire-read, same-bytes}
 use Rattle.origin.specs.Origination.{freshHeader, fresh, settingsFault, originationNumber}
 use Rattle.lists.specs.Lists.{faultOf, firstFault}
-use Rattle.node.specs.Answers.{listOrReadingFault, stopFault, deliveryNumber, repeatNumber, taken, heardFrom, answerOf, twice}
-use Rattle.batch.specs.Walk.{walk}
-use Rattle.hearing.specs.Hearing.{answerUnder, walkUnder}
-use Rattle.hearing.proofs.Known.{stepping-walks-under}
+use Rattle.node.specs.Answers.{nodeFault, nodeOrReadingFault, stopFault, deliveryNumber, repeatNumber, taken, heardFrom, answerOf, twice}
+use Rattle.node.proofs.Editions.{edition-answer, edition-output}
+use Rattle.batch.specs.Walk.{Walk, walk}
+use Rattle.batch.proofs.Alike.{edition-step, edition-step-output, edition-walk}
+use Rattle.batch.proofs.Faults.{empty-walk}
+use Rattle.job.specs.Jobs.{settingsOf}
 use Rattle.listening.specs.Listening.{answerNumber, memoryAfterAnswer}
 use Rattle.boundary.specs.Boundary.{hasFlag, flagOf, reservedShown}
-use Rattle.two_editions.specs.TwoEditions.{TwoEditions, allSet, tooLong, atFault, settingsFor}
-use Rattle.checked_by_hand.specs.Examples.{nodeAt}
+use Rattle.two_editions.specs.TwoEditions.{TwoEditions, withEdition, allSet, tooLong, at2000, atFault, settingsFor}
 use Rattle.two_editions.proofs.Reading.{only-two, read-17-only, read-refused, read-11, read-12, shown-as-11, shown-as-12, not-read, no-room}
-use Rattle.two_editions.proofs.Hearing.{hears-17-only, bits-kept, walks-17, walks-empty, relays-same}
+use Rattle.two_editions.proofs.Hearing.{hears-17, hears-17-only, steps-17, steps-done, walks-17, bits-kept}
 use Rattle.two_editions.proofs.Originating.{originated-17-only, originated-16-only, fresh-12, fresh-11, originated-17, originated-16, originated-same}
 use Rattle.two_editions.proofs.Originating.{flag-alone}
+use Rattle.two_editions.proofs.Relaying.{relays-same}
 
 -- the cases that compute, each by itself
 module _ where
-  fault-after : (answerUnder 13 atFault 100 allSet ≡ twice 17 0 Unknown) × (answerUnder 11 atFault 100 allSet ≡ twice 21 0 Unknown)
-  unfolding answerOf deliveryNumber repeatNumber stopFault listOrReadingFault firstFault faultOf taken heardFrom _gives_ _orElse_
+  fault-after : (answerOf (withEdition 13 atFault) 100 allSet ≡ twice 17 0 Unknown)
+      × (answerOf (withEdition 11 atFault) 100 allSet ≡ twice 21 0 Unknown)
+  unfolding answerOf deliveryNumber repeatNumber stopFault nodeOrReadingFault nodeFault firstFault faultOf taken heardFrom _gives_ _orElse_
   fault-after = (refl, refl)
 
-  limit-after : (walkUnder 13 (nodeAt 2000 true false) 100 tooLong .answers ≡ twice 17 0 Unknown ∷ [])
-      × (walkUnder 12 (nodeAt 2000 true false) 100 tooLong .number ≡ 54)
+  limit-after : (walk (withEdition 13 at2000) 100 tooLong .answers ≡ twice 17 0 Unknown ∷ []) × (walk (withEdition 11 at2000) 100 tooLong .number ≡ 54)
   unfolding walk
-  limit-after = (refl, refl)
+  limit-after = (ap (λ (w : Walk). w .answers) (walks-17 (withEdition 13 at2000) refl 100 0 (replicate 16384 0)), refl)
 
   in-order : (originationNumber (settingsFor 13 true 8 true) [] 0 ≡ 17) × (originationNumber (settingsFor 11 true 8 true) [] 0 ≡ 10)
       × (originationNumber (settingsFor 11 true 7 true) [] 0 ≡ 13) × (originationNumber (settingsFor 11 true 7 false) [] 0 ≡ 16)
@@ -48,7 +51,7 @@ module _ where
   flag-written = refl
 
 pub two-editions : TwoEditions
-unfolding readUnder readOf headerOf shownWith answerNumber memoryAfterAnswer
+unfolding readUnder readOf headerOf shownWith settingsOf answerNumber memoryAfterAnswer
 two-editions =
     record {
       two = (refl, refl);
@@ -62,26 +65,30 @@ two-editions =
       shown-as-11 = shown-as-11;
       shown-as-12 = shown-as-12;
       fields = λ bits header. (refl, refl, refl, refl, refl, refl, refl, refl, refl, refl, refl, refl, refl);
-      eight = (refl, refl);
+      all-eight = (refl, refl);
       neighbours-not-shown = (refl, refl);
       shows-the-wire = wire-read;
       same-bytes = same-bytes;
       not-read = not-read;
       no-room = no-room;
-      hears-17 = λ edition node room received output e. rw e (refl, refl);
-      hears-17-only = λ edition node room received. hears-17-only node room received edition;
-      before-lists = fault-after;
-      hears-same = λ edition node room received output e. rw e (refl, refl);
+      hears-17 = λ node room received output e. hears-17 node e room received output;
+      hears-17-only = hears-17-only;
+      steps-17 = λ node room batch output cursor e. steps-17 node e room batch output cursor;
+      steps-done = λ node room batch output cursor e. steps-done node e room batch output cursor;
+      walks-17 = λ node room byte bytes e. walks-17 node e room byte bytes;
+      walks-empty = empty-walk;
+      same = λ node edition other named also room received batch output cursor. (
+        edition-answer edition other node named also room received,
+        edition-output edition other node named also received output,
+        edition-step edition other node named also room batch cursor,
+        edition-step-output edition other node named also batch cursor output,
+        edition-walk edition other node named also room batch,
+      );
       bits-kept = bits-kept;
-      steps-17 = λ edition node room batch output cursor e more. rw (e, more) (refl, refl);
-      steps-done = λ edition node room batch output cursor e done. rw (e, done) (refl, refl);
-      steps-same = λ edition node room batch output cursor e. rw e (refl, refl);
-      stepping-walks = stepping-walks-under;
-      walks-17 = walks-17;
-      walks-empty = walks-empty;
-      walks-same = λ edition node room batch e. rw e refl;
+      before-lists = fault-after;
       before-54 = limit-after;
-      relays-same = relays-same;
+      relay-edition = λ bytes job. refl;
+      relays-same = λ node edition other batch named also. relays-same edition other node named also batch;
       originated-17 = originated-17;
       originated-17-only = originated-17-only;
       originated-16 = originated-16;
@@ -95,6 +102,7 @@ two-editions =
       in-c-reserved = λ seen bytes number is. (refl, ap hasFlag is, ap flagOf is, ap reservedShown is);
       in-c-flagged = λ seen bytes encrypted number is. (refl, ap hasFlag is, ap flagOf is, ap reservedShown is);
       in-c-refused = λ number bytes. (refl, refl, refl, refl, refl, refl);
+      node-in-c = λ node. refl;
       fresh-in-c = λ settings. (refl, refl);
       in-c-11 = (refl, refl, refl);
       in-c-12 = (refl, refl, refl);

@@ -22,19 +22,20 @@ use Rattle.editions.specs.declared.EditionReading.the-variants.{Pdu, Refused}
 use Rattle.editions.specs.Editions.{known, bitsUnder, shownWith, readUnder, wireOf, writeAgainUnder, writtenAgainUnder}
 use Rattle.origin.specs.declared.FreshSettings.{FreshSettings}
 use Rattle.origin.specs.Origination.{freshHeader, fresh, originationNumber, originated, originatedOutput}
-use Rattle.lists.specs.Lists.{listsOf}
-use Rattle.decision.specs.Decision.{Node}
+use Rattle.list_block.specs.Laying.{eight}
+use Rattle.decision.specs.Decision.{Node, nodeOf}
 use Rattle.node.specs.Repeat.{repeated}
 use Rattle.node.specs.Answers.{repeatNumber, answerOf, twice, outputAfter}
 use Rattle.batch.specs.declared.Cursor.{Cursor}
 use Rattle.batch.specs.declared.Stepped.the-variants.{Ended, Answered}
 use Rattle.batch.specs.Walk.{isDone, stepOf, stepOutput, walk}
-use Rattle.hearing.specs.Hearing.{answerUnder, outputUnder, stepUnder, stepOutputUnder, walkUnder, stepsUnder}
-use Rattle.lines.specs.Lines.{pduLine}
-use Rattle.run.specs.Run.{roomForOne, repeatedOrNone, lineAt, walkLines, linesOf}
+use Rattle.job.specs.declared.Job.{Job}
+use Rattle.job.specs.Jobs.{nodeIn}
+use Rattle.run.specs.Run.{batchLines}
 use Rattle.listening.specs.Listening.{answerNumber, memoryAfterAnswer}
+use Rattle.boundary.specs.declared.a_node.MantNode.{MantNode}
 use Rattle.boundary.specs.declared.originating.MantFresh.{MantFresh}
-use Rattle.boundary.specs.Boundary.{headerInC, freshFromC}
+use Rattle.boundary.specs.Boundary.{headerInC, nodeFromC, freshFromC}
 use Rattle.checked_by_hand.specs.Examples.{nodeAt}
 
 -- settings with another edition and another encrypted flag; all else in them is as it was
@@ -53,16 +54,35 @@ setTo edition encrypted settings =
       encrypted = encrypted;
     }
 
+-- a node with another edition; all else in it is as it was
+abbrev pub withEdition : ℕ → Node → Node
+withEdition edition node =
+    nodeOf
+    (record {
+      edition = edition;
+      own = node .settings .own;
+      echo = node .settings .echo;
+      repeating = node .settings .repeating;
+      «source_pass» = node .settings .«source_pass»;
+      «source_reject» = node .settings .«source_reject»;
+      «destination_pass» = node .settings .«destination_pass»;
+      «destination_reject» = node .settings .«destination_reject»;
+    })
+    (node .lists)
+
 -- For the worked cases: a PDU of 6 bytes whose three bits after the port are all set
 abbrev pub allSet : List ℕ
 allSet = 0x00 ∷ 0x0E ∷ 0x00 ∷ 0x00 ∷ 0x00 ∷ 0x05 ∷ []
 
--- a batch one byte longer than a batch may be, and a node whose source pass list has one value, which is fault 21
+-- a batch one byte longer than a batch may be; a node with no list chosen, and one whose first source pass list has one value, which is fault 21
 abbrev pub tooLong : List ℕ
 tooLong = replicate 16385 0
 
+abbrev pub at2000 : Node
+at2000 = nodeAt 2000 true false
+
 abbrev pub atFault : Node
-atFault = record { settings = nodeAt 2000 true false .settings; lists = listsOf (5 ∷ []) [] [] [] }
+atFault = nodeOf (at2000 .settings) (eight (5 ∷ []) [] [] [] [] [] [] [])
 
 -- settings with the edition, the encrypted flag, the hop limit and the reliable service that are asked, for everyone
 abbrev pub settingsFor : ℕ → Bool → ℕ → Bool → FreshSettings
@@ -111,33 +131,32 @@ pub record TwoEditions : Type 0 where
       → length output < pduLength (wireOf shown)
       → (writeAgainUnder edition bytes (length output) ≡ record { number = 14; length = 0 }) × (writtenAgainUnder edition bytes output ≡ output)
   -- a node: 17 twice for exactly those editions, whatever its lists and the bytes are; nothing is taken and the output stays as it was
-  pub hears-17 : (edition : ℕ) (node : Node) (room : ℕ) (received output : List ℕ) → known edition ≡ false
-      → (answerUnder edition node room received ≡ twice 17 0 Unknown) × (outputUnder edition node received output ≡ output)
-  pub hears-17-only : (edition : ℕ) (node : Node) (room : ℕ) (received : List ℕ)
-      → (answerUnder edition node room received .delivery ≡ 17) ⊎ (answerUnder edition node room received .repeat ≡ 17) → known edition ≡ false
-  -- repeating is byte for byte the same under both: answer and output are those of demand 2
-  pub hears-same : (edition : ℕ) (node : Node) (room : ℕ) (received output : List ℕ) → known edition ≡ true
-      → (answerUnder edition node room received ≡ answerOf node room received) × (outputUnder edition node received output ≡ outputAfter node received output)
-  -- and the three bits of a repeat show as those received, whatever follows it
+  pub hears-17 : (node : Node) (room : ℕ) (received output : List ℕ) → known (node .settings .edition) ≡ false
+      → (answerOf node room received ≡ twice 17 0 Unknown) × (outputAfter node received output ≡ output)
+  pub hears-17-only : (node : Node) (room : ℕ) (received : List ℕ)
+      → (answerOf node room received .delivery ≡ 17) ⊎ (answerOf node room received .repeat ≡ 17) → known (node .settings .edition) ≡ false
+  -- a step: 17 ends the walk at the same place, also where the batch is too long; a cursor that is done has no answer
+  pub steps-17 : (node : Node) (room : ℕ) (batch output : List ℕ) (cursor : Cursor) → known (node .settings .edition) ≡ false
+      → isDone batch cursor ≡ false
+      → (stepOf node room batch cursor ≡ Answered (twice 17 0 Unknown) (record { place = cursor .place; ended = true }))
+      × (stepOutput node batch cursor output ≡ output)
+  pub steps-done : (node : Node) (room : ℕ) (batch output : List ℕ) (cursor : Cursor) → known (node .settings .edition) ≡ false
+      → isDone batch cursor ≡ true → (stepOf node room batch cursor ≡ Ended) × (stepOutput node batch cursor output ≡ output)
+  -- the whole walk: 17 is its only answer; an empty batch has none, whatever the edition
+  pub walks-17 : (node : Node) (room byte : ℕ) (bytes : List ℕ) → known (node .settings .edition) ≡ false
+      → walk node room (byte ∷ bytes) ≡ record { number = 0; offsets = 0 ∷ []; answers = twice 17 0 Unknown ∷ []; end = 0 }
+  pub walks-empty : (node : Node) (room : ℕ) → walk node room [] ≡ record { number = 0; offsets = []; answers = []; end = 0 }
+  -- repeating is byte for byte the same under both: only that check, and 54 after it, read the edition, and under two that are known a node has the same
+  -- answer, output, step and walk
+  pub same : (node : Node) (edition other : ℕ) → known edition ≡ true → known other ≡ true
+      → (room : ℕ) (received batch output : List ℕ) (cursor : Cursor) → let a = withEdition edition node in let b = withEdition other node in
+      (answerOf a room received ≡ answerOf b room received) × (outputAfter a received output ≡ outputAfter b received output)
+      × (stepOf a room batch cursor ≡ stepOf b room batch cursor) × (stepOutput a batch cursor output ≡ stepOutput b batch cursor output)
+      × (walk a room batch ≡ walk b room batch)
+  -- and the three bits of a repeat show as those received, whatever follows it and whichever edition the reader has
   pub bits-kept : (edition : ℕ) (node : Node) (room : ℕ) (received rest : List ℕ) (shown : Shown) → AllBytes received
       → readUnder edition received ≡ Pdu shown → repeatNumber node room received ≡ 0
       → (again : Shown) × (readUnder edition (repeated (node .settings .own) received ++ rest) ≡ Pdu again) × (again .bits ≡ shown .bits)
-  -- a step: 17 ends the walk at the same place, also where the batch is too long; a cursor that is done has no answer
-  pub steps-17 : (edition : ℕ) (node : Node) (room : ℕ) (batch output : List ℕ) (cursor : Cursor) → known edition ≡ false → isDone batch cursor ≡ false
-      → (stepUnder edition node room batch cursor ≡ Answered (twice 17 0 Unknown) (record { place = cursor .place; ended = true }))
-      × (stepOutputUnder edition node batch cursor output ≡ output)
-  pub steps-done : (edition : ℕ) (node : Node) (room : ℕ) (batch output : List ℕ) (cursor : Cursor) → known edition ≡ false → isDone batch cursor ≡ true
-      → (stepUnder edition node room batch cursor ≡ Ended) × (stepOutputUnder edition node batch cursor output ≡ output)
-  pub steps-same : (edition : ℕ) (node : Node) (room : ℕ) (batch output : List ℕ) (cursor : Cursor) → known edition ≡ true
-      → (stepUnder edition node room batch cursor ≡ stepOf node room batch cursor)
-      × (stepOutputUnder edition node batch cursor output ≡ stepOutput node batch cursor output)
-  -- the whole walk, which is what stepping gives; an empty batch has no answer, whatever the edition
-  pub stepping-walks : (edition : ℕ) (node : Node) (room : ℕ) (batch : List ℕ)
-      → stepsUnder edition node room batch (length batch) (record { place = 0; ended = false }) ≡ walkUnder edition node room batch
-  pub walks-17 : (edition : ℕ) (node : Node) (room byte : ℕ) (bytes : List ℕ) → known edition ≡ false
-      → walkUnder edition node room (byte ∷ bytes) ≡ record { number = 0; offsets = 0 ∷ []; answers = twice 17 0 Unknown ∷ []; end = 0 }
-  pub walks-empty : (edition : ℕ) (node : Node) (room : ℕ) → walkUnder edition node room [] ≡ record { number = 0; offsets = []; answers = []; end = 0 }
-  pub walks-same : (edition : ℕ) (node : Node) (room : ℕ) (batch : List ℕ) → known edition ≡ true → walkUnder edition node room batch ≡ walk node room batch
   -- origination: 17 for exactly those editions, before 10 to 13; 16 where 1.1 is asked for the flag, after 13 and before 14, and nowhere else
   pub originated-17 : (settings : FreshSettings) (payload output : List ℕ) → known (settings .edition) ≡ false
       → (originated settings payload (length output) ≡ record { number = 17; length = 0 }) × (originatedOutput settings payload output ≡ output)
@@ -171,17 +190,15 @@ pub record TwoEditions : Type 0 where
       × (shown .«payload_length» ≡ header .«payload_length») × (shown .source ≡ header .source) × (shown .destination ≡ header .destination)
       × (shown .«pdu_id» ≡ header .«pdu_id») × (shown .«path_count» ≡ header .«path_count»)
   -- III. BESIDE OTHER REQUESTS, AND IN C
-  -- `relay`, whose edition is 1.2, prints the same under both: its PDU lines are those of the walk under either, each from the answer under it
-  pub relays-same : (edition : ℕ) (node : Node) (batch : List ℕ) (number offset : ℕ) → known edition ≡ true
-      → let received = drop offset batch in let answer = answerUnder edition node roomForOne received in
-      (walkLines node batch 0 (walkUnder edition node roomForOne batch) ≡ linesOf node batch)
-      × (pduLine number offset (answer .delivery) (answer .repeat) (repeatedOrNone node received) (answer .«last_sender»)
-      ≡ lineAt node batch number offset)
+  -- `relay`, whose edition is 1.2, prints the same under both
+  pub relay-edition : (bytes : List ℕ) (job : Job) → nodeIn bytes job .settings .edition ≡ 12
+  pub relays-same : (node : Node) (edition other : ℕ) (batch : List ℕ) → known edition ≡ true → known other ≡ true
+      → batchLines (withEdition edition node) batch ≡ batchLines (withEdition other node) batch
   -- W-201: with 17 nothing is counted
   pub counts-nothing : (received memory : List ℕ)
       → (answerNumber (twice 17 0 Unknown) received memory ≡ 0) × (memoryAfterAnswer (twice 17 0 Unknown) received memory ≡ memory)
-  -- C's header has the flag only where the edition shows one, and a reserved number as it shows it; with a refusal, neither and no length; a fresh PDU's
-  -- edition and flag are those that C gives
+  -- C's header has the flag only where the edition shows one, and a reserved number as it shows it; with a refusal, neither and no length; a node's
+  -- edition, and a fresh PDU's edition and flag, are those that C gives
   pub in-c-reserved : (shown : Shown) (bytes : List ℕ) (number : ℕ) → shown .bits ≡ Reserved number → let header = headerInC (Pdu shown) bytes in
       (header .number ≡ 0) × (header .«has_encrypted» ≡ false) × (header .encrypted ≡ false) × (header .reserved ≡ number)
   pub in-c-flagged : (shown : Shown) (bytes : List ℕ) (encrypted : Bool) (number : ℕ) → shown .bits ≡ Flagged encrypted number
@@ -190,22 +207,23 @@ pub record TwoEditions : Type 0 where
   pub in-c-refused : (number : ℕ) (bytes : List ℕ) → let header = headerInC (Refused number) bytes in
       (header .number ≡ number) × (header .«has_encrypted» ≡ false) × (header .encrypted ≡ false) × (header .reserved ≡ 0)
       × (header .«header_length» ≡ 0) × (header .«pdu_length» ≡ 0)
+  pub node-in-c : (node : MantNode) → nodeFromC node .edition ≡ node .edition
   pub fresh-in-c : (settings : MantFresh) → (freshFromC settings .edition ≡ settings .edition) × (freshFromC settings .encrypted ≡ settings .encrypted)
   -- IV. WORKED CASES
   -- no other number is an edition, also none that 32 bits would cut to 11
   pub no-other : (known 0 ≡ false) × (known 1 ≡ false) × (known 2 ≡ false) × (known 10 ≡ false) × (known 13 ≡ false) × (known 4294967307 ≡ false)
       × (known 18446744073709551615 ≡ false)
   -- the eight values of the three bits, and none of the bits beside them
-  pub eight : let bytes : List ℕ = 0x00 ∷ 0x02 ∷ 0x04 ∷ 0x06 ∷ 0x08 ∷ 0x0A ∷ 0x0C ∷ 0x0E ∷ [] in
+  pub all-eight : let bytes : List ℕ = 0x00 ∷ 0x02 ∷ 0x04 ∷ 0x06 ∷ 0x08 ∷ 0x0A ∷ 0x0C ∷ 0x0E ∷ [] in
       (map (bitsUnder 11) bytes
       ≡ Reserved 0 ∷ Reserved 1 ∷ Reserved 2 ∷ Reserved 3 ∷ Reserved 4 ∷ Reserved 5 ∷ Reserved 6 ∷ Reserved 7 ∷ [])
       × (map (bitsUnder 12) bytes
       ≡ Flagged false 0 ∷ Flagged false 1 ∷ Flagged false 2 ∷ Flagged false 3 ∷ Flagged true 0 ∷ Flagged true 1 ∷ Flagged true 2 ∷ Flagged true 3 ∷ [])
   pub neighbours-not-shown : (bitsUnder 11 0xF1 ≡ Reserved 0) × (bitsUnder 12 0xF1 ≡ Flagged false 0)
   -- 17 before the lists, and before 54
-  pub before-lists : (answerUnder 13 atFault 100 allSet ≡ twice 17 0 Unknown) × (answerUnder 11 atFault 100 allSet ≡ twice 21 0 Unknown)
-  pub before-54 : (walkUnder 13 (nodeAt 2000 true false) 100 tooLong .answers ≡ twice 17 0 Unknown ∷ [])
-      × (walkUnder 12 (nodeAt 2000 true false) 100 tooLong .number ≡ 54)
+  pub before-lists : (answerOf (withEdition 13 atFault) 100 allSet ≡ twice 17 0 Unknown)
+      × (answerOf (withEdition 11 atFault) 100 allSet ≡ twice 21 0 Unknown)
+  pub before-54 : (walk (withEdition 13 at2000) 100 tooLong .answers ≡ twice 17 0 Unknown ∷ []) × (walk (withEdition 11 at2000) 100 tooLong .number ≡ 54)
   -- the order of origination's numbers; the flag as it is written; what C sees of three bits that are all set
   pub order : (originationNumber (settingsFor 13 true 8 true) [] 0 ≡ 17) × (originationNumber (settingsFor 11 true 8 true) [] 0 ≡ 10)
       × (originationNumber (settingsFor 11 true 7 true) [] 0 ≡ 13) × (originationNumber (settingsFor 11 true 7 false) [] 0 ≡ 16)

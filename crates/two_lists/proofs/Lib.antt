@@ -1,6 +1,4 @@
+pub mod Order
 pub mod Faults
-pub mod SeasonAir
-pub mod SeasonBound
-pub mod SeasonReach
-pub mod SeasonRead
+pub mod Chosen
 pub mod TwoLists

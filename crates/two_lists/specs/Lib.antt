@@ -1,3 +1,2 @@
 pub mod ListsAndChoices
-pub mod SeasonNetwork
 pub mod TwoLists

@@ -1,222 +1,129 @@
--- Document 02, W-211, as one record; `proofs/TwoLists.antt` gives it from its parts. The edition is W-209's, and a variable wherever it does not matter.
-use Prim.Native.Nat.{ℕ, _+_, _*_, _-_, _<_, _≤_}
-use mathlib.Core.Bool.{Bool, true, false, _||_}
-use mathlib.Core.List.{List, [], _∷_, map, flatten, List·Memᴰ, List·Nodup}
-use mathlib.Core.Logic.{_⊎_, _≢_}
+-- Document 02, W-211, as one record; `proofs/TwoLists.antt` gives it from its parts. Demands 1 to 3 are about the node that is meant here.
+use Prim.Native.Nat.{ℕ, _/_, _%_, _<_, _≤_}
+use mathlib.Core.Bool.{true, false, not, cond}
+use mathlib.Core.List.{List, [], _∷_}
+use mathlib.Core.Logic.{_⊎_}
+use mathlib.Core.Option.{Option, none, some}
 use mathlib.Core.Path.{_≡_}
-use lib.ListN.{length, take, drop}
-use Rattle.pdu.specs.declared.Destination.the-variants.{Everyone}
+use lib.Dec.{eqb}
+use lib.ListN.{length, replicate}
+use Rattle.octets.specs.Numbers.{_gives_, _orElse_}
+use Rattle.octets.specs.Octets.{over}
+use Rattle.pdu.specs.declared.Destination.the-variants.{Everyone, Address}
+use Rattle.pdu.specs.declared.Header.{Header}
 use Rattle.pdu.specs.declared.Sender.the-variants.{Unknown}
-use Rattle.pdu.specs.Header.{headerOf, sourceOf}
-use Rattle.pdu.specs.Reading.{readOf, readingNumber}
-use Rattle.pdu.specs.Sizes.{pathLimit}
 use Rattle.editions.specs.Editions.{known}
-use Rattle.origin.specs.declared.FreshSettings.{FreshSettings}
-use Rattle.origin.specs.Origination.{fresh}
-use Rattle.lists.specs.Lists.{faultOf, listsOf, listFault}
-use Rattle.decision.specs.Decision.{Node, isEcho, isOwnReport}
-use Rattle.node.specs.declared.Answer.{Answer}
-use Rattle.node.specs.Answers.{delivered, twice}
+use Rattle.lists.specs.declared.ListFault.{ListFault}
+use Rattle.lists.specs.Lists.{faultOf, holds, two, Lists, inOrder, listFault, faultTold, listsIn, laid}
+use Rattle.list_block.specs.Laying.{cutLists, eight, Lays}
+use Rattle.decision.specs.declared.Choice.the-variants.{First, Second, Neither}
+use Rattle.decision.specs.declared.Settings.{Settings}
+use Rattle.decision.specs.Decision.{Node, nodeOf, chosen, isOutside, isIn, destinationIsOutside, destinationIsIn, passFault}
+use Rattle.node.specs.Answers.{nodeFault, answerOf, twice, outputAfter}
 use Rattle.batch.specs.declared.Cursor.{Cursor}
 use Rattle.batch.specs.declared.Stepped.the-variants.{TooLong, Ended, Answered}
-use Rattle.batch.specs.Walk.{batchLimit, endingAt}
-use Rattle.hearing.specs.Hearing.{answerUnder, outputUnder, stepUnder, stepOutputUnder, walkUnder}
-use Rattle.seasons.specs.declared.Choice.{Choice}
-use Rattle.seasons.specs.declared.Choice.the-variants.{First, Second, Neither}
-use Rattle.seasons.specs.declared.SeasonSettings.{SeasonSettings}
-use Rattle.seasons.specs.Choosing.{two, EightLists, eightInOrder, inOrderOfKinds, eightFault, isChosen, chosenOf}
-use Rattle.seasons.specs.Choosing.{SeasonNode, seasonNodeOf, chosenNode, withFirsts}
-use Rattle.seasons.specs.Under.{seasonAnswerUnder, seasonOutputUnder, SeasonHears, seasonStepUnder, seasonStepOutputUnder, seasonWalkUnder, seasonStepsUnder}
+use Rattle.batch.specs.Walk.{batchLimit, stepOf, stepOutput, endingAt, walk}
 use Rattle.job.specs.declared.Job.{Job}
-use Rattle.job.specs.Jobs.{nodeIn}
-use Rattle.listening.specs.Listening.{wasRead, heardOf, answerNumber, memoryAfterAnswer}
-use Rattle.queue.specs.Queue.{heldIn, front}
-use Rattle.transmit.specs.History.{places, allReadable}
-use Rattle.bound.specs.Bound.{terms, bound, bytesBound}
-use Rattle.chains.specs.Chains.{Chain, Shortest}
-use Rattle.flood.specs.Flood.{Reception, total, others, Bounded}
-use Rattle.flood.specs.Air.{Repeater, Nodes, Open, Begins, Originated, address, pathOf, hopOf, onTheAir}
-use Rattle.flood.specs.Complete.{Complete}
-use Rattle.coverage.specs.Hearing.{TakenByAll}
-use Rattle.coverage.specs.Delivery.{Planned, Delivers, Delivered}
+use Rattle.job.specs.Jobs.{valuesIn, nodeIn}
+use Rattle.flood.specs.Air.{sends}
 use Rattle.boundary.specs.declared.a_node.MantNode.{MantNode}
-use Rattle.boundary.specs.Boundary.{choiceFromC, nodeFromC}
-use Rattle.two_lists.specs.ListsAndChoices.{listInOrder, changedTo, firstsPass, secondsPass, numberBy, byEmpty, besideOdd}
-use Rattle.two_lists.specs.SeasonNetwork.{SeasonRepeater, own, asChosen, seasonSends, seasonAir, SeasonDelivered}
+use Rattle.boundary.specs.Boundary.{choiceFromC, nodeFromC, changedOver}
+use Rattle.two_lists.specs.ListsAndChoices.{listInOrder, chosenLists, firstsPass, secondsPass, exampleNumberAt, numberBy, byEmpty, besideOdd}
+
+-- For the worked cases: node 2000 as C sets it, edition 1.2, echo and repeating on, no list chosen
+abbrev pub nodeInC : MantNode
+nodeInC =
+    record {
+      edition = 12;
+      own = 2000;
+      echo = true;
+      repeating = true;
+      «source_pass» = 0;
+      «source_reject» = 0;
+      «destination_pass» = 0;
+      «destination_reject» = 0;
+    }
 
 pub record TwoLists : Type 0 where
   -- I. WHAT 02 ASKS
-  -- all eight are checked, chosen or not: there is no fault exactly if each is without one, and else the first in their order gives the number
-  pub checked : (lists : EightLists) → eightFault lists ≡ 0 → (k : ℕ) → k < 8 → faultOf (listInOrder lists k) ≡ 0
-  pub without-fault : (lists : EightLists) → ((k : ℕ) → k < 8 → faultOf (listInOrder lists k) ≡ 0) → eightFault lists ≡ 0
-  pub first-fault : (lists : EightLists) (k : ℕ) → k < 8 → ((j : ℕ) → j < k → faultOf (listInOrder lists j) ≡ 0) → (faultOf (listInOrder lists k) ≡ 0 → ⊥)
-      → eightFault lists ≡ faultOf (listInOrder lists k)
+  -- all eight are checked: there is no fault exactly if each is without one, and else the first in their order gives the number and its place
+  pub checked : (lists : Lists) → listFault lists ≡ 0 → (k : ℕ) → k < 8 → faultOf (listInOrder lists k) ≡ 0
+  pub without-fault : (lists : Lists) → ((k : ℕ) → k < 8 → faultOf (listInOrder lists k) ≡ 0) → faultTold lists ≡ record { number = 0; list = 8 }
+  pub first-fault : (lists : Lists) (k : ℕ) → k < 8 → ((j : ℕ) → j < k → faultOf (listInOrder lists j) ≡ 0) → (faultOf (listInOrder lists k) ≡ 0 → ⊥)
+      → faultTold lists ≡ record { number = faultOf (listInOrder lists k); list = k }
   -- their order: kind by kind as in 01, the first list before the second; and which of them are of which kind
-  pub order : (a b c d e f g h : List ℕ) → inOrderOfKinds (eightInOrder a b c d e f g h) ≡ a ∷ b ∷ c ∷ d ∷ e ∷ f ∷ g ∷ h ∷ []
-  pub kinds : (a b c d e f g h : List ℕ) → let lists = eightInOrder a b c d e f g h in
+  pub order : (a b c d e f g h : List ℕ) → inOrder (eight a b c d e f g h) ≡ a ∷ b ∷ c ∷ d ∷ e ∷ f ∷ g ∷ h ∷ []
+  pub kinds : (a b c d e f g h : List ℕ) → let lists = eight a b c d e f g h in
       (lists .sourcePass ≡ two a b) × (lists .sourceReject ≡ two c d) × (lists .destinationPass ≡ two e f) × (lists .destinationReject ≡ two g h)
-  -- a fault is answered whatever is chosen, as both numbers, with nothing taken and the output as it was
-  pub at-fault : (edition : ℕ) (settings : SeasonSettings) (lists : EightLists) (received output : List ℕ) → known edition ≡ true
-      → (eightFault lists ≡ 0 → ⊥)
-      → (seasonAnswerUnder edition (seasonNodeOf settings lists) (length output) received ≡ twice (eightFault lists) 0 Unknown)
-      × (seasonOutputUnder edition (seasonNodeOf settings lists) received output ≡ output)
-  -- and 20 to 22 are given for that alone
-  pub at-fault-only : (edition : ℕ) (node : SeasonNode) (room : ℕ) (received : List ℕ) (number : ℕ) → 20 ≤ number → number ≤ 22
-      → (seasonAnswerUnder edition node room received .delivery ≡ number) ⊎ (seasonAnswerUnder edition node room received .repeat ≡ number)
-      → (known edition ≡ true) × (eightFault (node .lists) ≡ number)
-  -- what a choice chooses
-  pub choices : (first second : List ℕ) → (chosenOf First (two first second) ≡ first) × (chosenOf Second (two first second) ≡ second)
-      × (chosenOf Neither (two first second) ≡ []) × (isChosen First ≡ true) × (isChosen Second ≡ true) × (isChosen Neither ≡ false)
-  -- changing over is changing the choice alone: own address, echo and repeating stay, and so does what the eight lists are checked for; each kind's list
-  -- is then the one chosen
-  pub changing-over : (settings : SeasonSettings) (lists : EightLists) (a b c d : Choice)
-      → let node = seasonNodeOf (changedTo a b c d settings) lists in
-      (chosenNode node .settings .own ≡ settings .own) × (chosenNode node .settings .echo ≡ settings .echo)
-      × (chosenNode node .settings .repeating ≡ settings .repeating) × (eightFault (node .lists) ≡ eightFault lists)
-      × (chosenNode node .settings .«source_pass» ≡ isChosen a) × (chosenNode node .settings .«source_reject» ≡ isChosen b)
-      × (chosenNode node .settings .«destination_pass» ≡ isChosen c) × (chosenNode node .settings .«destination_reject» ≡ isChosen d)
-      × (chosenNode node .lists
-      ≡ listsOf (chosenOf a (lists .sourcePass)) (chosenOf b (lists .sourceReject)) (chosenOf c (lists .destinationPass))
-      (chosenOf d (lists .destinationReject)))
-  -- the one law: a node whose eight lists have no fault answers as a node of 01 with the four chosen lists would, which have none either, under any
-  -- edition; so does its step and its walk, and what they leave
-  pub chosen-without-fault : (node : SeasonNode) → eightFault (node .lists) ≡ 0 → listFault (chosenNode node .lists) ≡ 0
-  pub answers : (edition : ℕ) (node : SeasonNode) (room : ℕ) (received output : List ℕ) → eightFault (node .lists) ≡ 0
-      → (seasonAnswerUnder edition node room received ≡ answerUnder edition (chosenNode node) room received)
-      × (seasonOutputUnder edition node received output ≡ outputUnder edition (chosenNode node) received output)
-  pub steps : (edition : ℕ) (node : SeasonNode) (room : ℕ) (batch : List ℕ) (cursor : Cursor) (output : List ℕ) → eightFault (node .lists) ≡ 0
-      → (seasonStepUnder edition node room batch cursor ≡ stepUnder edition (chosenNode node) room batch cursor)
-      × (seasonStepOutputUnder edition node batch cursor output ≡ stepOutputUnder edition (chosenNode node) batch cursor output)
-  pub walks : (edition : ℕ) (node : SeasonNode) (room : ℕ) (batch : List ℕ) → eightFault (node .lists) ≡ 0
-      → seasonWalkUnder edition node room batch ≡ walkUnder edition (chosenNode node) room batch
-  -- the job of `relay`: its four sections are first lists, and the second are empty; that node answers, leaves, steps and walks as the job's node did, faults
-  -- of the lists too, so that what is printed stays as it was
-  pub job : (bytes : List ℕ) (j : Job) → withFirsts (nodeIn bytes j) .lists
-      ≡ eightInOrder (nodeIn bytes j .lists .sourcePass) [] (nodeIn bytes j .lists .sourceReject) [] (nodeIn bytes j .lists .destinationPass) []
-      (nodeIn bytes j .lists .destinationReject) []
-  pub job-answers : (edition : ℕ) (node : Node) (room : ℕ) (received output : List ℕ)
-      → (seasonAnswerUnder edition (withFirsts node) room received ≡ answerUnder edition node room received)
-      × (seasonOutputUnder edition (withFirsts node) received output ≡ outputUnder edition node received output)
-  pub job-steps : (edition : ℕ) (node : Node) (room : ℕ) (batch : List ℕ) (cursor : Cursor) (output : List ℕ)
-      → (seasonStepUnder edition (withFirsts node) room batch cursor ≡ stepUnder edition node room batch cursor)
-      × (seasonStepOutputUnder edition (withFirsts node) batch cursor output ≡ stepOutputUnder edition node batch cursor output)
-  pub job-walks : (edition : ℕ) (node : Node) (room : ℕ) (batch : List ℕ)
-      → seasonWalkUnder edition (withFirsts node) room batch ≡ walkUnder edition node room batch
-  -- demand 1: with a repeat number other than 0 the output is not touched. Demand 2: the answer names the payload that the node with the lists chosen delivers
-  pub untouched : (edition : ℕ) (node : SeasonNode) (received output : List ℕ)
-      → (seasonAnswerUnder edition node (length output) received .repeat ≡ 0 → ⊥) → seasonOutputUnder edition node received output ≡ output
-  pub delivered-part : (edition : ℕ) (node : SeasonNode) (room : ℕ) (received : List ℕ) → known edition ≡ true → eightFault (node .lists) ≡ 0
-      → let answer = seasonAnswerUnder edition node room received in
-      take (answer .«delivered_length») (drop (answer .«delivered_place») received) ≡ delivered (chosenNode node) room received
-  -- demand 3, over nodes with two lists of each kind, whatever these are and whatever is chosen, under edition 1.1 or 1.2 each
-  pub bounded : (editionOf : ℕ → ℕ) → ((a : ℕ) → known (editionOf a) ≡ true) → (nodes : List SeasonRepeater) → Nodes (map asChosen nodes)
-      → (settings : FreshSettings) (payload : List ℕ) (room : ℕ) → Originated settings payload room → (receptions : List Reception) → List·Nodup receptions
-      → Bounded address pathOf (others address (settings .source) (map asChosen nodes)) (settings .«hop_limit»)
-      (seasonAir editionOf nodes (fresh settings payload) receptions)
-      × (total length (seasonAir editionOf nodes (fresh settings payload) receptions)
-      ≤ bytesBound (length (others address (settings .source) (map asChosen nodes))) (settings .«hop_limit») (length (fresh settings payload)))
-  -- and of whatever else begins a flood
-  pub begun-bounded : (editionOf : ℕ → ℕ) → ((a : ℕ) → known (editionOf a) ≡ true) → (nodes : List SeasonRepeater) → Nodes (map asChosen nodes)
-      → (first : List ℕ) → Begins first → (receptions : List Reception) → List·Nodup receptions
-      → Bounded address pathOf (others address (sourceOf first) (map asChosen nodes)) (hopOf first) (seasonAir editionOf nodes first receptions)
-      × (total length (seasonAir editionOf nodes first receptions)
-      ≤ bytesBound (length (others address (sourceOf first) (map asChosen nodes))) (hopOf first) (length first))
-  -- and where no list has a fault, what goes out is what nodes of 01 with the lists chosen send
-  pub same-air : (editionOf : ℕ → ℕ) → ((a : ℕ) → known (editionOf a) ≡ true) → (nodes : List SeasonRepeater)
-      → ((n : SeasonRepeater) → List·Memᴰ n nodes → eightFault (n .node .lists) ≡ 0) → (first : List ℕ) (receptions : List Reception)
-      → seasonAir editionOf nodes first receptions ≡ onTheAir (map asChosen nodes) first receptions
-  -- so both bounds are reached, as in demand 3, where no list has a fault, each of the others has no list chosen, repeats what it may and has room, every
-  -- node hears every transmission, the message is for everyone, and there are at most 255 others or its hop limit is below 7; and such receptions exist
-  pub reached : (editionOf : ℕ → ℕ) → ((a : ℕ) → known (editionOf a) ≡ true) → (nodes : List SeasonRepeater) → Nodes (map asChosen nodes)
-      → ((n : SeasonRepeater) → List·Memᴰ n nodes → eightFault (n .node .lists) ≡ 0)
-      → (settings : FreshSettings) (payload : List ℕ) (room : ℕ) → Originated settings payload room
-      → let counted = others address (settings .source) (map asChosen nodes) in
-      ((n : Repeater) → List·Memᴰ n counted → Open (n .node))
-      → ((n : Repeater) → List·Memᴰ n counted → length (fresh settings payload) + 2 * terms (length counted) (settings .«hop_limit») ≤ n .room)
-      → settings .destination ≡ Everyone → (length counted ≤ pathLimit) ⊎ (settings .«hop_limit» < 7)
-      → (receptions : List Reception) → List·Nodup receptions → Complete (seasonSends editionOf) nodes (fresh settings payload ∷ []) receptions
-      → (length (seasonAir editionOf nodes (fresh settings payload) receptions) ≡ bound (length counted) (settings .«hop_limit»))
-      × (total length (seasonAir editionOf nodes (fresh settings payload) receptions)
-      ≡ bytesBound (length counted) (settings .«hop_limit») (length (fresh settings payload)))
-  pub schedule : (editionOf : ℕ → ℕ) → ((a : ℕ) → known (editionOf a) ≡ true) → (nodes : List SeasonRepeater) → Nodes (map asChosen nodes)
-      → ((n : SeasonRepeater) → List·Memᴰ n nodes → eightFault (n .node .lists) ≡ 0)
-      → (settings : FreshSettings) (payload : List ℕ) (room : ℕ) → Originated settings payload room
-      → (receptions : List Reception) × List·Nodup receptions × Complete (seasonSends editionOf) nodes (fresh settings payload ∷ []) receptions
-  -- II. CASE BY CASE, what the definitions of a step and of a walk say
-  -- 17 comes before the lists
-  pub after-17 : (edition : ℕ) (node : SeasonNode) (received output : List ℕ) → known edition ≡ false
-      → (seasonAnswerUnder edition node (length output) received ≡ twice 17 0 Unknown) × (seasonOutputUnder edition node received output ≡ output)
-  pub steps-after-17 : (edition : ℕ) (node : SeasonNode) (room : ℕ) (batch : List ℕ) (cursor : Cursor) (output : List ℕ) → known edition ≡ false
-      → (seasonStepUnder edition node room batch cursor ≡ stepUnder edition (chosenNode node) room batch cursor)
-      × (seasonStepOutputUnder edition node batch cursor output ≡ output)
-      × (seasonWalkUnder edition node room batch ≡ walkUnder edition (chosenNode node) room batch)
-  -- a fault ends a walk at the same place
-  pub step-at-fault : (edition : ℕ) (settings : SeasonSettings) (lists : EightLists) (batch output : List ℕ) (place : ℕ) → known edition ≡ true
-      → (eightFault lists ≡ 0 → ⊥) → length batch ≤ batchLimit → place < length batch
-      → let node = seasonNodeOf settings lists in let cursor : Cursor = record { place = place; ended = false } in
-      (seasonStepUnder edition node (length output) batch cursor
-      ≡ Answered (twice (eightFault lists) 0 Unknown) (record { place = place; ended = true }))
-      × (seasonStepOutputUnder edition node batch cursor output ≡ output)
-  pub walk-at-fault : (edition : ℕ) (settings : SeasonSettings) (lists : EightLists) (room byte : ℕ) (bytes : List ℕ) → known edition ≡ true
-      → (eightFault lists ≡ 0 → ⊥) → length (byte ∷ bytes) ≤ batchLimit
-      → seasonWalkUnder edition (seasonNodeOf settings lists) room (byte ∷ bytes)
-      ≡ record { number = 0; offsets = 0 ∷ []; answers = twice (eightFault lists) 0 Unknown ∷ []; end = 0 }
-  -- 54 and the end of a walk come before it, in a step and in a whole walk
-  pub after-54 : (edition : ℕ) (node : SeasonNode) (room : ℕ) (batch : List ℕ) (cursor : Cursor) (output : List ℕ) → known edition ≡ true
-      → batchLimit < length batch
-      → (seasonStepUnder edition node room batch cursor ≡ TooLong) × (seasonStepOutputUnder edition node batch cursor output ≡ output)
-  pub after-the-end : (edition : ℕ) (node : SeasonNode) (room : ℕ) (batch : List ℕ) (cursor : Cursor) (output : List ℕ) → known edition ≡ true
-      → length batch ≤ batchLimit → (cursor .ended ≡ true) ⊎ (length batch ≤ cursor .place)
-      → (seasonStepUnder edition node room batch cursor ≡ Ended) × (seasonStepOutputUnder edition node batch cursor output ≡ output)
-  pub walk-after-54 : (edition : ℕ) (node : SeasonNode) (room : ℕ) (batch : List ℕ) → known edition ≡ true → batchLimit < length batch
-      → seasonWalkUnder edition node room batch ≡ endingAt 54 0
-  pub walk-of-nothing : (edition : ℕ) (node : SeasonNode) (room : ℕ) → known edition ≡ true → seasonWalkUnder edition node room [] ≡ endingAt 0 0
-  -- stepping over a batch gives exactly its walk
-  pub stepping-walks : (edition : ℕ) (node : SeasonNode) (room : ℕ) (batch : List ℕ)
-      → seasonStepsUnder edition node room batch (length batch) (record { place = 0; ended = false }) ≡ seasonWalkUnder edition node room batch
-  -- III. BESIDE OTHER REQUESTS, AND IN C
-  -- W-201: a PDU was read where the edition is known, none of the eight lists has a fault and reading refused nothing, and nowhere else; it is an echo
-  -- where echo dropped it, by its path or, W-203, by its source
-  pub read : (edition : ℕ) (node : SeasonNode) (room : ℕ) (received : List ℕ) → known edition ≡ true → eightFault (node .lists) ≡ 0
-      → readingNumber (readOf received) ≡ 0
-      → let answer = seasonAnswerUnder edition node room received in let settings = chosenNode node .settings in
-      (wasRead answer ≡ true)
-      × (heardOf answer received .echo ≡ (isEcho settings (headerOf received) received || isOwnReport settings (headerOf received)))
-  pub read-only : (edition : ℕ) (node : SeasonNode) (room : ℕ) (received : List ℕ) → wasRead (seasonAnswerUnder edition node room received) ≡ true
-      → (known edition ≡ true) × (eightFault (node .lists) ≡ 0) × (readingNumber (readOf received) ≡ 0)
-  -- with a fault of the lists, as with any number that takes nothing, nothing is counted
-  pub nothing-counted : (number : ℕ) (received memory : List ℕ)
-      → (answerNumber (twice number 0 Unknown) received memory ≡ 0) × (memoryAfterAnswer (twice number 0 Unknown) received memory ≡ memory)
-  -- W-206: the walk of such a node reads each batch taken from a queue to its end
-  pub walked : (edition : ℕ) → known edition ≡ true → (memory : List ℕ) (room : ℕ) (node : SeasonNode) (output : ℕ) → eightFault (node .lists) ≡ 0
-      → let pdus = front room (heldIn memory) in let found = seasonWalkUnder edition node output (flatten pdus) in
-      (found .number ≡ 0) × (found .offsets ≡ places 0 pdus) × (allReadable (found .answers) ≡ true) × (found .end ≡ length (flatten pdus))
-  -- W-208: a node with no list chosen and none at fault is one of its nodes
-  pub open-nodes : (node : SeasonNode) → eightFault (node .lists) ≡ 0 → node .settings .repeating ≡ true → node .settings .«source_pass» ≡ Neither
-      → node .settings .«source_reject» ≡ Neither → node .settings .«destination_pass» ≡ Neither → node .settings .«destination_reject» ≡ Neither
-      → Open (chosenNode node)
-  -- the message and the nodes are as W-208 asks: with path, no destination and a hop limit h of at most 6; different addresses and echo on; each of the
-  -- others with repeating on, no list chosen and room. Then, where none of the eight lists of any node has a fault, each that is reached from the originator
-  -- by a chain of at most h + 1 hearings is delivered the payload by its own answer, in a transmission whose path count is one less than its shortest chain
-  pub reach : (editionOf : ℕ → ℕ) → ((a : ℕ) → known (editionOf a) ≡ true) → (hears : ℕ → ℕ → Bool) (nodes : List SeasonRepeater)
-      → ((n : SeasonRepeater) → List·Memᴰ n nodes → eightFault (n .node .lists) ≡ 0)
-      → (settings : FreshSettings) (payload : List ℕ) (room : ℕ) → Planned (map asChosen nodes) settings payload room
-      → (receptions : List Reception) → TakenByAll hears (map asChosen nodes) (fresh settings payload) receptions
-      → (n : SeasonRepeater) → List·Memᴰ n nodes → own n ≢ settings .source
-      → (j : ℕ) → j ≤ settings .«hop_limit» + 1 → Chain hears (map own nodes) (settings .source) (own n) j
-      → (k : ℕ) × Shortest hears (map own nodes) (settings .source) (own n) k
-      × SeasonDelivered editionOf nodes (fresh settings payload) receptions n payload (k - 1)
-  -- and whatever is chosen, where no list has a fault, what such a node is delivered is delivered to 01's node with the lists chosen
-  pub reach-only : (editionOf : ℕ → ℕ) → ((a : ℕ) → known (editionOf a) ≡ true) → (nodes : List SeasonRepeater)
-      → ((n : SeasonRepeater) → List·Memᴰ n nodes → eightFault (n .node .lists) ≡ 0) → (first : List ℕ) (receptions : List Reception)
-      → (n : SeasonRepeater) (what : List ℕ) (count : ℕ) → SeasonDelivered editionOf nodes first receptions n what count
-      → Delivered (map asChosen nodes) first receptions (asChosen n) what count
-  -- and where 01's node with the lists chosen is delivered a payload, the answer of a call that hears as such a node does has delivery number 0 and names it
-  pub answered : (edition : ℕ) (n : SeasonRepeater) (received output left payload : List ℕ) (answer : Answer) → known edition ≡ true
-      → eightFault (n .node .lists) ≡ 0 → length output ≡ n .room → SeasonHears edition (n .node) received output answer left
-      → Delivers (asChosen n) received payload
-      → (answer .delivery ≡ 0) × (take (answer .«delivered_length») (drop (answer .«delivered_place») received) ≡ payload)
-  -- C's numbers of a choice: 1 the first, 2 the second, 0 and every other none
+  -- a fault is given whatever is chosen, as both numbers, with nothing taken and the output as it was; 20 to 22 are given for that alone
+  pub at-fault : (settings : Settings) (lists : Lists) (room : ℕ) (received output : List ℕ) → known (settings .edition) ≡ true → (listFault lists ≡ 0 → ⊥)
+      → (answerOf (nodeOf settings lists) room received ≡ twice (listFault lists) 0 Unknown) × (outputAfter (nodeOf settings lists) received output ≡ output)
+  pub at-fault-only : (node : Node) (room : ℕ) (received : List ℕ) (number : ℕ) → 20 ≤ number → number ≤ 22
+      → (answerOf node room received .delivery ≡ number) ⊎ (answerOf node room received .repeat ≡ number)
+      → (known (node .settings .edition) ≡ true) × (listFault (node .lists) ≡ number)
+  -- demands 2 and 3 read the list chosen, and of the others only whether they have a fault: two nodes without fault that agree in own address, echo,
+  -- repeating and the lists chosen have the same answer, output, step and walk, and send the same
+  pub chosen-alone : (a b : Node) → nodeFault a ≡ 0 → nodeFault b ≡ 0 → a .settings .own ≡ b .settings .own → a .settings .echo ≡ b .settings .echo
+      → a .settings .repeating ≡ b .settings .repeating → chosenLists a ≡ chosenLists b
+      → (room : ℕ) (received batch output : List ℕ) (cursor : Cursor)
+      → (answerOf a room received ≡ answerOf b room received) × (outputAfter a received output ≡ outputAfter b received output)
+      × (stepOf a room batch cursor ≡ stepOf b room batch cursor) × (stepOutput a batch cursor output ≡ stepOutput b batch cursor output)
+      × (walk a room batch ≡ walk b room batch)
+      × (sends (record { node = a; room = room }) received ≡ sends (record { node = b; room = room }) received)
+  -- changing over by one setting: all four choices become that one, and nothing else changes
+  pub changing-over : (node : MantNode) (choice : ℕ) → let before = nodeFromC node in let after = nodeFromC (changedOver node choice) in
+      (after .edition ≡ before .edition) × (after .own ≡ before .own) × (after .echo ≡ before .echo) × (after .repeating ≡ before .repeating)
+      × (after .«source_pass» ≡ choiceFromC choice) × (after .«source_reject» ≡ choiceFromC choice)
+      × (after .«destination_pass» ≡ choiceFromC choice) × (after .«destination_reject» ≡ choiceFromC choice)
+  -- the job of `relay`: its four sections are first lists and the second are empty; a list that is on is chosen, and else none is
+  pub job-lists : (bytes : List ℕ) (job : Job) → nodeIn bytes job .lists
+      ≡ eight (valuesIn bytes (job .«source_pass»)) [] (valuesIn bytes (job .«source_reject»)) [] (valuesIn bytes (job .«destination_pass»)) []
+      (valuesIn bytes (job .«destination_reject»)) []
+  pub job-choices : (bytes : List ℕ) (job : Job) → let settings = nodeIn bytes job .settings in
+      (settings .«source_pass» ≡ cond (eqb (job .flags / 4 % 2) 1) First Neither)
+      × (settings .«source_reject» ≡ cond (eqb (job .flags / 8 % 2) 1) First Neither)
+      × (settings .«destination_pass» ≡ cond (eqb (job .flags / 16 % 2) 1) First Neither)
+      × (settings .«destination_reject» ≡ cond (eqb (job .flags / 32 % 2) 1) First Neither)
+  -- II. CASE BY CASE, what the definitions say
+  -- what a choice chooses; a pass list stops what it does not hold, a reject list what it holds, none nothing; and of each kind the list chosen is asked
+  pub choices : (first second : List ℕ) → (chosen First (two first second) ≡ some first) × (chosen Second (two first second) ≡ some second)
+      × (chosen Neither (two first second) ≡ none)
+  pub stopping : (list : List ℕ) (address : ℕ) → (isOutside (some list) address ≡ not (holds list address)) × (isIn (some list) address ≡ holds list address)
+      × (isOutside none address ≡ false) × (isIn none address ≡ false)
+  pub stopping-by-destination : (list : Option (List ℕ)) (address : ℕ)
+      → (destinationIsOutside list (Address address) ≡ isOutside list address) × (destinationIsIn list (Address address) ≡ isIn list address)
+      × (destinationIsOutside list Everyone ≡ false) × (destinationIsIn list Everyone ≡ false)
+  pub tests : (node : Node) (header : Header) → passFault node header
+      ≡ (isOutside (chosen (node .settings .«source_pass») (node .lists .sourcePass)) (header .source) gives 31
+      orElse isIn (chosen (node .settings .«source_reject») (node .lists .sourceReject)) (header .source) gives 32
+      orElse destinationIsOutside (chosen (node .settings .«destination_pass») (node .lists .destinationPass)) (header .destination) gives 33
+      orElse destinationIsIn (chosen (node .settings .«destination_reject») (node .lists .destinationReject)) (header .destination) gives 34)
+  -- a fault of the lists ends a walk where it is; 54 and the end of a walk come before it
+  pub step-at-fault : (settings : Settings) (lists : Lists) (room : ℕ) (batch output : List ℕ) (place : ℕ) → known (settings .edition) ≡ true
+      → (listFault lists ≡ 0 → ⊥) → length batch ≤ batchLimit → place < length batch
+      → (stepOf (nodeOf settings lists) room batch (record { place = place; ended = false })
+      ≡ Answered (twice (listFault lists) 0 Unknown) (record { place = place; ended = true }))
+      × (stepOutput (nodeOf settings lists) batch (record { place = place; ended = false }) output ≡ output)
+  pub walk-at-fault : (settings : Settings) (lists : Lists) (room byte : ℕ) (bytes : List ℕ) → known (settings .edition) ≡ true
+      → (listFault lists ≡ 0 → ⊥) → length (byte ∷ bytes) ≤ batchLimit
+      → walk (nodeOf settings lists) room (byte ∷ bytes)
+      ≡ record { number = 0; offsets = 0 ∷ []; answers = twice (listFault lists) 0 Unknown ∷ []; end = 0 }
+  pub after-54 : (node : Node) (room : ℕ) (batch output : List ℕ) (cursor : Cursor) → known (node .settings .edition) ≡ true → batchLimit < length batch
+      → (stepOf node room batch cursor ≡ TooLong) × (stepOutput node batch cursor output ≡ output) × (walk node room batch ≡ endingAt 54 0)
+  pub after-the-end : (node : Node) (room : ℕ) (batch output : List ℕ) (cursor : Cursor) → length batch ≤ batchLimit
+      → (cursor .ended ≡ true) ⊎ (length batch ≤ cursor .place)
+      → (stepOf node room batch cursor ≡ Ended) × (stepOutput node batch cursor output ≡ output)
+  -- III. IN ONE BLOCK, AND IN C
+  -- every eight lists lie in some block; in 16-bit words, those of at most 65,535 values each
+  pub in-a-block : (lists : Lists) → listsIn (laid lists) ≡ lists
+  -- eight lists of any length, laid into a block: it has their fault, at the same list; without one it holds them; and a node answers with it as with them
+  pub laying : (lists : Lists) (before after : List ℕ) (told : ListFault) → Lays lists before after told
+      → (told ≡ faultTold lists) × (faultTold (listsIn after) ≡ faultTold lists) × (listFault lists ≡ 0 → listsIn after ≡ lists)
+  pub laid-answers : (settings : Settings) (lists : Lists) (before after : List ℕ) (told : ListFault) → Lays lists before after told
+      → (room : ℕ) (received output : List ℕ)
+      → (answerOf (nodeOf settings (listsIn after)) room received ≡ answerOf (nodeOf settings lists) room received)
+      × (outputAfter (nodeOf settings (listsIn after)) received output ≡ outputAfter (nodeOf settings lists) received output)
+  -- C's numbers of a choice: 1 the first, 2 the second, 0 and every other none; each kind by itself
   pub in-c : (choiceFromC 0 ≡ Neither) × (choiceFromC 1 ≡ First) × (choiceFromC 2 ≡ Second) × ((number : ℕ) → 2 < number → choiceFromC number ≡ Neither)
   pub in-c-each : (node : MantNode) → let settings = nodeFromC node in
       (settings .own ≡ node .own) × (settings .echo ≡ node .echo) × (settings .repeating ≡ node .repeating)
@@ -235,3 +142,19 @@ pub record TwoLists : Type 0 where
   -- chosen and empty is on and empty; the fault of a list that is not chosen is found
   pub empty-chosen : (byEmpty First ≡ 31) × (byEmpty Second ≡ 31) × (byEmpty Neither ≡ 39)
   pub not-chosen-found : (besideOdd First ≡ twice 21 0 Unknown) × (besideOdd Second ≡ twice 21 0 Unknown) × (besideOdd Neither ≡ twice 21 0 Unknown)
+  -- one node changed over to the first lists, to the second, and by a number that 8 bits would cut to 1
+  pub changed-over : (exampleNumberAt (nodeFromC (changedOver nodeInC 1)) firstsPass ≡ 39)
+      × (exampleNumberAt (nodeFromC (changedOver nodeInC 2)) firstsPass ≡ 31)
+      × (exampleNumberAt (nodeFromC (changedOver nodeInC 1)) secondsPass ≡ 31)
+      × (exampleNumberAt (nodeFromC (changedOver nodeInC 257)) secondsPass ≡ 39)
+  -- in each list 22 before 21, and that before 20: of 129 values, of three, of two, and of 128
+  pub in-each : (faultOf (replicate 129 7) ≡ 22) × (faultOf (9 ∷ 5 ∷ 7 ∷ []) ≡ 21) × (faultOf (9 ∷ 5 ∷ []) ≡ 20) × (faultOf (replicate 128 7) ≡ 0)
+  -- a block as its words stand: eight empty lists where there are none; a length that is not there is 0; a list ends where the block does; and each of the
+  -- eight in its place
+  pub blocks : (listsIn [] ≡ eight [] [] [] [] [] [] [] []) × (listsIn (2 ∷ 0 ∷ 0 ∷ 0 ∷ 0 ∷ 0 ∷ 2 ∷ []) ≡ eight [] [] [] [] [] [] [] [])
+      × (listsIn (4 ∷ 0 ∷ 0 ∷ 0 ∷ 0 ∷ 0 ∷ 0 ∷ 0 ∷ 1 ∷ 5 ∷ []) ≡ eight (1 ∷ 5 ∷ []) [] [] [] [] [] [] [])
+      × (listsIn (2 ∷ 1 ∷ 2 ∷ 1 ∷ 2 ∷ 1 ∷ 2 ∷ 1 ∷ 11 ∷ 12 ∷ 21 ∷ 31 ∷ 32 ∷ 41 ∷ 51 ∷ 52 ∷ 61 ∷ 71 ∷ 72 ∷ 81 ∷ [])
+      ≡ eight (11 ∷ 12 ∷ []) (21 ∷ []) (31 ∷ 32 ∷ []) (41 ∷ []) (51 ∷ 52 ∷ []) (61 ∷ []) (71 ∷ 72 ∷ []) (81 ∷ []))
+  -- a list of 65,536 values, laid into a block: 22 at its place, also behind a list of 128 values that has none
+  pub far-too-long : let lists = eight (replicate 128 7) (replicate 65536 7) [] [] [] [] [] [] in
+      faultTold (listsIn (over (laid (cutLists lists)) [])) ≡ record { number = 22; list = 1 }

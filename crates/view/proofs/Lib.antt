@@ -1,3 +1,4 @@
 pub mod Thin
-pub mod ThinNumber
+pub mod Above
+pub mod Told
 pub mod Opened

@@ -1,107 +1,96 @@
--- What a view made by `open` says is what reading says of the same bytes: callers cite these and never open the definitions of the view.
-use Prim.Native.Nat.{ℕ, _-_}
-use native.Mathlib.Omega.{arith}
-use mathlib.Core.Bool.{false}
+-- What a view made by `open` shows is what reading says of the same bytes.
+use Prim.Native.Nat.{ℕ}
+use mathlib.Core.Bool.{Bool, true, false, cond}
 use mathlib.Core.List.{List, []}
-use mathlib.Core.Path.{_≡_, refl, ap, _∙_}
-use denote.Ref.{RefT, now}
+use mathlib.Core.Path.{_≡_, refl, ap, sym, _∙_}
+use lib.Dec.{eqb}
+use lib.ListN.{getD}
+use Rattle.octets.specs.Octets.{at}
 use Rattle.pdu.specs.declared.Header.{Header}
-use Rattle.pdu.specs.declared.Sender.the-variants.{Unknown}
 use Rattle.pdu.specs.declared.Refusal.{Refusal}
 use Rattle.pdu.specs.declared.Refusal.the-variants.{TooShort, WrongVersion, UnknownProtocol, NoDestination, HeaderCut, PayloadCut}
 use Rattle.pdu.specs.declared.Reading.{Reading}
-use Rattle.pdu.specs.declared.Reading.the-variants.{Pdu, Refused}
-use Rattle.view.specs.declared.Pdu.{Pdu as View}
-use Rattle.octets.specs.Octets.{IsPart}
-use Rattle.pdu.specs.Header.{headerOf}
-use Rattle.pdu.specs.Sizes.{headerLength, pduLength}
-use Rattle.pdu.specs.Reading.{readOf, readingNumber, refusalNumber}
-use Rattle.pdu.specs.Parts.{addressesAt, pathIn, inPath, lastSender}
-use Rattle.view.specs.View.{placesOf, shownIn, headerIn, lastSenderIn}
+use Rattle.pdu.specs.declared.Reading.the-variants as wire-reading
+use Rattle.pdu.specs.Header.{isSet, pathBit, destinationIn, pduIdIn, headerWith, headerOf}
+use Rattle.pdu.specs.Sizes.{pathStart, headerLength, pduLength}
+use Rattle.pdu.specs.Reading.{readOf, refusalNumber, noExtent, extentOf}
+use Rattle.pdu.specs.Parts.{addressesAt, pathIn, pathAddress, inPath, lastSender}
 use Rattle.pdu.proofs.Inversion.{shown}
+use Rattle.editions.specs.declared.EditionReading.{EditionReading}
+use Rattle.editions.specs.declared.EditionReading.the-variants.{Pdu}
+use Rattle.editions.specs.Editions.{known, bitsUnder, shownWith, showing, readUnder}
+use Rattle.editions.proofs.Showing.{unknown-refused, known-shows, wire-back}
+use Rattle.view.specs.declared.Summary.{Summary}
+use Rattle.view.specs.View.{summaryOf, pathAddressIn, pathHas, headerIn, summaryAt}
 
--- what `open` ensures of its view
-pub record Opened (view : View) (bytes : RefT (List ℕ)) : Type 0 where
-  pub keeps : view .bytes ≡ bytes
-  pub finds : view .at ≡ placesOf (readOf (now bytes))
+refused-not-0 : (refusal : Refusal) → eqb (refusalNumber refusal) 0 ≡ false
+refused-not-0 TooShort = refl
+refused-not-0 WrongVersion = refl
+refused-not-0 UnknownProtocol = refl
+refused-not-0 NoDestination = refl
+refused-not-0 HeaderCut = refl
+refused-not-0 PayloadCut = refl
 
--- what `payload` ensures of the part that it shows
-abbrev pub Shows : View → RefT (List ℕ) → Type 0
-Shows view part = IsPart (view .bytes) (view .at .payload) (view .at .end - view .at .payload) part
+module _ (bytes : List ℕ) where
+  -- of bytes that begin with a PDU the view's header is the PDU's
+  same-header : (header : Header) → readOf bytes ≡ wire-reading.Pdu header → headerIn bytes (extentOf (wire-reading.Pdu header)) ≡ headerOf bytes
+  unfolding headerOf
+  same-header header is = ap (λ (h : Header). headerWith bytes (destinationIn bytes) (pduIdIn bytes) (h .«path_count»)) (shown bytes header is .is)
 
--- a view that says what a header says of bytes: `fields` is every field at once, and the payload is the stretch that `pdu::parts::payload` shows
-pub record Says (view : View) (header : Header) (bytes : RefT (List ℕ)) : Type 0 where
-  pub number : view .at .number ≡ 0
-  pub fields : headerIn (now (view .bytes)) (view .at) ≡ header
-  pub size : view .at .end ≡ pduLength header
-  pub payload : (part : RefT (List ℕ)) → Shows view part → IsPart bytes (headerLength header) (header .«payload_length») part
-  pub path : pathIn (headerIn (now (view .bytes)) (view .at)) (now (view .bytes)) ≡ pathIn header (now bytes)
-  pub path-has : (address : ℕ)
-      → inPath address (pathIn (headerIn (now (view .bytes)) (view .at)) (now (view .bytes))) ≡ inPath address (pathIn header (now bytes))
-  pub sender : lastSenderIn (now (view .bytes)) (view .at) ≡ lastSender header (now bytes)
+  abbrev said : ℕ → Header → Header → Summary
+  said edition header long =
+      record {
+        number = 0;
+        header = shownWith (bitsUnder edition (at bytes 1)) header;
+        «last_sender» = lastSender header bytes;
+        «header_length» = headerLength long;
+        «pdu_length» = pduLength long;
+      }
 
--- a view of bytes that are no PDU: the refusal's number, and nothing else
-pub record Nothing (view : View) (refusal : Refusal) : Type 0 where
-  pub number : view .at .number ≡ refusalNumber refusal
-  pub fields : headerIn (now (view .bytes)) (view .at) ≡ headerOf []
-  pub size : view .at .end ≡ 0
-  pub payload : (part : RefT (List ℕ)) → Shows view part → now part ≡ []
-  pub path-has : (address : ℕ) → inPath address (pathIn (headerIn (now (view .bytes)) (view .at)) (now (view .bytes))) ≡ false
-  pub sender : lastSenderIn (now (view .bytes)) (view .at) ≡ Unknown
+  wire-said : (edition : ℕ) → said edition (headerOf bytes) (headerOf bytes)
+      ≡ summaryOf (Pdu (shownWith (bitsUnder edition (at bytes 1)) (headerOf bytes))) bytes
+  wire-said edition = rw (wire-back edition bytes)
 
-found-number : (reading : Reading) → placesOf reading .number ≡ readingNumber reading
-found-number (Pdu header) = refl
-found-number (Refused refusal) = refl
+  -- by the edition, then by what the wire says
+  pub opened-summary : (edition : ℕ) → summaryAt bytes (extentOf (readOf bytes)) edition ≡ summaryOf (readUnder edition bytes) bytes
+  opened-summary edition = by (known edition) refl
+    where
+      of : known edition ≡ true → (reading : Reading) → readOf bytes ≡ reading
+          → summaryAt bytes (extentOf reading) edition ≡ summaryOf (showing edition bytes reading) bytes
+      of named (wire-reading.Pdu header) is =
+          let read = shown bytes header is .is in
+          rw named
+          (ap (λ (h : Header). said edition h header) (same-header header is) ∙ ap (said edition (headerOf bytes)) read ∙ wire-said edition
+          ∙ sym (ap (λ (h : Header). summaryOf (Pdu (shownWith (bitsUnder edition (at bytes 1)) h)) bytes) read))
+      of named (wire-reading.Refused refusal) is = rw (named, refused-not-0 refusal)
 
-pub opened-number : (view : View) (bytes : RefT (List ℕ)) → Opened view bytes → view .at .number ≡ readingNumber (readOf (now bytes))
-opened-number view bytes o = rw (o .finds) (found-number (readOf (now bytes)))
+      by : (named : Bool) → known edition ≡ named → summaryAt bytes (extentOf (readOf bytes)) edition ≡ summaryOf (readUnder edition bytes) bytes
+      by true named =
+          of named (readOf bytes) refl ∙ sym (ap (λ (reading : EditionReading). summaryOf reading bytes) (known-shows edition bytes named))
+      by false unnamed = rw unnamed (sym (ap (λ (reading : EditionReading). summaryOf reading bytes) (unknown-refused edition bytes unnamed)))
 
-pub opened-says : (view : View) (bytes : RefT (List ℕ)) (header : Header) → Opened view bytes → readOf (now bytes) ≡ Pdu header
-    → Says view header bytes
-opened-says view bytes header o e =
-    let at = o .finds ∙ ap placesOf e in
-    let size : pduLength header - headerLength header ≡ header .«payload_length» = omega arith in
-    let is : headerOf (now bytes) ≡ header = rw (shown (now bytes) header e .is) in
-    record {
-      number = rw at;
-      fields = rw (o .keeps, at) is;
-      size = rw at;
-      payload = λ part p. rw (o .keeps, at, size) at p;
-      path = rw (o .keeps, at) (ap (λ (h : Header). pathIn h (now bytes)) is);
-      path-has = λ address. rw (o .keeps, at) (ap (λ (h : Header). inPath address (pathIn h (now bytes))) is);
-      sender = rw (o .keeps, at) (ap (λ (h : Header). lastSender h (now bytes)) is);
-    }
+  no-path : (number : ℕ) → pathIn (headerIn bytes (noExtent number)) bytes ≡ []
+  unfolding addressesAt
+  no-path number = go (isSet (pathBit (at bytes 0)))
+    where
+      go : (bit : Bool) → addressesAt bytes (pathStart (headerIn bytes (noExtent number))) (cond bit 0 0) ≡ []
+      go true = refl
+      go false = refl
 
-nothing-shown : (bytes : List ℕ) (refusal : Refusal) → shownIn bytes (placesOf (Refused refusal)) ≡ []
-nothing-shown bytes TooShort = refl
-nothing-shown bytes WrongVersion = refl
-nothing-shown bytes UnknownProtocol = refl
-nothing-shown bytes NoDestination = refl
-nothing-shown bytes HeaderCut = refl
-nothing-shown bytes PayloadCut = refl
+  pub opened-address : (i : ℕ) → pathAddress (headerIn bytes (extentOf (readOf bytes))) bytes i ≡ pathAddressIn (readOf bytes) bytes i
+  opened-address i = of (readOf bytes) refl
+    where
+      of : (reading : Reading) → readOf bytes ≡ reading → pathAddress (headerIn bytes (extentOf reading)) bytes i ≡ pathAddressIn reading bytes i
+      of (wire-reading.Pdu header) is = ap (λ (h : Header). pathAddress h bytes i) (same-header header is ∙ sym (shown bytes header is .is))
+      of (wire-reading.Refused refusal) is = ap (λ (path : List ℕ). getD path i 0) (no-path (refusalNumber refusal))
 
-no-path : (bytes : List ℕ) → pathIn (headerOf []) bytes ≡ []
-unfolding headerOf addressesAt
-no-path bytes = refl
+  none-in : (address : ℕ) → inPath address [] ≡ false
+  unfolding inPath
+  none-in address = refl
 
-no-sender : (bytes : List ℕ) → lastSender (headerOf []) bytes ≡ Unknown
-unfolding headerOf
-no-sender bytes = refl
-
-not-in-none : (address : ℕ) → inPath address [] ≡ false
-unfolding inPath
-not-in-none address = refl
-
-pub opened-nothing : (view : View) (bytes : RefT (List ℕ)) (refusal : Refusal) → Opened view bytes → readOf (now bytes) ≡ Refused refusal
-    → Nothing view refusal
-opened-nothing view bytes refusal o e =
-    let at = o .finds ∙ ap placesOf e in
-    let fields : headerIn (now (view .bytes)) (view .at) ≡ headerOf [] = rw at (ap headerOf (nothing-shown (now (view .bytes)) refusal)) in
-    record {
-      number = rw at;
-      fields = fields;
-      size = rw at;
-      payload = λ part p. rw at at p .bytes;
-      path-has = λ address. rw (fields, no-path (now (view .bytes))) (not-in-none address);
-      sender = rw fields (no-sender (now (view .bytes)));
-    }
+  pub opened-has : (address : ℕ) → inPath address (pathIn (headerIn bytes (extentOf (readOf bytes))) bytes) ≡ pathHas (readOf bytes) bytes address
+  opened-has address = of (readOf bytes) refl
+    where
+      of : (reading : Reading) → readOf bytes ≡ reading → inPath address (pathIn (headerIn bytes (extentOf reading)) bytes) ≡ pathHas reading bytes address
+      of (wire-reading.Pdu header) is = ap (λ (h : Header). inPath address (pathIn h bytes)) (same-header header is ∙ sym (shown bytes header is .is))
+      of (wire-reading.Refused refusal) is = ap (inPath address) (no-path (refusalNumber refusal)) ∙ none-in address

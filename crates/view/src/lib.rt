@@ -1,177 +1,46 @@
-// A received PDU held as one thing: the caller's bytes, and the places in them that reading found.
-// A function over the view only takes it apart. The work is done in `fields`, by a function on slice and places.
+// A received PDU held as one thing: the caller's bytes, and how far the PDU reaches in them.
+// A function over the view only takes it apart. The work is done in `fields`, by a function on slice and numbers.
 mod fields;
 
-use pdu::Destination;
-use pdu::Header;
-use pdu::Reading;
+use editions::Shown;
+use pdu::Extent;
 use pdu::Sender;
 ghost use mathlib.Core.Path.{_≡_};
-ghost use Prim.Native.Nat.{_-_};
-ghost use Rattle.octets.specs.Octets.{IsPart};
-ghost use Rattle.pdu.specs.Reading.{readOf};
+ghost use Rattle.pdu.specs.Reading.{readOf, extentOf};
 ghost use Rattle.pdu.specs.Parts.{pathIn, pathAddress, inPath};
-ghost use Rattle.view.specs.View.{placesOf, headerIn, lastSenderIn, summaryAt};
+ghost use Rattle.editions.specs.Editions.{readUnder};
+ghost use Rattle.view.specs.View.{summaryOf, pathAddressIn, pathHas, headerIn, summaryAt};
 
-// What reading found: its number, the offset of the payload's first byte, and the offset of the byte after the PDU.
-// After a refusal both offsets are 0.
-pub struct Places {
-    pub number: u8,
-    pub payload: usize,
-    pub end: usize,
-}
-
-// A received PDU. What is said below of a PDU and of a refusal holds of a view that `open` made. One put together by hand, of any bytes and places,
-// is answered for as well, by these alone: its number, size and payload by its places, its fields by its bytes where its number is 0.
+// A received PDU, or bytes that are none: then `at` has the number of the refusal. Any bytes and extent make a view that is defined.
 pub struct Pdu<'a> {
     pub bytes: &'a [u8],
-    pub at: Places,
+    pub at: Extent,
 }
 
-// What a view says, by value: the number of reading, the PDU's length, its header, and who it was heard from.
+// What an edition shows of a PDU: 0, its header, who it was heard from, and the lengths of header and PDU.
+// Of a refusal its number, a header with no field set, an unknown sender and lengths 0.
 pub struct Summary {
     pub number: u8,
-    pub size: usize,
-    pub header: Header,
+    pub header: Shown,
     pub last_sender: Sender,
+    pub header_length: usize,
+    pub pdu_length: usize,
 }
 
-// The view of the PDU at the start of `bytes`. Any bytes have one: `number` tells a refusal, after which no field is set.
-// Document 01, "Numbers answered", the PDU held as one thing.
+// The view of the PDU at the start of `bytes`. Any bytes have one. Document 01, "Numbers answered", the PDU held as one thing.
 pub fn open<'a>(bytes: &'a [u8]) -> Pdu<'a>
-    ensures { λ r. ⌜ (r .bytes ≡ bytes .entry) × (r .at ≡ placesOf (readOf (now (bytes .entry)))) ⌝ }
+    ensures { λ r. ⌜ (r .bytes ≡ bytes .entry) × (r .at ≡ extentOf (readOf (now (bytes .entry)))) ⌝ }
 {
-    let at = find_places(bytes);
+    let at = pdu::extent_of(bytes);
     Pdu { bytes, at }
 }
 
-// What the view of `bytes` says, for a caller that holds no view. After a refusal its number, length 0, a header with no field set
-// and an unknown last sender.
-// Document 01, "Numbers answered", the PDU held as one thing.
-pub fn summary_of(bytes: &[u8]) -> Summary
-    ensures { λ r. ⌜ r ≡ summaryAt (now (bytes .entry)) (placesOf (readOf (now (bytes .entry)))) ⌝ }
+// What an edition shows of a view: 17 for an edition other than 11 and 12, then the view's number, then its fields.
+// Document 01, "Header, byte by byte"; document 02, W-205 and W-209.
+pub fn summarize<'a>(pdu: Pdu<'a>, edition: u64) -> Summary
+    ensures { λ r. ⌜ r ≡ summaryAt (now (pdu .entry .bytes)) (pdu .entry .at) edition ⌝ }
 {
-    summarize(open(bytes))
-}
-
-// The view's fields as one value. Any view has them, one put together by hand too. Document 01, "Numbers answered", the PDU held as one thing.
-pub fn summarize<'a>(pdu: Pdu<'a>) -> Summary
-    ensures { λ r. ⌜ r ≡ summaryAt (now (pdu .entry .bytes)) (pdu .entry .at) ⌝ }
-{
-    fields::summary_at(pdu.bytes, pdu.at)
-}
-
-// The number of reading: 0, or that of the refusal, 1 to 6. Document 01, "Numbers answered", 1 to 6.
-pub fn number<'a>(pdu: Pdu<'a>) -> u8
-    ensures { λ r. ⌜ r ≡ pdu .entry .at .number ⌝ }
-{
-    fields::number_at(pdu.bytes, pdu.at)
-}
-
-// The PDU's length in bytes, header and payload. 0 after a refusal. Document 01, "Sizes".
-pub fn size<'a>(pdu: Pdu<'a>) -> usize
-    ensures { λ r. ⌜ r ≡ pdu .entry .at .end ⌝ }
-{
-    fields::size_at(pdu.bytes, pdu.at)
-}
-
-// The protocol: 0 best efforts, 1 reliable. 0 after a refusal. Document 01, "Header, byte by byte": byte 0, bits 5-3.
-pub fn protocol<'a>(pdu: Pdu<'a>) -> u8
-    ensures { λ r. ⌜ r ≡ headerIn (now (pdu .entry .bytes)) (pdu .entry .at) .protocol ⌝ }
-{
-    fields::protocol_at(pdu.bytes, pdu.at)
-}
-
-// Whether a time stamp is asked for. Not after a refusal. Document 01, "Header, byte by byte": byte 0, bit 2.
-pub fn time_stamp_request<'a>(pdu: Pdu<'a>) -> bool
-    ensures { λ r. ⌜ r ≡ headerIn (now (pdu .entry .bytes)) (pdu .entry .at) .«time_stamp_request» ⌝ }
-{
-    fields::time_stamp_request_at(pdu.bytes, pdu.at)
-}
-
-// Whether the PDU has a path, which may be empty. Not after a refusal. Document 01, "Header, byte by byte": byte 0, bit 1.
-pub fn path_bit<'a>(pdu: Pdu<'a>) -> bool
-    ensures { λ r. ⌜ r ≡ headerIn (now (pdu .entry .bytes)) (pdu .entry .at) .«path_bit» ⌝ }
-{
-    fields::path_bit_at(pdu.bytes, pdu.at)
-}
-
-// The port, 0 to 15. 0 after a refusal. Document 01, "Header, byte by byte": byte 1, bits 7-4.
-pub fn port<'a>(pdu: Pdu<'a>) -> u8
-    ensures { λ r. ⌜ r ≡ headerIn (now (pdu .entry .bytes)) (pdu .entry .at) .port ⌝ }
-{
-    fields::port_at(pdu.bytes, pdu.at)
-}
-
-// Whether the payload is encrypted. Not after a refusal. Document 01, "Header, byte by byte": byte 1, bit 3.
-pub fn encrypted<'a>(pdu: Pdu<'a>) -> bool
-    ensures { λ r. ⌜ r ≡ headerIn (now (pdu .entry .bytes)) (pdu .entry .at) .encrypted ⌝ }
-{
-    fields::encrypted_at(pdu.bytes, pdu.at)
-}
-
-// The two reserved bits, which may hold anything. 0 after a refusal. Document 01, "Header, byte by byte": byte 1, bits 2-1.
-pub fn reserved<'a>(pdu: Pdu<'a>) -> u8
-    ensures { λ r. ⌜ r ≡ headerIn (now (pdu .entry .bytes)) (pdu .entry .at) .reserved ⌝ }
-{
-    fields::reserved_at(pdu.bytes, pdu.at)
-}
-
-// Whether the ACK bit is set. Not after a refusal. Document 01, "Header, byte by byte": byte 1, bit 0.
-pub fn ack<'a>(pdu: Pdu<'a>) -> bool
-    ensures { λ r. ⌜ r ≡ headerIn (now (pdu .entry .bytes)) (pdu .entry .at) .ack ⌝ }
-{
-    fields::ack_at(pdu.bytes, pdu.at)
-}
-
-// Whether the payload begins with an added header. Not after a refusal. Document 01, "Header, byte by byte": byte 2, bit 7.
-pub fn added_header<'a>(pdu: Pdu<'a>) -> bool
-    ensures { λ r. ⌜ r ≡ headerIn (now (pdu .entry .bytes)) (pdu .entry .at) .«added_header» ⌝ }
-{
-    fields::added_header_at(pdu.bytes, pdu.at)
-}
-
-// The hop limit, 0 to 7. 0 after a refusal. Document 01, "Header, byte by byte": byte 2, bits 6-4.
-pub fn hop_limit<'a>(pdu: Pdu<'a>) -> u8
-    ensures { λ r. ⌜ r ≡ headerIn (now (pdu .entry .bytes)) (pdu .entry .at) .«hop_limit» ⌝ }
-{
-    fields::hop_limit_at(pdu.bytes, pdu.at)
-}
-
-// The payload length that the header states. 0 after a refusal. Document 01, "Header, byte by byte": bytes 2 and 3.
-pub fn payload_length<'a>(pdu: Pdu<'a>) -> u16
-    ensures { λ r. ⌜ r ≡ headerIn (now (pdu .entry .bytes)) (pdu .entry .at) .«payload_length» ⌝ }
-{
-    fields::payload_length_at(pdu.bytes, pdu.at)
-}
-
-// The source address. 0 after a refusal. Document 01, "Header, byte by byte": bytes 4 and 5.
-pub fn source<'a>(pdu: Pdu<'a>) -> u16
-    ensures { λ r. ⌜ r ≡ headerIn (now (pdu .entry .bytes)) (pdu .entry .at) .source ⌝ }
-{
-    fields::source_at(pdu.bytes, pdu.at)
-}
-
-// Who the PDU is for: the destination address, or everyone where it has none. Everyone after a refusal.
-// Document 01, "Header, byte by byte", the first field called for.
-pub fn destination<'a>(pdu: Pdu<'a>) -> Destination
-    ensures { λ r. ⌜ r ≡ headerIn (now (pdu .entry .bytes)) (pdu .entry .at) .destination ⌝ }
-{
-    fields::destination_at(pdu.bytes, pdu.at)
-}
-
-// The PDU ID; 0 where the PDU has none, and after a refusal. Document 01, "Header, byte by byte", the second field called for.
-pub fn pdu_id<'a>(pdu: Pdu<'a>) -> u8
-    ensures { λ r. ⌜ r ≡ headerIn (now (pdu .entry .bytes)) (pdu .entry .at) .«pdu_id» ⌝ }
-{
-    fields::pdu_id_at(pdu.bytes, pdu.at)
-}
-
-// How many addresses the path has; 0 without the path bit, and after a refusal. Document 01, "Header, byte by byte", the third field called for.
-pub fn path_count<'a>(pdu: Pdu<'a>) -> u8
-    ensures { λ r. ⌜ r ≡ headerIn (now (pdu .entry .bytes)) (pdu .entry .at) .«path_count» ⌝ }
-{
-    fields::path_count_at(pdu.bytes, pdu.at)
+    fields::summary_at(pdu.bytes, pdu.at, edition)
 }
 
 // The path's address at place `i`, the first at 0; 0 past the last one, and after a refusal.
@@ -189,38 +58,26 @@ pub fn path_has<'a>(pdu: Pdu<'a>, address: u16) -> bool
     fields::path_has_at(pdu.bytes, pdu.at, address)
 }
 
-// The last sender: the last path address, or the source where the path is empty. Unknown without the path bit, and after a refusal.
-// Document 02, W-205.
-pub fn last_sender<'a>(pdu: Pdu<'a>) -> Sender
-    ensures { λ r. ⌜ r ≡ lastSenderIn (now (pdu .entry .bytes)) (pdu .entry .at) ⌝ }
+// What an edition shows of the PDU at the start of `bytes`: 17 for an edition other than 11 and 12, or 1 to 6 where there is no PDU, or its fields.
+// Bytes after the PDU are not looked at. Document 01, "Header, byte by byte", and "Numbers answered", 1 to 6; document 02, W-205 and W-209.
+pub fn summary_of(bytes: &[u8], edition: u64) -> Summary
+    ensures { λ r. ⌜ r ≡ summaryOf (readUnder edition (now (bytes .entry))) (now (bytes .entry)) ⌝ }
 {
-    fields::last_sender_at(pdu.bytes, pdu.at)
+    summarize(open(bytes), edition)
 }
 
-// The payload, as that part of the caller's bytes. Empty where the PDU has none, and after a refusal.
-// Document 01, "One PDU at one node", 5, what is shown.
-pub fn payload<'a>(pdu: Pdu<'a>) -> &'a [u8]
-    ensures { λ r. ⌜ IsPart (pdu .entry .bytes) (pdu .entry .at .payload) (pdu .entry .at .end - pdu .entry .at .payload) r ⌝ }
+// The address at place `i` of the path of the PDU at the start of `bytes`, the first at 0. 0 past the last one, and where there is no PDU.
+// Document 01, "Header, byte by byte", the path after its count.
+pub fn path_address_of(bytes: &[u8], i: usize) -> u16
+    ensures { λ r. ⌜ r ≡ pathAddressIn (readOf (now (bytes .entry))) (now (bytes .entry)) i ⌝ }
 {
-    fields::payload_at(pdu.bytes, pdu.at)
+    path_address(open(bytes), i)
 }
 
-// Where the parts of the PDU at the start of `bytes` are. Any bytes get an answer; a refusal's has its number and offsets 0.
-// Document 01, "Header, byte by byte", and "Numbers answered", 1 to 6.
-pub fn find_places(bytes: &[u8]) -> Places
-    ensures { λ r. ⌜ r ≡ placesOf (readOf (now (bytes .entry))) ⌝ }
+// Whether an address is anywhere in the path of the PDU at the start of `bytes`. Without a path none is, nor where there is no PDU.
+// Document 01, "One PDU at one node", 3.
+pub fn path_has_of(bytes: &[u8], address: u16) -> bool
+    ensures { λ r. ⌜ r ≡ pathHas (readOf (now (bytes .entry))) (now (bytes .entry)) address ⌝ }
 {
-    let reading = pdu::read(bytes);
-    match reading {
-        Reading::Pdu(header) => Places {
-            number: 0,
-            payload: header.header_length(),
-            end: header.pdu_length(),
-        },
-        Reading::Refused(refusal) => Places {
-            number: pdu::refusal_number(refusal),
-            payload: 0,
-            end: 0,
-        },
-    }
+    path_has(open(bytes), address)
 }

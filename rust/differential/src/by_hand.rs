@@ -4,7 +4,7 @@
 use crate::same::{node, Input};
 use crate::table::{answer_for, in_reference, is_read, Table, NOT_HELD};
 use crate::Compared;
-use generator::{any_table, good_eight_lists, settings, source_near, Deed, Hearing, Random};
+use generator::{any_table, good_block, settings, source_near, Deed, Hearing, Random};
 use mant::raw::{self, Found, Station};
 use reference::{counts_as_echo, Stations};
 
@@ -12,7 +12,7 @@ use reference::{counts_as_echo, Stations};
 pub fn compare(random: &mut Random) -> Compared {
     let words = any_table(random);
     let mut table = Table::of(random, &words);
-    let at = (settings(random), good_eight_lists(random));
+    let at = (settings(random), good_block(random));
     for _ in 0..random.between(1, 8) {
         let source = source_near(random, table.words());
         let deed = generator::deed(random, &at, source);
@@ -98,10 +98,9 @@ fn heard(
     (at, hearing): (raw::Node, &Hearing),
 ) -> Result<raw::Listened, String> {
     let (mut output, mut plain) = (vec![0; hearing.room], vec![0; hearing.room]);
-    let (edition, bytes) = (hearing.edition, &hearing.received);
-    let eight = hearing.lists.lists().in_order();
-    let listened = raw::hear_and_count(edition, at, eight, bytes, &mut output, table.change());
-    let answer = raw::hear(edition, at, eight, bytes, &mut plain);
+    let (lists, bytes) = (&hearing.lists.0, &hearing.received);
+    let listened = raw::hear_and_count(at, lists, bytes, &mut output, table.change());
+    let answer = raw::hear(at, lists, bytes, &mut plain);
     input.same("answer with a table", listened.answer, answer)?;
     input.same_bytes("output with a table", &output, &plain)?;
     Ok(listened)

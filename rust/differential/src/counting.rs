@@ -97,17 +97,15 @@ impl Tables {
         let (mut library, mut plain) = (output.clone(), output.clone());
         let mut reference = output.clone();
         let mut apart = self.library.clone();
-        let (edition, bytes) = (hearing.edition, &hearing.received);
-        let eight = hearing.lists.lists();
-        let in_order = eight.in_order();
+        let (block, bytes) = (&hearing.lists, &hearing.received);
         let table = self.library.change();
-        let listened = raw::hear_and_count(edition, at, in_order, bytes, library.room(), table);
-        let answered = raw::hear(edition, at, in_order, bytes, plain.room());
+        let listened = raw::hear_and_count(at, &block.0, bytes, library.room(), table);
+        let answered = raw::hear(at, &block.0, bytes, plain.room());
         input.same("answer with a table", listened.answer, answered)?;
         input.same_bytes("output with a table", library.all(), plain.all())?;
         let (settings, stations) = (&hearing.settings, &mut self.reference);
         let (wanted, number) =
-            hear_and_count(edition, settings, &eight, bytes, reference.room(), stations);
+            hear_and_count(settings, &block.lists(), bytes, reference.room(), stations);
         input.same("answer", answered, answer(&wanted))?;
         input.same_bytes("output", library.all(), reference.all())?;
         input.same("table's number", listened.table_number, number)?;
@@ -125,16 +123,15 @@ impl Tables {
         hearing: &Hearing,
         (output, listened): (&Output, &raw::Listened),
     ) -> Compared {
-        let Some(stations) = &mut self.wrapper else {
+        let (Some(stations), Ok(laid)) = (&mut self.wrapper, lists(&hearing.lists.lists())) else {
             return Ok(());
         };
         let (mut output, mut other) = (output.clone(), output.clone());
         let mut apart = stations.clone();
-        let (edition, bytes) = (hearing.edition, &hearing.received);
-        let (at, eight) = (wrapped_node(&hearing.settings), hearing.lists.lists());
-        let heard = stations.hear(edition, &at, &lists(&eight), bytes, output.room());
+        let (settings, bytes) = (&hearing.settings, &hearing.received);
+        let heard = stations.hear(&wrapped_node(settings), &laid, bytes, output.room());
         let wanted = wrapped(&listened.answer);
-        hear(edition, &hearing.settings, &eight, bytes, other.room());
+        hear(settings, &hearing.lists.lists(), bytes, other.room());
         input.same("wrapped answer", &heard.answer, &wanted)?;
         input.same("wrapped number", number(heard.table), listened.table_number)?;
         input.same_bytes("wrapped output", output.all(), other.all())?;

@@ -7,18 +7,15 @@
 use crate::same::{hex, lists, wrapped, wrapped_node};
 use crate::Compared;
 use differential::{answer, fresh};
-use generator::{
-    address, good_edition, good_eight_lists, origination, settings, EightLists, Random,
-};
+use generator::{address, good_block, good_edition, origination, settings, Block, Random};
 use mant::{most_bytes, most_transmissions};
 use reference::{hear, Origination, Settings, EDITION_1_2, MOST_PDU};
 use std::collections::{HashSet, VecDeque};
 
 /// A node of the network.
 struct Node {
-    edition: u64,
     settings: Settings,
-    lists: EightLists,
+    lists: Block,
 }
 
 /// How the next reception is chosen from those that wait.
@@ -144,13 +141,13 @@ fn node(random: &mut Random, own_address: u16, open: bool) -> Node {
         false => settings(random),
     };
     Node {
-        edition: good_edition(random),
         settings: Settings {
+            edition: good_edition(random),
             own_address,
             echo: true,
             ..chosen
         },
-        lists: good_eight_lists(random),
+        lists: good_block(random),
     }
 }
 
@@ -225,15 +222,14 @@ impl Flood {
     /// What a node sends on after hearing a transmission, if it does.
     fn heard(&self, node: usize, transmission: usize) -> Result<Option<Vec<u8>>, String> {
         let Node {
-            edition,
             settings,
             lists: eight,
         } = &self.nodes[node];
         let (eight, received) = (eight.lists(), &self.sent[transmission]);
         let (mut out, mut other) = ([0; 64], [0; 64]);
-        let at = wrapped_node(settings);
-        let heard = mant::hear(*edition, &at, &lists(&eight), received, &mut out);
-        let wanted = answer(&hear(*edition, settings, &eight, received, &mut other));
+        let laid = lists(&eight).map_err(|fault| fault.to_string())?;
+        let heard = mant::hear(&wrapped_node(settings), &laid, received, &mut out);
+        let wanted = answer(&hear(settings, &eight, received, &mut other));
         if heard != wrapped(&wanted) || out != other {
             return Err(format!(
                 "library {heard:?} {}, reference {wanted:?} {}; input {}, {settings:?}, {eight:?}",

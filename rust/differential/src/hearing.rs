@@ -4,19 +4,22 @@ use crate::output::Output;
 use crate::same::{lists, node, wrapped, wrapped_node, Input};
 use crate::Compared;
 use differential::answer;
-use generator::{edition, eight_lists, good_eight_lists, received, room, settings_for, Random};
+use generator::{block, edition, good_block, received, room, settings_for, Random};
 use mant::raw;
-use reference::{hear, read};
+use reference::{hear, read, Settings};
 
-/// Compares on any editions, settings, lists, received bytes and rooms.
+/// Compares on any settings, blocks of lists, received bytes and rooms.
 pub fn compare(random: &mut Random) -> Compared {
-    let eight = match random.one_in(4) {
-        true => eight_lists(random),
-        false => good_eight_lists(random),
+    let block = match random.one_in(4) {
+        true => block(random),
+        false => good_block(random),
     };
-    let (edition, bytes) = (edition(random), received(random));
+    let bytes = received(random);
     let shown = read(&bytes).ok();
-    let settings = settings_for(random, &bytes);
+    let settings = Settings {
+        edition: edition(random),
+        ..settings_for(random, &bytes)
+    };
     let length = shown.as_ref().map_or(0, |header| {
         header.pdu_length() + 2 * usize::from(header.path.is_some())
     });
@@ -24,18 +27,19 @@ pub fn compare(random: &mut Random) -> Compared {
     let at = node(random, &settings);
     let input = Input {
         bytes: &bytes,
-        rest: &(edition, at, &eight, room),
+        rest: &(at, &block, room),
     };
     let mut library = Output::of(random, room);
     let mut reference = library.clone();
     let mut wrapper = library.clone();
-    let eight = eight.lists();
-    let answered = raw::hear(edition, at, eight.in_order(), &bytes, library.room());
-    let wanted = answer(&hear(edition, &settings, &eight, &bytes, reference.room()));
+    let answered = raw::hear(at, &block.0, &bytes, library.room());
+    let wanted = answer(&hear(&settings, &block.lists(), &bytes, reference.room()));
     input.same("answer", answered, wanted)?;
     input.same_bytes("output", library.all(), reference.all())?;
-    let (at, eight) = (wrapped_node(&settings), lists(&eight));
-    let safe = mant::hear(edition, &at, &eight, &bytes, wrapper.room());
+    let Ok(laid) = lists(&block.lists()) else {
+        return Ok(());
+    };
+    let safe = mant::hear(&wrapped_node(&settings), &laid, &bytes, wrapper.room());
     input.same_bytes("wrapped output", wrapper.all(), reference.all())?;
     if let (Ok(place), Some(header)) = (&safe.delivery, &shown) {
         let delivered = &bytes[place.clone()];

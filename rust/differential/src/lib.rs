@@ -3,8 +3,8 @@
 
 use mant::raw;
 use reference::{
-    Answer, Bits, Choice, Done, Exchange, Names, Origination, Queue, Sending, Settings, Shown,
-    Taken,
+    Answer, Bits, Choice, Done, Exchange, ListFault, Names, Origination, Queue, Sending, Settings,
+    Shown, Taken,
 };
 
 /// What is shown of a header as the library gives it; what is not there is 0.
@@ -74,6 +74,7 @@ pub fn node(settings: &Settings, none: u8) -> raw::Node {
         Choice::Second => raw::SECOND_LIST,
     };
     raw::Node {
+        edition: settings.edition,
         own: settings.own_address,
         echo: settings.echo,
         repeating: settings.repeating,
@@ -81,6 +82,14 @@ pub fn node(settings: &Settings, none: u8) -> raw::Node {
         source_reject: number(settings.source_reject),
         destination_pass: number(settings.destination_pass),
         destination_reject: number(settings.destination_reject),
+    }
+}
+
+/// A fault of lists as the library gives it.
+pub fn list_fault(fault: Option<ListFault>) -> raw::ListFault {
+    raw::ListFault {
+        number: fault.map_or(0, |fault| fault.number),
+        list: fault.map_or(raw::LIST_VALUES, |fault| fault.list as u8),
     }
 }
 

@@ -69,10 +69,10 @@ pub fn compare(random: &mut Random) -> Compared {
 fn site(random: &mut Random, own: u16, other: u16) -> Site {
     Site {
         node: Node {
-            own,
+            edition: good_edition(random),
             echo: random.flag(),
             repeating: random.flag(),
-            ..Node::default()
+            ..Node::new(own)
         },
         other,
         table: Reliable::new(),
@@ -191,13 +191,7 @@ impl Run {
         };
         let mut output = [0; 10];
         let site = &mut self.sites[place];
-        let answer = mant::hear(
-            good_edition(random),
-            &site.node,
-            &Lists::default(),
-            pdu,
-            &mut [],
-        );
+        let answer = mant::hear(&site.node, &Lists::none(), pdu, &mut []);
         hold(answer.delivery.is_ok(), "not delivered")?;
         let acknowledged = site.table.acknowledge(pdu, &answer, &sending, &mut output);
         match acknowledged.map_err(said)? {

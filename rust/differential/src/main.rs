@@ -42,10 +42,12 @@ const MOST_DIFFERENCES: u64 = 10;
 type Kind = (&'static str, usize, fn(&mut Random) -> Compared);
 
 /// The kinds of input.
-const KINDS: [Kind; 18] = [
-    ("reading and writing again", 28, reading::compare),
-    ("origination", 13, originating::compare),
-    ("lists", 6, listing::compare),
+const KINDS: [Kind; 20] = [
+    ("reading and writing again", 25, reading::compare),
+    ("origination", 11, originating::compare),
+    ("blocks of lists", 6, listing::compare),
+    ("lists laid into a block", 4, listing::compare_laying),
+    ("nodes that change over", 1, listing::compare_choosing),
     ("one PDU at one node", 38, hearing::compare),
     ("batches", 9, walking::compare),
     ("bounds", 5, bounding::compare),

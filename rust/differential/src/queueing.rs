@@ -7,8 +7,7 @@ use crate::same::{node, number, Input};
 use crate::Compared;
 use differential::level;
 use generator::{
-    any_queue, empty_queue, good_edition, good_eight_lists, pace, queue_deed, settings_for, Pace,
-    QueueDeed, Random,
+    any_queue, empty_queue, good_block, pace, queue_deed, settings_for, Pace, QueueDeed, Random,
 };
 use mant::raw::{self, QUEUE_LENGTH};
 use mant::Cursor;
@@ -194,20 +193,19 @@ fn in_wrapper(taken: Taken) -> Result<mant::Taken, u8> {
 /// fault, comes in a batch to each PDU that was taken and to its end, and
 /// answers none of 1 to 6.
 fn compare_walk(random: &mut Random, input: &Input, batch: &[u8], pdus: &[Vec<u8>]) -> Compared {
-    let (settings, eight) = (settings_for(random, batch), good_eight_lists(random));
-    let (at, lists) = (node(random, &settings), eight.lists().in_order());
-    let edition = good_edition(random);
+    let (settings, block) = (settings_for(random, batch), good_block(random));
+    let (at, lists) = (node(random, &settings), &block.0);
     let mut output = [0; MOST_PDU];
     let mut cursor = Cursor::default();
     for pdu in pdus {
-        let step = raw::step(edition, at, lists, batch, cursor, &mut output);
+        let step = raw::step(at, lists, batch, cursor, &mut output);
         input.same("kind of a step", step.kind, raw::ANSWERED)?;
         input.same("taken by a step", step.answer.taken, pdu.len())?;
         let is_read = !(1..=6).contains(&step.answer.delivery);
         input.same("a PDU of the batch is read", is_read, true)?;
         cursor = step.next;
     }
-    let last = raw::step(edition, at, lists, batch, cursor, &mut output);
+    let last = raw::step(at, lists, batch, cursor, &mut output);
     input.same("last step", (last.kind, cursor.ended), (raw::ENDED, false))?;
     input.same("end of the walk", cursor.place, batch.len())
 }

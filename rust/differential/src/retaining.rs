@@ -8,7 +8,7 @@ use crate::Compared;
 use differential::{answer, names_of, outcome};
 use generator::{edition, habits, reliable_deed, retained_records, Random, ReliableDeed};
 use mant::raw::{self, Outcome, RECORDS};
-use reference::{hear, Done, Lists, Sending, Table, MOST_PDU};
+use reference::{hear, Done, Lists, Sending, Settings, Table, MOST_PDU};
 
 /// A table in the library, in the reference, and in the wrapper where it has
 /// 16 records.
@@ -79,11 +79,13 @@ impl Tables {
             }
             ReliableDeed::Hear(settings, received, sending, room) => {
                 let mut repeated = [0; MOST_PDU];
-                let edition = edition(random);
-                let heard = hear(edition, settings, &Lists::EMPTY, received, &mut repeated);
-                let lists = Lists::EMPTY.in_order();
-                let at = node(random, settings);
-                let library = raw::hear(edition, at, lists, received, &mut repeated);
+                let settings = Settings {
+                    edition: edition(random),
+                    ..*settings
+                };
+                let heard = hear(&settings, &Lists::EMPTY, received, &mut repeated);
+                let at = node(random, &settings);
+                let library = raw::hear(at, &[], received, &mut repeated);
                 input.same("node's answer", library, answer(&heard))?;
                 let asked = Asked {
                     received,

@@ -53,11 +53,22 @@ pub fn hex(bytes: &[u8]) -> String {
     bytes.iter().map(|byte| format!("{byte:02X}")).collect()
 }
 
-/// A node's settings for the library, with any number that chooses no list.
+/// A node's settings for the library, with any number for a kind that has no
+/// list chosen.
 pub fn node(random: &mut Random, settings: &Settings) -> raw::Node {
-    let any = random.byte().max(3);
-    let none = random.pick(&[0, 0, 0, 3, 4, 255, any]);
-    differential::node(settings, none)
+    let mut node = differential::node(settings, raw::NO_LIST);
+    for choice in [
+        &mut node.source_pass,
+        &mut node.source_reject,
+        &mut node.destination_pass,
+        &mut node.destination_reject,
+    ] {
+        let any = random.byte().max(3);
+        if *choice == raw::NO_LIST {
+            *choice = random.pick(&[0, 0, 0, 3, 4, 255, any]);
+        }
+    }
+    node
 }
 
 /// The same for the wrapper.
@@ -68,6 +79,7 @@ pub fn wrapped_node(settings: &Settings) -> mant::Node {
         Choice::Second => mant::Choice::Second,
     };
     mant::Node {
+        edition: settings.edition,
         own: settings.own_address,
         echo: settings.echo,
         repeating: settings.repeating,
@@ -106,13 +118,13 @@ pub fn length_or_number((number, length): (u8, usize)) -> Result<usize, u8> {
     }
 }
 
-/// The eight lists for the wrapper.
-pub fn lists<'a>(lists: &reference::Lists<'a>) -> mant::Lists<'a> {
+/// The eight lists laid by the wrapper.
+pub fn lists(lists: &reference::Lists) -> Result<mant::Lists, mant::ListFault> {
     let two = |TwoLists { first, second }| mant::TwoLists { first, second };
-    mant::Lists {
+    mant::Lists::lay(&mant::EightLists {
         source_pass: two(lists.source_pass),
         source_reject: two(lists.source_reject),
         destination_pass: two(lists.destination_pass),
         destination_reject: two(lists.destination_reject),
-    }
+    })
 }

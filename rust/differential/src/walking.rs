@@ -4,7 +4,7 @@ use crate::output::Output;
 use crate::same::{lists, node, wrapped, wrapped_node, Input};
 use crate::Compared;
 use differential::answer;
-use generator::{batch, edition, eight_lists, good_eight_lists, settings_for, EightLists, Random};
+use generator::{batch, block, edition, good_block, settings_for, Block, Random};
 use mant::{raw, Cursor};
 use reference::numbers::BATCH_SIZE;
 use reference::{hear, walk, Edition, Settings, Step, MOST_BATCH, MOST_PDU};
@@ -12,48 +12,42 @@ use reference::{hear, walk, Edition, Settings, Step, MOST_BATCH, MOST_PDU};
 /// A node and its batch.
 #[derive(Debug)]
 struct Case<'a> {
-    edition: u64,
     settings: Settings,
     /// The settings for the library.
     node: raw::Node,
-    eight: &'a EightLists,
+    block: &'a Block,
     batch: &'a [u8],
 }
 
 impl Case<'_> {
     /// The library's step.
     fn step(&self, cursor: Cursor, output: &mut Output) -> raw::Step {
-        raw::step(
-            self.edition,
-            self.node,
-            self.eight.lists().in_order(),
-            self.batch,
-            cursor,
-            output.room(),
-        )
+        raw::step(self.node, &self.block.0, self.batch, cursor, output.room())
     }
 }
 
 /// Compares a whole walk, and steps from any cursor.
 pub fn compare(random: &mut Random) -> Compared {
-    let eight = match random.one_in(4) {
-        true => eight_lists(random),
-        false => good_eight_lists(random),
+    let block = match random.one_in(4) {
+        true => block(random),
+        false => good_block(random),
     };
     let batch = batch(random);
-    let settings = settings_for(random, &batch);
-    let case = Case {
+    let settings = Settings {
         edition: edition(random),
+        ..settings_for(random, &batch)
+    };
+    let case = Case {
         settings,
         node: node(random, &settings),
-        eight: &eight,
+        block: &block,
         batch: &batch,
     };
     let small = random.between(0, 60);
     let room = random.pick(&[0, 6, 20, small, 200, 1_000, MOST_PDU, MOST_PDU, 5_000]);
     let input = Input {
         bytes: &batch,
-        rest: &(case.edition, case.node, &eight, room),
+        rest: &(case.node, &block, room),
     };
     let output = Output::of(random, room);
     compare_walk(&case, &input, &output)?;
@@ -67,9 +61,8 @@ pub fn compare(random: &mut Random) -> Compared {
 fn compare_walk(case: &Case, input: &Input, output: &Output) -> Compared {
     let (mut library, mut reference) = (output.clone(), output.clone());
     let mut replayed = output.clone();
-    let eight = case.eight.lists();
-    let (edition, settings, room) = (case.edition, &case.settings, reference.room());
-    let walked = match walk(edition, settings, &eight, case.batch, room) {
+    let (settings, room) = (&case.settings, reference.room());
+    let walked = match walk(settings, &case.block.lists(), case.batch, room) {
         Ok(walked) => walked,
         Err(number) => return compare_refused(case, input, output, number),
     };
@@ -111,15 +104,12 @@ fn compare_wrapped(
     output: &Output,
     wanted: &raw::Step,
 ) -> Compared {
+    let Ok(laid) = lists(&case.block.lists()) else {
+        return Ok(());
+    };
     let mut output = output.clone();
-    let step = mant::step(
-        case.edition,
-        &wrapped_node(&case.settings),
-        &lists(&case.eight.lists()),
-        case.batch,
-        cursor,
-        output.room(),
-    );
+    let node = wrapped_node(&case.settings);
+    let step = mant::step(&node, &laid, case.batch, cursor, output.room());
     let wanted = mant::Step::Answered(wrapped(&wanted.answer), wanted.next);
     input.same("wrapped step", step, wanted)
 }
@@ -162,14 +152,13 @@ fn compare_any(random: &mut Random, case: &Case, input: &Input, output: &Output)
     };
     let (mut library, mut reference) = (output.clone(), output.clone());
     let step = case.step(cursor, &mut library);
-    let wanted = if length > MOST_BATCH && Edition::of(case.edition).is_ok() {
+    let wanted = if length > MOST_BATCH && Edition::of(case.settings.edition).is_ok() {
         ended(raw::REFUSED, BATCH_SIZE, cursor)
     } else if cursor.ended || cursor.place >= length {
         ended(raw::ENDED, raw::NO_NUMBER, cursor)
     } else {
         let rest = &case.batch[cursor.place..];
-        let (settings, eight) = (&case.settings, case.eight.lists());
-        let heard = hear(case.edition, settings, &eight, rest, reference.room());
+        let heard = hear(&case.settings, &case.block.lists(), rest, reference.room());
         raw::Step {
             kind: raw::ANSWERED,
             answer: answer(&heard),

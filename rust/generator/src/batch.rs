@@ -105,8 +105,7 @@ mod tests {
             let bytes = exactly(&mut random, length);
             assert_eq!(bytes.len(), length);
             let (settings, lists) = (Default::default(), reference::Lists::EMPTY);
-            let edition = reference::EDITION_1_2;
-            let walked = reference::walk(edition, &settings, &lists, &bytes, &mut []);
+            let walked = reference::walk(&settings, &lists, &bytes, &mut []);
             assert_eq!(walked.map(|walked| walked.end), Ok(length));
         }
     }

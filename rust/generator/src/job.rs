@@ -7,7 +7,7 @@ use crate::settings::settings_for;
 use reference::numbers::{
     BATCH_SIZE, JOB_FLAGS, JOB_LEFT_OVER, JOB_LIST_COUNT, JOB_SHORT, LOW_ABOVE_HIGH,
 };
-use reference::{Choice, Settings, MOST_BATCH};
+use reference::{Choice, Settings, EDITION_1_2, MOST_BATCH};
 
 /// A good job before it is laid out in bytes.
 #[derive(Clone, Debug, PartialEq, Eq)]
@@ -85,6 +85,7 @@ fn with_firsts(settings: Settings) -> Settings {
         Choice::First | Choice::Second => Choice::First,
     };
     Settings {
+        edition: EDITION_1_2,
         source_pass: first(settings.source_pass),
         source_reject: first(settings.source_reject),
         destination_pass: first(settings.destination_pass),

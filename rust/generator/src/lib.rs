@@ -8,6 +8,7 @@
 //! reference's writing.
 
 mod batch;
+mod block;
 mod exchange;
 mod history;
 mod job;
@@ -24,10 +25,11 @@ mod shape;
 mod table;
 
 pub use batch::batch;
+pub use block::{block, good_block, Block};
 pub use exchange::{exchange, exchanged_pdu, levels_down, short_exchange};
 pub use history::{deed, history, source_near, Deed, Hearing, History};
 pub use job::{damaged_job, job, random_job, DamagedJob, JobParts};
-pub use lists::{bad_list, eight_lists, good_eight_lists, good_list, EightLists};
+pub use lists::{any_eight_lists, bad_list, eight_lists, good_eight_lists, good_list, EightLists};
 pub use network::network;
 pub use output::{output, room};
 pub use queue::{any_queue, empty_queue, pace, queue_deed, Pace, QueueDeed};

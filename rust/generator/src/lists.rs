@@ -9,10 +9,32 @@ use reference::{Lists, MOST_RANGES};
 pub struct EightLists(pub [Vec<u16>; 8]);
 
 impl EightLists {
-    /// The lists as a node takes them.
+    /// The same for the reference.
     pub fn lists(&self) -> Lists<'_> {
         Lists::of(self.0.each_ref().map(Vec::as_slice))
     }
+}
+
+/// Eight lists of any length; one or two may have more values than 16 bits
+/// count.
+pub fn any_eight_lists(random: &mut Random) -> EightLists {
+    let mut lists = eight_lists(random);
+    for _ in 0..random.below(3) {
+        lists.0[random.below(8)] = long_list(random);
+    }
+    lists
+}
+
+/// A list of up to 70,000 values, often with a length that in 16 bits is 0,
+/// that of a good list, or 129.
+fn long_list(random: &mut Random) -> Vec<u16> {
+    let (short, any) = (random.between(120, 140), random.below(70_001));
+    let near = 65_536 + random.below(4);
+    let count = random.pick(&[short, 65_535, 65_536, near, 65_664, 65_665, 70_000, any]);
+    let first = random.word();
+    (0..count)
+        .map(|place| first.wrapping_add(place as u16))
+        .collect()
 }
 
 /// Eight lists, mostly good; once in six times one or more are bad.
@@ -125,10 +147,15 @@ fn low_above_high(random: &mut Random, most: usize) -> Vec<u16> {
     list
 }
 
+/// So many words of any kind.
+pub fn any_words(random: &mut Random, count: usize) -> Vec<u16> {
+    (0..count).map(|_| random.word()).collect()
+}
+
 /// Any values, up to more than the most.
 fn any_values(random: &mut Random) -> Vec<u16> {
     let count = random.between(1, 140);
-    (0..count).map(|_| random.word()).collect()
+    any_words(random, count)
 }
 
 #[cfg(test)]
@@ -141,7 +168,7 @@ mod tests {
     fn good_lists_are_good() {
         let mut random = Random::from_seed(1);
         for _ in 0..2000 {
-            assert_eq!(list_fault(&good_eight_lists(&mut random).lists()), 0);
+            assert_eq!(list_fault(&good_eight_lists(&mut random).lists()), None);
         }
     }
 
@@ -151,7 +178,8 @@ mod tests {
         let mut counts = [[0; 3]; 8];
         for _ in 0..60_000 {
             let (settings, eight) = (settings(&mut random), eight_lists(&mut random));
-            let at_fault = |list: &Vec<u16>| list_fault(&Lists::firsts([list, &[], &[], &[]])) != 0;
+            let at_fault =
+                |list: &Vec<u16>| list_fault(&Lists::firsts([list, &[], &[], &[]])).is_some();
             let faults: Vec<usize> = (0..8).filter(|place| at_fault(&eight.0[*place])).collect();
             let choices = [
                 settings.source_pass,
@@ -179,9 +207,24 @@ mod tests {
         for _ in 0..2000 {
             let list = bad_list(&mut random);
             let lists = Lists::firsts([&[], &[], &list, &[]]);
-            faults[usize::from(list_fault(&lists))] += 1;
+            let number = list_fault(&lists).map_or(0, |fault| fault.number);
+            faults[usize::from(number)] += 1;
         }
         assert!(faults[20..].iter().all(|count| *count > 200), "{faults:?}");
         assert!(faults[0] < 100, "{faults:?}");
+    }
+
+    #[test]
+    fn long_lists_of_every_kind_arise() {
+        let mut random = Random::from_seed(1);
+        let mut lengths = [0; 3];
+        for _ in 0..1_000 {
+            for list in any_eight_lists(&mut random).0 {
+                lengths[0] += usize::from(list.len() > 128 && list.len() < 65_536);
+                lengths[1] += usize::from(list.len() == 65_536);
+                lengths[2] += usize::from(list.len() > 65_536);
+            }
+        }
+        assert!(lengths.iter().all(|count| *count > 100), "{lengths:?}");
     }
 }

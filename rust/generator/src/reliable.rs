@@ -155,7 +155,7 @@ mod tests {
                     (&mut self.step, answered)
                 }
                 ReliableDeed::Hear(settings, bytes, sending, room) => {
-                    let answer = hear(12, &settings, &Lists::EMPTY, &bytes, &mut [0; 5_000]);
+                    let answer = hear(&settings, &Lists::EMPTY, &bytes, &mut [0; 5_000]);
                     let mut out = vec![0; room];
                     let answered = table.heard(&bytes, answer.delivery, &sending, &mut out);
                     (&mut self.heard, answered)

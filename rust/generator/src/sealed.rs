@@ -6,7 +6,7 @@ mod record;
 use crate::output::room;
 use crate::random::Random;
 use crate::received::received;
-use crate::settings::{good_edition, settings};
+use crate::settings::settings;
 use crate::shape::{address, shape, Shape};
 pub use record::{any_record, empty_record};
 use reference::{hear, read, seal, Key, Lists, Settings, MOST_NUMBER, MOST_PDU};
@@ -209,7 +209,7 @@ pub fn repeated(random: &mut Random, pdu: &[u8]) -> Vec<u8> {
             repeating: true,
             ..settings(random)
         };
-        let answer = hear(good_edition(random), &node, &Lists::EMPTY, &heard, &mut out);
+        let answer = hear(&node, &Lists::EMPTY, &heard, &mut out);
         if answer.repeat == 0 {
             heard = out[..answer.repeated_length].to_vec();
         }

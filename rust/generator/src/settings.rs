@@ -32,10 +32,11 @@ pub fn edition(random: &mut Random) -> u64 {
     }
 }
 
-/// Settings of a node; repeating is mostly on and each kind of list mostly off,
-/// so that many PDUs come through.
+/// Settings of a node under one of the two editions; repeating is mostly on and
+/// each kind of list mostly off, so that many PDUs come through.
 pub fn settings(random: &mut Random) -> Settings {
     Settings {
+        edition: good_edition(random),
         own_address: address(random),
         echo: random.flag(),
         repeating: !random.one_in(5),
@@ -198,7 +199,7 @@ mod tests {
             let lists = good_eight_lists(&mut random);
             let [off, on] = [false, true].map(|echo| {
                 let settings = Settings { echo, ..settings };
-                hear(EDITION_1_2, &settings, &lists.lists(), &bytes, &mut []).delivery
+                hear(&settings, &lists.lists(), &bytes, &mut []).delivery
             });
             counts[usize::from(off)] += usize::from(on == 42);
         }

@@ -6,24 +6,25 @@
 //! not there is `-`; a list has `,` between its values, eight lists have `;`.
 //! `record` empties the record that each `open` after it is asked with.
 
-use crate::words::{answer, eight, flag, header, hex, list, node, some, written};
+use crate::words::{answer, choice, eight, flag, header, hex, list, node, some, written};
 use generator::{
-    address, batch, edition, eight_lists, exchange, exchanged_pdu, network, openings, origination,
-    payload_to_send, received, settings_for, to_seal, Random,
+    address, any_eight_lists, batch, edition, eight_lists, exchange, exchanged_pdu, network,
+    openings, origination, payload_to_send, received, settings, settings_for, to_seal, Random,
 };
 use reference::{
     bound, bytes_bound, hear, holds, list_fault, open, originate, reach, read_exchange, read_under,
-    seal, walk, write_exchange, Accepted, MOST_EXCHANGE, MOST_PDU,
+    seal, walk, write_exchange, Accepted, Choice, Settings, MOST_EXCHANGE, MOST_PDU,
 };
 
 /// A kind of line: its share, and what makes it.
 type Kind = (usize, fn(&mut Random) -> String);
 
 /// The kinds of line.
-const KINDS: [Kind; 10] = [
-    (24, read_line),
+const KINDS: [Kind; 11] = [
+    (23, read_line),
     (14, originate_line),
     (6, lists_line),
+    (1, change_line),
     (30, hear_line),
     (6, walk_line),
     (5, bound_line),
@@ -88,33 +89,58 @@ fn originate_line(random: &mut Random) -> String {
     )
 }
 
-/// The fault of eight lists, and whether the first of them holds an address.
+/// The fault of eight lists with the place of the list that has it, and whether
+/// the first of them holds an address.
 fn lists_line(random: &mut Random) -> String {
-    let (lists, address) = (eight_lists(random), address(random));
+    let lists = match random.one_in(8) {
+        true => any_eight_lists(random),
+        false => eight_lists(random),
+    };
+    let address = address(random);
     let held = flag(holds(&lists.0[0], address));
     let fault = list_fault(&lists.lists());
-    format!("lists {} {address} = {fault} {held}", eight(&lists))
+    let number = fault.map_or(0, |fault| fault.number);
+    let place = some(fault.map(|fault| fault.list));
+    format!(
+        "lists {} {address} = {number} {place} {held}",
+        eight(&lists)
+    )
+}
+
+/// A node that changes over.
+fn change_line(random: &mut Random) -> String {
+    let settings = of_any_edition(random, settings);
+    let to = random.pick(&[Choice::None, Choice::First, Choice::Second]);
+    let changed = node(&settings.changed_over(to));
+    format!("change {} {} = {changed}", node(&settings), choice(to))
+}
+
+/// Settings with the number of an edition or of none.
+fn of_any_edition(random: &mut Random, made: impl Fn(&mut Random) -> Settings) -> Settings {
+    Settings {
+        edition: edition(random),
+        ..made(random)
+    }
 }
 
 /// One PDU at one node.
 fn hear_line(random: &mut Random) -> String {
-    let (edition, bytes, lists) = (edition(random), received(random), eight_lists(random));
-    let settings = settings_for(random, &bytes);
+    let (bytes, lists) = (received(random), eight_lists(random));
+    let settings = of_any_edition(random, |random| settings_for(random, &bytes));
     let mut output = [0; MOST_PDU];
-    let heard = hear(edition, &settings, &lists.lists(), &bytes, &mut output);
-    let node = node(edition, &settings, &lists);
+    let heard = hear(&settings, &lists.lists(), &bytes, &mut output);
+    let (node, lists) = (node(&settings), eight(&lists));
     let answer = answer(&heard, &bytes, &output[..heard.repeated_length]);
-    format!("hear {node} {} = {answer}", hex(&bytes))
+    format!("hear {node} {lists} {} = {answer}", hex(&bytes))
 }
 
 /// A batch: each answer after its offset, or the number that refuses it.
 fn walk_line(random: &mut Random) -> String {
-    let (edition, bytes, lists) = (edition(random), batch(random), eight_lists(random));
-    let settings = settings_for(random, &bytes);
+    let (bytes, lists) = (batch(random), eight_lists(random));
+    let settings = of_any_edition(random, |random| settings_for(random, &bytes));
     let mut output = [0; MOST_PDU];
-    let asked = node(edition, &settings, &lists);
-    let asked = format!("walk {asked} {}", hex(&bytes));
-    match walk(edition, &settings, &lists.lists(), &bytes, &mut output) {
+    let asked = format!("walk {} {} {}", node(&settings), eight(&lists), hex(&bytes));
+    match walk(&settings, &lists.lists(), &bytes, &mut output) {
         Ok(walked) => {
             let steps = walked.steps.iter().map(|step| {
                 let answer = answer(&step.answer, &bytes[step.offset..], &step.repeated);

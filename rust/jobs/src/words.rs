@@ -73,27 +73,31 @@ pub fn header(shown: &Shown, bytes: &[u8]) -> String {
     .join(" ")
 }
 
-/// A node's settings and lists.
-pub fn node(edition: u64, settings: &Settings, lists: &EightLists) -> String {
+/// A node's settings.
+pub fn node(settings: &Settings) -> String {
     let choices = [
         settings.source_pass,
         settings.source_reject,
         settings.destination_pass,
         settings.destination_reject,
     ];
-    let choices = choices.map(|choice| match choice {
+    format!(
+        "{} {} {} {} {}",
+        settings.own_address,
+        settings.edition,
+        flag(settings.echo),
+        flag(settings.repeating),
+        choices.map(choice).join(" ")
+    )
+}
+
+/// The number of a choice.
+pub fn choice(choice: Choice) -> &'static str {
+    match choice {
         Choice::None => "0",
         Choice::First => "1",
         Choice::Second => "2",
-    });
-    format!(
-        "{edition} {} {} {} {} {}",
-        settings.own_address,
-        flag(settings.echo),
-        flag(settings.repeating),
-        choices.join(" "),
-        eight(lists)
-    )
+    }
 }
 
 /// A node's answer for the PDU at the start of the bytes.

@@ -4,11 +4,12 @@
 //! changed only where a PDU, its plain payload or an exchange is written to it,
 //! and keeps its bytes past the end of that. An edition is [`EDITION_1_1`] or
 //! [`EDITION_1_2`], and any other number is refused before all else; what takes
-//! none is the same under both, or, as sealing, is of 1.2 alone. [`Stations`]
-//! holds the stations that a box has heard, [`Queue`] the PDUs that wait to be
-//! sent, [`Reliable`] those that wait for their acknowledgement, [`Record`] the
-//! last message numbers of encrypted PDUs. [`raw`] gives the library's structs
-//! as they are.
+//! none is the same under both, or, as sealing, is of 1.2 alone. A [`Node`]
+//! holds the settings of a box, edition included, and [`Lists`] its address lists.
+//! [`Stations`] holds the stations that a box has heard, [`Queue`] the PDUs that
+//! wait to be sent, [`Reliable`] those that wait for their acknowledgement,
+//! [`Record`] the last message numbers of encrypted PDUs. [`raw`] gives the
+//! library's structs as they are.
 //!
 //! What is refused is a [`Refusal`], with its number and its meaning; the
 //! functions below name the numbers in the order in which they are looked for,
@@ -20,8 +21,10 @@
 //! delivered twice, and so is a command that is sent again. Where that matters
 //! the program remembers it.
 //!
-//! The names are those of `include/mant.h` without `mant_`, but for what lent
-//! memory is: `mant_hear_and_count` is [`Stations::hear`], `mant_station_of`
+//! The names are those of `include/mant.h` without `mant_`, but for what belongs
+//! to a type here: `mant_lay_lists` is [`Lists::lay`], whose error is what
+//! `mant_list_fault` returns, `mant_change_over` [`Node::change_over`],
+//! `mant_hear_and_count` [`Stations::hear`], `mant_station_of`
 //! [`Stations::get`], `mant_stations_held` [`Stations::len`],
 //! `mant_stations_capacity` [`Stations::LIMIT`], `mant_count_heard`
 //! [`Stations::count`], `mant_queue_add` [`Queue::add`], `mant_retain`
@@ -45,10 +48,10 @@
 //! use mant::{hear, originate, read, Fresh, Lists, Node, EDITION_1_2};
 //!
 //! let fresh = Fresh { source: 1000, hop_limit: 3, with_path: true, ..Fresh::default() };
-//! let node = Node { own: 2000, echo: true, repeating: true, ..Node::default() };
+//! let (node, lists) = (Node::new(2000), Lists::none());
 //! let (mut report, mut repeated) = ([0; mant::PDU_LIMIT], [0; mant::PDU_LIMIT]);
 //! let length = originate(&fresh, b"rain", &mut report)?;
-//! let answer = hear(EDITION_1_2, &node, &Lists::default(), &report[..length], &mut repeated);
+//! let answer = hear(&node, &lists, &report[..length], &mut repeated);
 //! assert_eq!(&report[answer.delivery?], b"rain");
 //! let header = read(EDITION_1_2, &repeated[..answer.repeat?])?;
 //! assert_eq!((header.hop_limit, header.last_sender), (2, Some(2000)));
@@ -71,7 +74,7 @@ mod stations;
 
 pub use edition::Bits;
 pub use exchange::{read_exchange, write_exchange, Exchange};
-pub use lists::{list_fault, list_holds, Choice, Lists, TwoLists};
+pub use lists::{list_holds, Choice, EightLists, List, ListFault, Lists, TwoLists};
 pub use node::{hear, step, Answer, Node, Step};
 pub use originating::{originate, Fresh};
 pub use planning::{limits, most_bytes, most_transmissions};

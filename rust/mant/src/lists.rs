@@ -1,7 +1,9 @@
 //! The lists of a node, two of each kind (02, W-211).
 
-use crate::raw::{self, FIRST_LIST, NO_LIST, SECOND_LIST};
+use crate::raw::{self, FIRST_LIST, LIST_WORDS, NO_LIST, SECOND_LIST};
 use crate::Refusal;
+use std::error::Error;
+use std::fmt;
 
 /// Which of a kind's two lists a node reads.
 #[derive(Clone, Copy, Debug, Default, PartialEq, Eq)]
@@ -24,6 +26,15 @@ impl Choice {
             Choice::Second => SECOND_LIST,
         }
     }
+
+    /// The choice that has a number; none for any but 1 and 2.
+    pub(crate) fn of(number: u8) -> Choice {
+        match number {
+            FIRST_LIST => Choice::First,
+            SECOND_LIST => Choice::Second,
+            _ => Choice::None,
+        }
+    }
 }
 
 /// The two lists of a kind, each low, high, low, high and so on, both ends
@@ -36,9 +47,9 @@ pub struct TwoLists<'a> {
     pub second: &'a [u16],
 }
 
-/// The lists of a node. All eight are checked, whichever are chosen.
+/// Eight lists to be laid. Those that are not set are empty.
 #[derive(Clone, Copy, Debug, Default, PartialEq, Eq)]
-pub struct Lists<'a> {
+pub struct EightLists<'a> {
     /// Sources that pass.
     pub source_pass: TwoLists<'a>,
     /// Sources that are rejected.
@@ -49,9 +60,9 @@ pub struct Lists<'a> {
     pub destination_reject: TwoLists<'a>,
 }
 
-impl<'a> Lists<'a> {
+impl<'a> EightLists<'a> {
     /// In the order of the library.
-    pub(crate) fn in_order(&self) -> raw::Lists<'a> {
+    fn in_order(&self) -> raw::Lists<'a> {
         [
             self.source_pass.first,
             self.source_pass.second,
@@ -65,10 +76,131 @@ impl<'a> Lists<'a> {
     }
 }
 
-/// The first fault of the eight lists, kind by kind, first before second: in
-/// each 22, 21, then 20.
-pub fn list_fault(lists: &Lists) -> Result<(), Refusal> {
-    Refusal::check(raw::list_fault(lists.in_order()))
+/// The lists of a node, laid into one block and without fault. Make them once,
+/// at set-up. The settings of a [`Node`](crate::Node) choose among them.
+///
+/// ```
+/// use mant::{Choice, EightLists, List, Lists, Node, Refusal, TwoLists};
+///
+/// let source_pass = TwoLists { first: &[1000, 1999], second: &[1000, 1099, 1500, 1599] };
+/// let lists = Lists::lay(&EightLists { source_pass, ..EightLists::default() })?;
+/// let dry_season = Node { source_pass: Choice::First, ..Node::new(2000) };
+/// # let answer = mant::hear(&dry_season, &lists, &[0, 0, 0, 0, 3, 0xE7], &mut []);
+/// # assert_eq!(answer.delivery, Err(Refusal::SourceNotPassed));
+///
+/// let source_pass = TwoLists { first: &[1000, 1999], second: &[1099, 1000] };
+/// let fault = Lists::lay(&EightLists { source_pass, ..EightLists::default() }).unwrap_err();
+/// assert_eq!((fault.refusal, fault.list), (Refusal::LowAboveHigh, List::SourcePassSecond));
+/// # Ok::<(), mant::ListFault>(())
+/// ```
+#[derive(Clone)]
+pub struct Lists {
+    block: [u16; LIST_WORDS],
+    length: usize,
+}
+
+impl Lists {
+    /// Eight empty lists.
+    pub const fn none() -> Lists {
+        Lists {
+            block: [0; LIST_WORDS],
+            length: 0,
+        }
+    }
+
+    /// Lays eight lists. Refuses the first that has a fault, whether a node
+    /// chooses it or not: kind by kind, first before second, and in each list 22,
+    /// 21, then 20.
+    pub fn lay(lists: &EightLists) -> Result<Lists, ListFault> {
+        let mut laid = Lists::none();
+        let fault = raw::lay_eight(&mut laid.block, lists.in_order());
+        Refusal::check(fault.number).map_err(|refusal| ListFault {
+            refusal,
+            list: List::at(fault.list),
+        })?;
+        let (lengths, _) = laid.block.split_at(usize::from(raw::LIST_VALUES));
+        laid.length = lengths.len() + lengths.iter().copied().map(usize::from).sum::<usize>();
+        Ok(laid)
+    }
+
+    /// The words as [`raw`] takes them: eight lengths, then the values.
+    pub fn words(&self) -> &[u16] {
+        &self.block[..self.length]
+    }
+}
+
+impl Default for Lists {
+    fn default() -> Lists {
+        Lists::none()
+    }
+}
+
+impl fmt::Debug for Lists {
+    fn fmt(&self, f: &mut fmt::Formatter) -> fmt::Result {
+        f.debug_list().entries(self.words()).finish()
+    }
+}
+
+/// Declares the eight lists with their places and words, once.
+macro_rules! lists {
+    ($($name:ident = $place:ident, $words:literal;)*) => {
+        /// One of the eight lists.
+        #[derive(Clone, Copy, Debug, PartialEq, Eq, PartialOrd, Ord, Hash)]
+        pub enum List {
+            $(#[doc = $words] $name,)*
+        }
+
+        impl List {
+            /// The list at this place in the library's order.
+            fn at(place: u8) -> List {
+                match place {
+                    $(raw::$place => List::$name,)*
+                    _ => unreachable!("the library has no list {place}"),
+                }
+            }
+
+            /// Its name in words.
+            pub fn name(self) -> &'static str {
+                match self {
+                    $(List::$name => $words,)*
+                }
+            }
+        }
+    };
+}
+
+lists! {
+    SourcePassFirst = SOURCE_PASS_FIRST, "first source pass list";
+    SourcePassSecond = SOURCE_PASS_SECOND, "second source pass list";
+    SourceRejectFirst = SOURCE_REJECT_FIRST, "first source reject list";
+    SourceRejectSecond = SOURCE_REJECT_SECOND, "second source reject list";
+    DestinationPassFirst = DESTINATION_PASS_FIRST, "first destination pass list";
+    DestinationPassSecond = DESTINATION_PASS_SECOND, "second destination pass list";
+    DestinationRejectFirst = DESTINATION_REJECT_FIRST, "first destination reject list";
+    DestinationRejectSecond = DESTINATION_REJECT_SECOND, "second destination reject list";
+}
+
+/// Why eight lists were refused, and which of them has the fault.
+#[derive(Clone, Copy, Debug, PartialEq, Eq)]
+pub struct ListFault {
+    /// 22, 21 or 20.
+    pub refusal: Refusal,
+    /// The first list at fault.
+    pub list: List,
+}
+
+impl fmt::Display for ListFault {
+    fn fmt(&self, f: &mut fmt::Formatter) -> fmt::Result {
+        write!(f, "{}: {}", self.list.name(), self.refusal)
+    }
+}
+
+impl Error for ListFault {}
+
+impl From<ListFault> for Refusal {
+    fn from(fault: ListFault) -> Refusal {
+        fault.refusal
+    }
 }
 
 /// Whether an address is in some range of a list. An empty list holds none; a

@@ -1,14 +1,16 @@
 //! What a node is set to, and what it answers for one PDU or over a batch.
 
-use crate::raw;
+use crate::raw::{self, EDITION_1_2};
 use crate::{Choice, Cursor, Lists, Refusal};
 use std::ops::Range;
 
-/// What a node is set to. The default has echo and repeating off, and no list
-/// chosen (in Python both are on). A pass list that is chosen and empty passes
-/// nothing.
-#[derive(Clone, Copy, Debug, Default, PartialEq, Eq)]
+/// What a node is set to. Begin with [`Node::new`] and set what differs. A pass
+/// list that is chosen and empty passes nothing.
+#[derive(Clone, Copy, Debug, PartialEq, Eq)]
 pub struct Node {
+    /// [`EDITION_1_1`](crate::EDITION_1_1) or [`EDITION_1_2`]; any other number
+    /// is refused with 17.
+    pub edition: u64,
     /// Its own address.
     pub own: u16,
     /// Drop a PDU whose path holds the own address, or whose source it is.
@@ -26,9 +28,52 @@ pub struct Node {
 }
 
 impl Node {
+    /// A node with this address: edition 1.2, echo and repeating on, no list
+    /// chosen.
+    pub const fn new(own: u16) -> Node {
+        Node {
+            edition: EDITION_1_2,
+            own,
+            echo: true,
+            repeating: true,
+            source_pass: Choice::None,
+            source_reject: Choice::None,
+            destination_pass: Choice::None,
+            destination_reject: Choice::None,
+        }
+    }
+
+    /// Returns the same node with this choice for all four kinds of list, as
+    /// when the season changes. A kind that was off is set too, and a pass
+    /// list that is then chosen and empty passes nothing.
+    ///
+    /// ```
+    /// use mant::{Choice, Node};
+    ///
+    /// let node = Node::new(2000).change_over(Choice::Second);
+    /// assert_eq!((node.own, node.source_pass), (2000, Choice::Second));
+    /// ```
+    pub fn change_over(self, choice: Choice) -> Node {
+        Node::of(raw::change_over(self.raw(), u64::from(choice.number())))
+    }
+
+    fn of(node: raw::Node) -> Node {
+        Node {
+            edition: node.edition,
+            own: node.own,
+            echo: node.echo,
+            repeating: node.repeating,
+            source_pass: Choice::of(node.source_pass),
+            source_reject: Choice::of(node.source_reject),
+            destination_pass: Choice::of(node.destination_pass),
+            destination_reject: Choice::of(node.destination_reject),
+        }
+    }
+
     /// The library's own.
     pub(crate) fn raw(&self) -> raw::Node {
         raw::Node {
+            edition: self.edition,
             own: self.own,
             echo: self.echo,
             repeating: self.repeating,
@@ -48,8 +93,7 @@ pub struct Answer {
     /// How many bytes of the repeated PDU were written to the output.
     pub repeat: Result<usize, Refusal>,
     /// Where the next PDU begins, counted from this one's first byte; 0 where
-    /// this one was not read: the edition is unknown, a list is at fault, or
-    /// there is no PDU.
+    /// this one was not read: the edition is unknown, or there is no PDU.
     pub taken: usize,
     /// Who the PDU was heard from, whenever it was read: the last path
     /// address, or the source if the path is empty. None where it is unknown.
@@ -98,45 +142,35 @@ pub enum Step {
 
 /// What a node answers for the PDU at the start of the received bytes.
 ///
-/// Refusals of delivery and repeat alike, the first that applies: 17, 20 to 22
-/// for a fault of the lists, 1 to 6 where there is no PDU, 30 and 42 with echo
-/// on, 31 to 34 by the lists that are chosen, and 40 where the output is too
-/// short for the repeated PDU, which then is not delivered either. 33 and 34
-/// are given to no PDU without a destination. Of delivery alone: 39, then 35; of
-/// repeat alone: 41, then 36 to 38.
+/// Refusals of delivery and repeat alike, the first that applies: 17, 1 to 6
+/// where there is no PDU, 30 and 42 with echo on, 31 to 34 by the lists that are
+/// chosen, and 40 where the output is too short for the repeated PDU, which then
+/// is not delivered either. 33 and 34 are given to no PDU without a destination.
+/// Of delivery alone: 39, then 35; of repeat alone: 41, then 36 to 38.
 ///
 /// The repeated PDU is the received one with a hop limit that is one lower, but 7
 /// stays 7, and with a path the own address behind the others, 2 bytes more. The
 /// output is written to only where repeat is `Ok`; it may be empty where nothing
 /// is to be repeated.
-pub fn hear(
-    edition: u64,
-    node: &Node,
-    lists: &Lists,
-    received: &[u8],
-    output: &mut [u8],
-) -> Answer {
-    let (node, lists) = (node.raw(), lists.in_order());
-    Answer::of(raw::hear(edition, node, lists, received, output))
+pub fn hear(node: &Node, lists: &Lists, received: &[u8], output: &mut [u8]) -> Answer {
+    Answer::of(raw::hear(node.raw(), lists.words(), received, output))
 }
 
 /// One step of the walk over PDUs that lie back to back: what [`hear`] answers
 /// for the PDU at the cursor, with the same refusals and the same output. A walk
 /// begins with `Cursor::default()`.
 ///
-/// After 17, 20 to 22 and 1 to 6 the next cursor has ended. Of the step that
-/// answered `answer` and `next`, the PDU began at `next.place - answer.taken`,
-/// and the ranges of the answer count from there.
+/// After 17 and 1 to 6 the next cursor has ended. If the step returned `answer`
+/// and `next`, the PDU began at `next.place - answer.taken`, and the ranges of
+/// the answer count from there.
 ///
 /// ```
-/// use mant::{step, Cursor, Lists, Node, Step, EDITION_1_2};
+/// use mant::{step, Cursor, Lists, Node, Step};
 ///
-/// let node = Node { own: 2000, echo: true, repeating: true, ..Node::default() };
+/// let (node, lists) = (Node::new(2000), Lists::none());
 /// let batch = [2, 0, 0x10, 1, 3, 0xE8, 0, 0x2A, 2, 0, 0x10, 1, 0x0B, 0xB8, 0, 0x2B];
 /// let (mut cursor, mut repeated, mut payloads) = (Cursor::default(), [0; mant::PDU_LIMIT], vec![]);
-/// while let Step::Answered(answer, next) =
-///     step(EDITION_1_2, &node, &Lists::default(), &batch, cursor, &mut repeated)
-/// {
+/// while let Step::Answered(answer, next) = step(&node, &lists, &batch, cursor, &mut repeated) {
 ///     let pdu = &batch[next.place - answer.taken..];
 ///     payloads.extend(answer.delivery.map(|range| &pdu[range]));
 ///     cursor = next;
@@ -144,16 +178,8 @@ pub fn hear(
 /// assert_eq!(payloads, [[0x2A], [0x2B]]);
 /// assert_eq!(cursor.place, batch.len());
 /// ```
-pub fn step(
-    edition: u64,
-    node: &Node,
-    lists: &Lists,
-    batch: &[u8],
-    cursor: Cursor,
-    output: &mut [u8],
-) -> Step {
-    let (node, lists) = (node.raw(), lists.in_order());
-    let step = raw::step(edition, node, lists, batch, cursor, output);
+pub fn step(node: &Node, lists: &Lists, batch: &[u8], cursor: Cursor, output: &mut [u8]) -> Step {
+    let step = raw::step(node.raw(), lists.words(), batch, cursor, output);
     match step.kind {
         raw::ANSWERED => Step::Answered(Answer::of(step.answer), step.next),
         raw::ENDED => Step::Ended,

@@ -106,15 +106,12 @@ impl Reliable {
     /// bytes or with a path 10.
     ///
     /// ```
-    /// use mant::{hear, Deed, Lists, Node, Reliable, Sending, EDITION_1_2};
+    /// use mant::{hear, Deed, Lists, Node, Reliable, Sending};
     ///
     /// let command = [0x09, 0, 0x10, 0, 0x03, 0xE8, 0x06, 0x40, 7]; // 1000 to 1600, ID 7
     /// let (mut base, mut gate, mut reply) = (Reliable::new(), Reliable::new(), [0; 9]);
     /// base.retain(100, &command)?;
-    /// let answer_at = |own, pdu: &[u8]| {
-    ///     let node = Node { own, echo: true, ..Node::default() };
-    ///     hear(EDITION_1_2, &node, &Lists::default(), pdu, &mut [])
-    /// };
+    /// let answer_at = |own, pdu: &[u8]| hear(&Node::new(own), &Lists::none(), pdu, &mut []);
     /// let sending = Sending { hop_limit: 1, ..Sending::default() };
     /// let deed = gate.acknowledge(&command, &answer_at(1600, &command), &sending, &mut reply)?;
     /// assert!(matches!(deed, Deed::Acknowledged(names, 9) if names.pdu_id == 7));

@@ -121,14 +121,14 @@ impl Stations {
     /// nothing in the node's answer.
     ///
     /// ```
-    /// use mant::{Lists, Node, Refusal, Stations, EDITION_1_2};
+    /// use mant::{Lists, Node, Refusal, Stations};
     ///
-    /// let node = Node { own: 2000, echo: true, repeating: true, ..Node::default() };
+    /// let (node, lists) = (Node::new(2000), Lists::none());
     /// let report = [0x02, 0x00, 0x10, 0x01, 0x03, 0xE8, 0x00, 0x2A];
     /// let (mut stations, mut repeated) = (Stations::new(), [0; 10]);
-    /// let heard = stations.hear(EDITION_1_2, &node, &Lists::default(), &report, &mut repeated);
+    /// let heard = stations.hear(&node, &lists, &report, &mut repeated);
     /// assert_eq!((heard.answer.repeat, heard.table), (Ok(10), Ok(())));
-    /// let echo = stations.hear(EDITION_1_2, &node, &Lists::default(), &repeated, &mut []);
+    /// let echo = stations.hear(&node, &lists, &repeated, &mut []);
     /// assert_eq!(echo.answer.delivery, Err(Refusal::Echo));
     /// let station = stations.get(1000)?;
     /// assert_eq!((station.reads, station.echoes, station.shortest_path), (2, 1, Some(0)));
@@ -136,15 +136,13 @@ impl Stations {
     /// ```
     pub fn hear(
         &mut self,
-        edition: u64,
         node: &Node,
         lists: &Lists,
         received: &[u8],
         output: &mut [u8],
     ) -> Listened {
-        let (node, lists) = (node.raw(), lists.in_order());
-        let table = &mut self.words;
-        let listened = raw::hear_and_count(edition, node, lists, received, output, table);
+        let (node, lists) = (node.raw(), lists.words());
+        let listened = raw::hear_and_count(node, lists, received, output, &mut self.words);
         Listened {
             answer: Answer::of(listened.answer),
             table: Refusal::check(listened.table_number),

@@ -40,30 +40,19 @@ fn fresh() -> Fresh {
     }
 }
 
-fn source_pass<'a>(first: &'a [u16], second: &'a [u16]) -> Lists<'a> {
-    Lists {
+fn source_pass(first: &[u16], second: &[u16]) -> Result<Lists, ListFault> {
+    Lists::lay(&EightLists {
         source_pass: TwoLists { first, second },
-        ..Lists::default()
-    }
-}
-
-fn node(own: u16) -> Node {
-    Node {
-        own,
-        echo: true,
-        repeating: true,
-        ..Node::default()
-    }
+        ..EightLists::default()
+    })
 }
 
 /// The answers of a walk at node 2000, each with its PDU's place, and where it
 /// ended.
 fn walked(batch: &[u8]) -> (Vec<(usize, Answer)>, usize) {
-    let (node, lists) = (node(2000), Lists::default());
+    let (node, lists) = (Node::new(2000), Lists::none());
     let (mut cursor, mut answers) = (Cursor::default(), vec![]);
-    while let Step::Answered(answer, next) =
-        step(EDITION, &node, &lists, batch, cursor, &mut [0; 4615])
-    {
+    while let Step::Answered(answer, next) = step(&node, &lists, batch, cursor, &mut [0; 4615]) {
         answers.push((cursor.place, answer));
         cursor = next;
     }

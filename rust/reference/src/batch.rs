@@ -1,4 +1,4 @@
-//! 01, "A batch"; number 54. 02, W-209: the walk's edition.
+//! 01, "A batch"; number 54. 02, W-209: 17 in a walk.
 
 use crate::edition::Edition;
 use crate::lists::Lists;
@@ -33,20 +33,14 @@ pub struct Walk {
 /// Walks the batch; each repeated PDU is written at the start of the same
 /// output. Over 16,384 bytes the answer is 54 alone; 17, "before every other
 /// check", is the answer for a PDU, and where there is none, none is given.
-pub fn walk(
-    edition: u64,
-    settings: &Settings,
-    lists: &Lists,
-    batch: &[u8],
-    out: &mut [u8],
-) -> Result<Walk, u8> {
-    if Edition::of(edition).is_ok() && batch.len() > MOST_BATCH {
+pub fn walk(settings: &Settings, lists: &Lists, batch: &[u8], out: &mut [u8]) -> Result<Walk, u8> {
+    if Edition::of(settings.edition).is_ok() && batch.len() > MOST_BATCH {
         return Err(BATCH_SIZE);
     }
     let mut steps = Vec::new();
     let mut end = 0;
     while end < batch.len() {
-        let answer = hear(edition, settings, lists, &batch[end..], out);
+        let answer = hear(settings, lists, &batch[end..], out);
         steps.push(Step {
             offset: end,
             answer,

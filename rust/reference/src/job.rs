@@ -43,7 +43,8 @@ pub fn read_job(bytes: &[u8]) -> Result<Job, u8> {
     })
 }
 
-/// Own address and flags.
+/// Own address and flags. A job has no edition; its text is the same under
+/// both.
 fn read_settings(rest: &mut Cursor) -> Result<Settings, u8> {
     let own_address = rest.word()?;
     let flags = rest.byte()?;
@@ -51,6 +52,7 @@ fn read_settings(rest: &mut Cursor) -> Result<Settings, u8> {
         return Err(JOB_FLAGS);
     }
     Ok(Settings {
+        edition: EDITION_1_2,
         own_address,
         echo: bit(flags, 0),
         repeating: bit(flags, 1),
@@ -105,13 +107,12 @@ pub fn relay(bytes: &[u8]) -> String {
     }
 }
 
-/// The text of a job that could be read. A job has no edition; its text is the
-/// same under both.
+/// The text of a job that could be read.
 fn job_text(job: &Job) -> Result<String, u8> {
     let [a, b, c, d] = &job.lists;
     let lists = Lists::firsts([a, b, c, d]);
     let out = &mut [0; MOST_PDU];
-    let walked = walk(EDITION_1_2, &job.settings, &lists, &job.batch, out)?;
+    let walked = walk(&job.settings, &lists, &job.batch, out)?;
     let mut text = format!("relay {}\n", job.settings.own_address);
     for (place, step) in walked.steps.iter().enumerate() {
         text.push_str(&pdu_line(place + 1, step));

@@ -32,7 +32,9 @@ pub use exchange::{read_exchange, write_exchange, Exchange, MOST_EXCHANGE};
 pub use flood::{bound, bytes_bound, longest_path};
 pub use header::{read, Header, FIXED_LENGTH, MOST_PATH, MOST_PAYLOAD, MOST_PDU};
 pub use job::{read_job, relay, Job};
-pub use lists::{holds, list_fault, Choice, Lists, TwoLists, MOST_RANGES, MOST_VALUES};
+pub use lists::{
+    holds, list_fault, Choice, ListFault, Lists, TwoLists, LISTS, MOST_RANGES, MOST_VALUES,
+};
 pub use node::{hear, Answer, Settings};
 pub use numbers::{described, meaning};
 pub use origin::{originate, Origination};

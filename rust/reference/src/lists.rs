@@ -1,12 +1,15 @@
 //! 01, "One PDU at one node", the lists; numbers 20 to 22. 02, W-211: two of
-//! each kind.
+//! each kind. How eight lists lie in one block of words is this project's own
+//! choice, as `include/mant.h` tells it.
 
-use crate::numbers::{DONE, LONG_LIST, LOW_ABOVE_HIGH, ODD_LIST};
+use crate::numbers::{LONG_LIST, LOW_ABOVE_HIGH, ODD_LIST};
 
 /// 01, "Sizes": each address list holds 0 to 64 ranges.
 pub const MOST_RANGES: usize = 64;
 /// A range is two values, so a list has at most 128.
 pub const MOST_VALUES: usize = 2 * MOST_RANGES;
+/// Two lists of each of four kinds.
+pub const LISTS: usize = 8;
 
 /// 02, W-211: "a choice of first, second or none".
 #[derive(Clone, Copy, Debug, Default, PartialEq, Eq)]
@@ -56,11 +59,11 @@ pub struct Lists<'a> {
 
 impl<'a> Lists<'a> {
     /// Eight empty lists.
-    pub const EMPTY: Lists<'static> = Lists::of([&[]; 8]);
+    pub const EMPTY: Lists<'static> = Lists::of([&[]; LISTS]);
 
     /// The lists in the order in which 01 names their kinds, first before
     /// second.
-    pub const fn of(lists: [&'a [u16]; 8]) -> Lists<'a> {
+    pub const fn of(lists: [&'a [u16]; LISTS]) -> Lists<'a> {
         let [a, b, c, d, e, f, g, h] = lists;
         Lists {
             source_pass: TwoLists {
@@ -82,6 +85,28 @@ impl<'a> Lists<'a> {
         }
     }
 
+    /// The lists that a block of any length holds. Its first eight words are
+    /// their lengths; their values follow back to back. A list ends where the
+    /// block does.
+    pub fn in_block(block: &'a [u16]) -> Lists<'a> {
+        let (lengths, mut rest) = block.split_at(block.len().min(LISTS));
+        let mut lists: [&[u16]; LISTS] = [&[]; LISTS];
+        for (list, length) in lists.iter_mut().zip(lengths) {
+            (*list, rest) = rest.split_at(rest.len().min(usize::from(*length)));
+        }
+        Lists::of(lists)
+    }
+
+    /// The block that holds these lists. Of a list that is too long one value
+    /// too many is laid, so that it still is.
+    pub fn laid(&self) -> Vec<u16> {
+        let cut = |list: &'a [u16]| &list[..list.len().min(MOST_VALUES + 1)];
+        let lists = self.in_order().map(cut);
+        let mut block: Vec<u16> = lists.iter().map(|list| list.len() as u16).collect();
+        block.extend(lists.iter().copied().flatten());
+        block
+    }
+
     /// "Each its kind's first list; the second is empty."
     pub const fn firsts(lists: [&'a [u16]; 4]) -> Lists<'a> {
         let [a, b, c, d] = lists;
@@ -89,7 +114,7 @@ impl<'a> Lists<'a> {
     }
 
     /// "In the order of 01, first before second."
-    pub fn in_order(&self) -> [&'a [u16]; 8] {
+    pub fn in_order(&self) -> [&'a [u16]; LISTS] {
         [
             self.source_pass.first,
             self.source_pass.second,
@@ -103,27 +128,35 @@ impl<'a> Lists<'a> {
     }
 }
 
-/// The first fault of the eight lists, or 0. "All eight are checked", so
-/// nothing is asked about the choice here.
-pub fn list_fault(lists: &Lists) -> u8 {
-    lists
-        .in_order()
-        .into_iter()
-        .map(one_list_fault)
-        .find(|number| *number != DONE)
-        .unwrap_or(DONE)
+/// What is wrong with a node's lists.
+#[derive(Clone, Copy, Debug, PartialEq, Eq)]
+pub struct ListFault {
+    /// 22, 21 or 20.
+    pub number: u8,
+    /// The place of the list among the eight, 0 to 7.
+    pub list: usize,
+}
+
+/// The first fault of the eight lists. "All eight are checked", so nothing is
+/// asked about the choice here.
+pub fn list_fault(lists: &Lists) -> Option<ListFault> {
+    let mut numbers = lists.in_order().into_iter().map(one_list_fault).enumerate();
+    numbers.find_map(|(list, number)| {
+        let number = number?;
+        Some(ListFault { number, list })
+    })
 }
 
 /// "In each 22, 21, then 20."
-fn one_list_fault(list: &[u16]) -> u8 {
+fn one_list_fault(list: &[u16]) -> Option<u8> {
     if list.len() > MOST_VALUES {
-        LONG_LIST
+        Some(LONG_LIST)
     } else if list.len() % 2 == 1 {
-        ODD_LIST
+        Some(ODD_LIST)
     } else if list.chunks(2).any(|range| range[0] > range[1]) {
-        LOW_ABOVE_HIGH
+        Some(LOW_ABOVE_HIGH)
     } else {
-        DONE
+        None
     }
 }
 

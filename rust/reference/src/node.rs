@@ -1,7 +1,7 @@
 //! 01, "One PDU at one node"; numbers 30 to 41. 02, W-203; number 42. 02,
 //! W-209: the node's edition. 02, W-211: the lists chosen.
 
-use crate::edition::{read_under, Edition, Shown};
+use crate::edition::{read_under, Edition, Shown, EDITION_1_2};
 use crate::header::{Header, MOST_PATH};
 use crate::lists::{holds, list_fault, Choice, Lists};
 use crate::numbers::{
@@ -11,8 +11,10 @@ use crate::numbers::{
 use crate::writing::write;
 
 /// A node's settings, but for what the lists hold.
-#[derive(Clone, Copy, Debug, Default, PartialEq, Eq)]
+#[derive(Clone, Copy, Debug, PartialEq, Eq)]
 pub struct Settings {
+    /// The number of its edition.
+    pub edition: u64,
     /// Own address.
     pub own_address: u16,
     /// Echo on.
@@ -27,6 +29,35 @@ pub struct Settings {
     pub destination_pass: Choice,
     /// Which destination reject list is on.
     pub destination_reject: Choice,
+}
+
+impl Settings {
+    /// 02, W-211: "change over by one setting", for each kind the same.
+    pub fn changed_over(self, choice: Choice) -> Settings {
+        Settings {
+            source_pass: choice,
+            source_reject: choice,
+            destination_pass: choice,
+            destination_reject: choice,
+            ..self
+        }
+    }
+}
+
+impl Default for Settings {
+    /// Edition 1.2 and all else off.
+    fn default() -> Settings {
+        Settings {
+            edition: EDITION_1_2,
+            own_address: 0,
+            echo: false,
+            repeating: false,
+            source_pass: Choice::None,
+            source_reject: Choice::None,
+            destination_pass: Choice::None,
+            destination_reject: Choice::None,
+        }
+    }
 }
 
 /// What a node answers to one PDU.
@@ -70,21 +101,14 @@ impl Answer {
 
 /// One PDU at one node, in the order of 01; 17 first. The output changes only
 /// where the repeat number is 0, and only as far as the repeated PDU goes.
-pub fn hear(
-    edition: u64,
-    settings: &Settings,
-    lists: &Lists,
-    received: &[u8],
-    out: &mut [u8],
-) -> Answer {
-    if let Err(number) = Edition::of(edition) {
+pub fn hear(settings: &Settings, lists: &Lists, received: &[u8], out: &mut [u8]) -> Answer {
+    if let Err(number) = Edition::of(settings.edition) {
         return Answer::unread(number);
     }
-    let fault = list_fault(lists);
-    if fault != DONE {
-        return Answer::unread(fault);
+    if let Some(fault) = list_fault(lists) {
+        return Answer::unread(fault.number);
     }
-    let header = match read_under(edition, received).map(Shown::header) {
+    let header = match read_under(settings.edition, received).map(Shown::header) {
         Ok(header) => header,
         Err(number) => return Answer::unread(number),
     };

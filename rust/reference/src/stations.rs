@@ -130,15 +130,14 @@ pub fn counts_as_echo(delivery: u8) -> bool {
 /// unknown edition and a list's fault come before reading, a list's refusal
 /// after it. Gives the node's answer and the table's number.
 pub fn hear_and_count(
-    edition: u64,
     settings: &Settings,
     lists: &Lists,
     received: &[u8],
     out: &mut [u8],
     stations: &mut Stations,
 ) -> (Answer, u8) {
-    let answer = hear(edition, settings, lists, received, out);
-    if Edition::of(edition).is_err() || list_fault(lists) != DONE {
+    let answer = hear(settings, lists, received, out);
+    if Edition::of(settings.edition).is_err() || list_fault(lists).is_some() {
         return (answer, DONE);
     }
     let number = match read(received) {

@@ -1,5 +1,3 @@
-use mathlib.Core.Path.{sym}
-use mathlib.Core.Bool.{and-false}
 use borrow.Author.Needs.{needs}
 use Rattle.decision.proofs.destination_is_in.Statement.{statement}
 use Rattle.decision.proofs.destination_is_in.Tie as tie
@@ -14,7 +12,7 @@ is-in-requires : tie.Need-is-in-requires
 is-in-requires c κs = search needs
 
 returns : tie.Need-returns
-returns c = rw (c .enum-told .given .1) (sym (and-false (c .before .before .before .args .on)))
+returns c = search needs
 
 returns-2 : tie.Need-returns-2
 returns-2 c = rw (c .before .before .destination .given .1) (c .is-in .ensures)

@@ -1,5 +1,3 @@
-use mathlib.Core.Path.{sym}
-use mathlib.Core.Bool.{and-false}
 use borrow.Author.Needs.{needs}
 use Rattle.decision.proofs.destination_is_outside.Statement.{statement}
 use Rattle.decision.proofs.destination_is_outside.Tie as tie
@@ -14,7 +12,7 @@ is-outside-requires : tie.Need-is-outside-requires
 is-outside-requires c κs = search needs
 
 returns : tie.Need-returns
-returns c = rw (c .enum-told .given .1) (sym (and-false (c .before .before .before .args .on)))
+returns c = search needs
 
 returns-2 : tie.Need-returns-2
 returns-2 c = rw (c .before .before .destination .given .1) (c .is-outside .ensures)

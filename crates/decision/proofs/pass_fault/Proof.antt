@@ -11,7 +11,7 @@ is-outside-requires c κs = search needs
 
 returns : tie.Need-returns
 unfolding passFault
-returns c = λ header es ed. rw (es, ed) (sym (gives-here _ 31 _ (omega arith) (sym (c .before .is-outside .ensures) ∙ c .if1 .taken)))
+returns c = sym (gives-here _ 31 _ (omega arith) (sym (c .before .is-outside .ensures) ∙ c .if1 .taken))
 
 is-in-requires : tie.Need-is-in-requires
 is-in-requires c κs = search needs
@@ -19,12 +19,9 @@ is-in-requires c κs = search needs
 returns-2 : tie.Need-returns-2
 unfolding passFault
 returns-2 c =
-    λ header es ed.
     let first = c .before .before in
-    rw (es, ed)
-    (sym
-    (gives-later _ 31 _ (sym (first .before .is-outside .ensures) ∙ first .if1 .left)
-    ∙ gives-here _ 32 _ (omega arith) (sym (c .before .is-in .ensures) ∙ c .if2 .taken)))
+    sym (gives-later _ 31 _ (sym (first .before .is-outside .ensures) ∙ first .if1 .left)
+    ∙ gives-here _ 32 _ (omega arith) (sym (c .before .is-in .ensures) ∙ c .if2 .taken))
 
 destination-is-outside-requires : tie.Need-destination-is-outside-requires
 destination-is-outside-requires c κs = search needs
@@ -32,14 +29,11 @@ destination-is-outside-requires c κs = search needs
 returns-3 : tie.Need-returns-3
 unfolding passFault
 returns-3 c =
-    λ header es ed.
     let second = c .before .before in
     let first = second .before .before in
-    rw (es, ed)
-    (sym
-    (gives-later _ 31 _ (sym (first .before .is-outside .ensures) ∙ first .if1 .left)
+    sym (gives-later _ 31 _ (sym (first .before .is-outside .ensures) ∙ first .if1 .left)
     ∙ gives-later _ 32 _ (sym (second .before .is-in .ensures) ∙ second .if2 .left)
-    ∙ gives-here _ 33 _ (omega arith) (sym (c .before .destination-is-outside .ensures) ∙ c .if3 .taken)))
+    ∙ gives-here _ 33 _ (omega arith) (sym (c .before .destination-is-outside .ensures) ∙ c .if3 .taken))
 
 destination-is-in-requires : tie.Need-destination-is-in-requires
 destination-is-in-requires c κs = search needs
@@ -47,30 +41,24 @@ destination-is-in-requires c κs = search needs
 returns-4 : tie.Need-returns-4
 unfolding passFault
 returns-4 c =
-    λ header es ed.
     let third = c .before .before in
     let second = third .before .before in
     let first = second .before .before in
-    rw (es, ed)
-    (sym
-    (gives-later _ 31 _ (sym (first .before .is-outside .ensures) ∙ first .if1 .left)
+    sym (gives-later _ 31 _ (sym (first .before .is-outside .ensures) ∙ first .if1 .left)
     ∙ gives-later _ 32 _ (sym (second .before .is-in .ensures) ∙ second .if2 .left)
     ∙ gives-later _ 33 _ (sym (third .before .destination-is-outside .ensures) ∙ third .if3 .left)
-    ∙ gives-last _ 34 (sym (c .before .destination-is-in .ensures) ∙ c .if4 .taken)))
+    ∙ gives-last _ 34 (sym (c .before .destination-is-in .ensures) ∙ c .if4 .taken))
 
 returns-5 : tie.Need-returns-5
 unfolding passFault
 returns-5 c =
-    λ header es ed.
     let third = c .before .before in
     let second = third .before .before in
     let first = second .before .before in
-    rw (es, ed)
-    (sym
-    (gives-later _ 31 _ (sym (first .before .is-outside .ensures) ∙ first .if1 .left)
+    sym (gives-later _ 31 _ (sym (first .before .is-outside .ensures) ∙ first .if1 .left)
     ∙ gives-later _ 32 _ (sym (second .before .is-in .ensures) ∙ second .if2 .left)
     ∙ gives-later _ 33 _ (sym (third .before .destination-is-outside .ensures) ∙ third .if3 .left)
-    ∙ gives-none _ 34 (sym (c .before .destination-is-in .ensures) ∙ c .if4 .left)))
+    ∙ gives-none _ 34 (sym (c .before .destination-is-in .ensures) ∙ c .if4 .left))
 
 pub pass-fault-spec : {M : Type 1} → statement M
 pass-fault-spec =

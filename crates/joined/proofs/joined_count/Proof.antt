@@ -5,8 +5,8 @@ use borrow.Author.Needs.{needs}
 use Rattle.joined.proofs.joined_count.Statement.{statement}
 use Rattle.joined.proofs.joined_count.Tie as tie
 
-count-place-requires : tie.Need-count-place-requires
-count-place-requires c κs = search needs
+path-count-place-requires : tie.Need-path-count-place-requires
+path-count-place-requires c κs = search needs
 
 joined-byte-requires : tie.Need-joined-byte-requires
 joined-byte-requires c κs = search needs
@@ -16,7 +16,7 @@ returns c =
     let start = c .before .before .before .before .before in
     let header = now (start .args .header) in
     let payload = now (start .args .payload) in
-    count-there (header ++ payload) _ (start .pre) _ _ (c .before .before .if1 .taken) (c .before .count-place .ensures .0) (c .joined-byte .ensures)
+    count-there (header ++ payload) _ (start .pre) _ _ (c .before .before .if1 .taken) (c .before .path-count-place .ensures .0) (c .joined-byte .ensures)
 
 returns-2 : tie.Need-returns-2
 returns-2 c =
@@ -27,4 +27,4 @@ returns-2 c =
 
 pub joined-count-spec : {M : Type 1} → statement M
 joined-count-spec =
-    tie.close (tie.spec count-place-requires joined-byte-requires returns returns-2)
+    tie.close (tie.spec path-count-place-requires joined-byte-requires returns returns-2)

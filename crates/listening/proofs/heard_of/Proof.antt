@@ -1,9 +1,9 @@
 use Prim.Native.Nat.{ℕ}
-use mathlib.Core.Bool.{Bool, cond}
+use mathlib.Core.Bool.{Bool}
 use mathlib.Core.List.{List}
 use mathlib.Core.Path.{_≡_}
 use Rattle.octets.specs.Octets.{at, wordAt}
-use Rattle.pdu.specs.Header.{isSet, pathBit, sourcePlace, pathCountPlace, headerOf}
+use Rattle.pdu.specs.Header.{isSet, pathBit, sourcePlace, pathCountIn, headerOf}
 use Rattle.counting.specs.declared.Heard.{Heard}
 use borrow.Author.Needs.{needs}
 use Rattle.listening.proofs.heard_of.Statement.{statement}
@@ -23,7 +23,7 @@ path-count-in-requires c κs = search needs
 
 -- what is heard, from bytes and from whether echo dropped the PDU
 heard-is : (bytes : List ℕ) (echo : Bool) {byte0 from count : ℕ} {dropped : Bool} → byte0 ≡ at bytes 0 → from ≡ wordAt bytes sourcePlace → dropped ≡ echo
-    → count ≡ cond (isSet (pathBit byte0)) (at bytes (pathCountPlace byte0)) 0
+    → count ≡ pathCountIn bytes
     → _≡_ {A = Heard} (record { source = from; echo = dropped; «path_bit» = isSet (pathBit byte0); «path_count» = count })
     (record {
       source = headerOf bytes .source;

@@ -1,53 +1,87 @@
-use Prim.Native.Nat.{_≤_, _-_, _%_}
-use mathlib.Core.Path.{_≡_, _∙_, sym}
-use lib.ListN.{length}
-use Rattle.lists.specs.Lists.{faultOf, listsOf, inOrder, listFault}
-use Rattle.lists.proofs.Laws.{rangeFaultFrom, firstFaultFrom, too-long, odd-number, only-ranges, range-right}
-use Rattle.lists.proofs.Laws.{range-wrong, ranges-end, lists-start, list-right, list-wrong, lists-end}
+use Prim.Native.Nat.{_+_, _*_, _≤_, _-_, _%_}
+use mathlib.Core.Path.{_≡_, refl, _∙_, sym, ap₂}
+use denote.Ref.{now}
+use Rattle.lists.specs.Lists.{faultOf, inOrder, faultTold, listsIn, listAt, startOf}
+use Rattle.lists.proofs.Laws.{rangeFaultFrom, toldFrom, too-long, odd-number, only-ranges, ranges-end}
+use Rattle.lists.proofs.Laws.{lists-start, list-right, list-wrong, lists-end, nth-list, nothing-left}
+use Rattle.lists.proofs.Laws.{first-start, start-next, list-length, block-right, block-wrong, block-start}
 use native.Mathlib.Omega.{arith}
 use borrow.Author.Needs.{needs}
 use Rattle.lists.proofs.fault.Statement.{statement}
 use Rattle.lists.proofs.fault.Tie as tie
 
 abbrev Inv-loop : tie.InvT-loop
-Inv-loop a b c d source-pass source-reject destination-pass destination-reject number₀ k list i₀ number i =
-    (i ≤ length list) × (i % 2 ≡ 0) × (number ≡ 0) × (faultOf list ≡ rangeFaultFrom list i)
+Inv-loop block size fault₀ start k list given length end i₀ fault i =
+    (start ≤ i) × (i ≤ end) × ((i - start) % 2 ≡ 0) × (fault ≡ record { number = 0; list = 8 })
+    × (faultOf (listAt block k) ≡ rangeFaultFrom (listAt block k) (i - start))
 
 abbrev μ-loop : tie.MeasureT-loop
-μ-loop a b c d source-pass source-reject destination-pass destination-reject number₀ k list i₀ number i = length list - i
+μ-loop block size fault₀ start k list given length end i₀ fault i = end - i
 
 abbrev Inv-lists : tie.InvT-lists
-Inv-lists a b c d source-pass source-reject destination-pass destination-reject number₀ k₀ number k =
-    (k ≤ 4) × (number ≡ 0)
-    × (listFault (listsOf a b c d)
-    ≡ firstFaultFrom (inOrder (listsOf source-pass source-reject destination-pass destination-reject)) k)
+Inv-lists block size fault₀ start₀ k₀ fault start k =
+    (k ≤ 8) × (fault ≡ record { number = 0; list = 8 }) × (start ≡ startOf block k) × (start ≤ 8 + k * 65535)
+    × (faultTold (listsIn block) ≡ toldFrom (inOrder (listsIn block)) k) × (8 ≤ start)
 
 abbrev μ-lists : tie.MeasureT-lists
-μ-lists a b c d source-pass source-reject destination-pass destination-reject number₀ k₀ number k = 4 - k
+μ-lists block size fault₀ start₀ k₀ fault start k = 8 - k
 
 lists-holds : tie.Need-lists-holds Inv-loop μ-loop Inv-lists μ-lists
-lists-holds c = (omega arith, omega arith, lists-start _)
+lists-holds c = (omega arith, refl, sym (first-start _), omega arith, lists-start _ _ refl, omega arith)
 
-nth-requires : tie.Need-nth-requires Inv-loop μ-loop Inv-lists μ-lists
-nth-requires c κs = search needs
+cast-list : tie.Need-cast-list Inv-loop μ-loop Inv-lists μ-lists
+cast-list c = search needs
+
+mul-word-value : tie.Need-mul-word-value Inv-loop μ-loop Inv-lists μ-lists
+mul-word-value c = search needs
+
+shared-slice-read-word-value :
+    tie.Need-shared-slice-read-word-value Inv-loop μ-loop Inv-lists μ-lists
+shared-slice-read-word-value c = search needs
+
+word-value-requires : tie.Need-word-value-requires Inv-loop μ-loop Inv-lists μ-lists
+word-value-requires c κs = search needs
+
+sub-lesser : tie.Need-sub-lesser Inv-loop μ-loop Inv-lists μ-lists
+sub-lesser c = search needs
+
+lesser-requires : tie.Need-lesser-requires Inv-loop μ-loop Inv-lists μ-lists
+lesser-requires c κs = search needs
+
+add-end : tie.Need-add-end Inv-loop μ-loop Inv-lists μ-lists
+add-end c = search needs
 
 loop-holds : tie.Need-loop-holds Inv-loop μ-loop Inv-lists μ-lists
-loop-holds c = (omega arith, omega arith, omega arith, only-ranges _ (omega arith) (λ e. omega arith))
+loop-holds c =
+    let l = c .before .before in
+    let w = l .before in
+    let s = w .before .before .before .before in
+    let block = now (s .before .before .args .block) in
+    let k = s .lists .k in
+    let list = listAt block k in
+    let long = list-length block k (s .lists .start) _ _ (s .lists .inv .2) (w .word-value .ensures .0) (l .lesser .ensures) in (
+      omega arith,
+      omega arith,
+      omega arith,
+      s .lists .inv .1,
+      only-ranges list (omega (arith, long)) (λ e. omega (arith, long))
+          ∙ block-start block k (s .lists .start) _ _ (s .lists .inv .2) (w .word-value .ensures .0) (l .lesser .ensures),
+    )
 
-mul-if3 : tie.Need-mul-if3 Inv-loop μ-loop Inv-lists μ-lists
-mul-if3 c = search needs
+mul-if4 : tie.Need-mul-if4 Inv-loop μ-loop Inv-lists μ-lists
+mul-if4 c = search needs
 
-shared-slice-read-if3 : tie.Need-shared-slice-read-if3 Inv-loop μ-loop Inv-lists μ-lists
-shared-slice-read-if3 c = search needs
+shared-slice-read-if4 : tie.Need-shared-slice-read-if4 Inv-loop μ-loop Inv-lists μ-lists
+shared-slice-read-if4 c = search needs
 
-add-if3 : tie.Need-add-if3 Inv-loop μ-loop Inv-lists μ-lists
-add-if3 c = search needs
+add-if4 : tie.Need-add-if4 Inv-loop μ-loop Inv-lists μ-lists
+add-if4 c = search needs
 
-mul-if3-2 : tie.Need-mul-if3-2 Inv-loop μ-loop Inv-lists μ-lists
-mul-if3-2 c = search needs
+mul-if4-2 : tie.Need-mul-if4-2 Inv-loop μ-loop Inv-lists μ-lists
+mul-if4-2 c = search needs
 
-shared-slice-read-if3-2 : tie.Need-shared-slice-read-if3-2 Inv-loop μ-loop Inv-lists μ-lists
-shared-slice-read-if3-2 c = search needs
+shared-slice-read-if4-2 : tie.Need-shared-slice-read-if4-2 Inv-loop μ-loop Inv-lists μ-lists
+shared-slice-read-if4-2 c = search needs
 
 add-i : tie.Need-add-i Inv-loop μ-loop Inv-lists μ-lists
 add-i c = search needs
@@ -56,12 +90,25 @@ loop-less : tie.Need-loop-less Inv-loop μ-loop Inv-lists μ-lists
 loop-less c = search needs
 
 loop-again : tie.Need-loop-again Inv-loop μ-loop Inv-lists μ-lists
-loop-again c = (
-  omega arith,
-  omega arith,
-  omega arith,
-  c .before .before .before .before .loop .inv .3 ∙ range-right _ _ _ (omega arith) (omega arith) (omega arith),
-)
+loop-again c =
+    let l = c .before .before .before .before .before .before .before in
+    let w = l .before in
+    let s = w .before .before .before .before in
+    let block = now (s .before .before .args .block) in
+    let k = s .lists .k in
+    let list = listAt block k in
+    let long = list-length block k (s .lists .start) _ _ (s .lists .inv .2) (w .word-value .ensures .0) (l .lesser .ensures) in (
+      omega arith,
+      omega arith,
+      omega arith,
+      c .before .before .before .before .loop .inv .3,
+      c .before .before .before .before .loop .inv .4
+          ∙ block-right block k (s .lists .start) _ _ (s .lists .inv .2) (w .word-value .ensures .0) (l .lesser .ensures) _ _ (omega arith) (omega arith)
+          (omega arith) (omega arith),
+    )
+
+add-start : tie.Need-add-start Inv-loop μ-loop Inv-lists μ-lists
+add-start c = search needs
 
 add-k : tie.Need-add-k Inv-loop μ-loop Inv-lists μ-lists
 add-k c = search needs
@@ -71,33 +118,68 @@ lists-less c = search needs
 
 lists-again : tie.Need-lists-again Inv-loop μ-loop Inv-lists μ-lists
 lists-again c =
-    let n = c .before .before .before .before in (
+    let l = c .before .before .before .before in
+    let w = l .before in
+    let s = w .before .before .before .before in
+    let block = now (s .before .before .args .block) in
+    let k = s .lists .k in
+    let list = listAt block k in
+    let long = list-length block k (s .lists .start) _ _ (s .lists .inv .2) (w .word-value .ensures .0) (l .lesser .ensures) in (
       omega arith,
+      c .before .loop .inv .3,
+      ap₂ _+_ (s .lists .inv .2) (w .word-value .ensures .0) ∙ sym (start-next _ _),
+      omega (arith, w .word-value .ensures .1),
+      s .lists .inv .4
+          ∙ list-right _ k list (omega arith) (sym (nth-list block k (omega arith)))
+          (c .before .loop .inv .4 ∙ ranges-end list _ (omega (arith, long))),
       omega arith,
-      n .before .before .lists .inv .2
-          ∙ list-right _ _ _ (omega arith) (n .nth .ensures) (c .before .loop .inv .3 ∙ ranges-end _ _ (omega arith)),
     )
 
 returns : tie.Need-returns Inv-loop μ-loop Inv-lists μ-lists
-returns c = c .before .lists .inv .1 ∙ sym (c .before .lists .inv .2 ∙ lists-end _ _ (omega arith))
+returns c = c .before .lists .inv .1 ∙ sym (c .before .lists .inv .4 ∙ lists-end _ _ (omega arith))
 
 returns-2 : tie.Need-returns-2 Inv-loop μ-loop Inv-lists μ-lists
-returns-2 c =
-    let n = c .before in
-    sym (n .before .before .lists .inv .2 ∙ list-wrong _ _ _ _ (omega arith) (n .nth .ensures) (too-long _ (omega arith)) (omega arith))
+returns-2 c = let s = c .before .before in s .lists .inv .1 ∙ sym (s .lists .inv .4 ∙ nothing-left _ _ _ (omega arith) (s .lists .inv .2) (omega arith))
 
 returns-3 : tie.Need-returns-3 Inv-loop μ-loop Inv-lists μ-lists
 returns-3 c =
-    let n = c .before .before in
-    sym (n .before .before .lists .inv .2
-    ∙ list-wrong _ _ _ _ (omega arith) (n .nth .ensures) (odd-number _ (omega arith) (omega arith)) (omega arith))
+    let l = c .before in
+    let w = l .before in
+    let s = w .before .before .before .before in
+    let block = now (s .before .before .args .block) in
+    let k = s .lists .k in
+    let list = listAt block k in
+    let long = list-length block k (s .lists .start) _ _ (s .lists .inv .2) (w .word-value .ensures .0) (l .lesser .ensures) in
+    sym (s .lists .inv .4
+    ∙ list-wrong _ k 22 list (omega arith) (sym (nth-list block k (omega arith))) (too-long list (omega (arith, long))) (omega arith))
 
 returns-4 : tie.Need-returns-4 Inv-loop μ-loop Inv-lists μ-lists
 returns-4 c =
-    let l = c .before .before .before .before in
-    let n = l .before .before .before in
-    sym (n .before .before .lists .inv .2
-    ∙ list-wrong _ _ _ _ (omega arith) (n .nth .ensures) (l .loop .inv .3 ∙ range-wrong _ _ (omega arith) (omega arith)) (omega arith))
+    let l = c .before .before in
+    let w = l .before in
+    let s = w .before .before .before .before in
+    let block = now (s .before .before .args .block) in
+    let k = s .lists .k in
+    let list = listAt block k in
+    let long = list-length block k (s .lists .start) _ _ (s .lists .inv .2) (w .word-value .ensures .0) (l .lesser .ensures) in
+    sym (s .lists .inv .4
+    ∙ list-wrong _ k 21 list (omega arith) (sym (nth-list block k (omega arith)))
+    (odd-number list (omega (arith, long)) (omega (arith, long))) (omega arith))
+
+returns-5 : tie.Need-returns-5 Inv-loop μ-loop Inv-lists μ-lists
+returns-5 c =
+    let l = c .before .before .before .before .before .before .before in
+    let w = l .before in
+    let s = w .before .before .before .before in
+    let block = now (s .before .before .args .block) in
+    let k = s .lists .k in
+    let list = listAt block k in
+    let long = list-length block k (s .lists .start) _ _ (s .lists .inv .2) (w .word-value .ensures .0) (l .lesser .ensures) in
+    sym (s .lists .inv .4
+    ∙ list-wrong _ k 20 list (omega arith) (sym (nth-list block k (omega arith)))
+    (c .before .before .before .before .loop .inv .4
+    ∙ block-wrong block k (s .lists .start) _ _ (s .lists .inv .2) (w .word-value .ensures .0) (l .lesser .ensures) _ (omega arith) (omega arith)
+    (omega arith)) (omega arith))
 
 pub fault-spec : {M : Type 1} → statement M
 fault-spec =
@@ -108,20 +190,28 @@ fault-spec =
     Inv-lists
     μ-lists
     lists-holds
-    nth-requires
+    cast-list
+    mul-word-value
+    shared-slice-read-word-value
+    word-value-requires
+    sub-lesser
+    lesser-requires
+    add-end
     loop-holds
-    mul-if3
-    shared-slice-read-if3
-    add-if3
-    mul-if3-2
-    shared-slice-read-if3-2
+    mul-if4
+    shared-slice-read-if4
+    add-if4
+    mul-if4-2
+    shared-slice-read-if4-2
     add-i
     loop-less
     loop-again
+    add-start
     add-k
     lists-less
     lists-again
     returns
     returns-2
     returns-3
-    returns-4)
+    returns-4
+    returns-5)

@@ -8,14 +8,11 @@ use Rattle.octets.proofs.cut_word.Tie as tie
 byte-requires : tie.Need-byte-requires
 byte-requires c κs = search needs
 
-wide-requires : tie.Need-wide-requires
-wide-requires c κs = search needs
-
-mul-result : tie.Need-mul-result
-mul-result c = search needs
+word-of-requires : tie.Need-word-of-requires
+word-of-requires c κs = search needs
 
 returns : tie.Need-returns
 returns c = let e = c .before .before .before in let a = e .args in omega (arith, cut-word (now (a .bytes)) (a .i) (e .pre))
 
 pub cut-word-spec : {M : Type 1} → statement M
-cut-word-spec = tie.close (tie.spec byte-requires wide-requires mul-result returns)
+cut-word-spec = tie.close (tie.spec byte-requires word-of-requires returns)

@@ -1,6 +1,6 @@
 use denote.Ref.{now}
 use mathlib.Core.Path.{_∙_}
-use Rattle.pdu.proofs.Showing.{length-told}
+use Rattle.pdu.proofs.Showing.{header-told, length-told}
 use native.Mathlib.Omega.{arith}
 use borrow.Author.Needs.{needs}
 use Rattle.pdu.proofs.pdu_length_in.Statement.{statement}
@@ -39,8 +39,8 @@ returns c =
     let at-byte3 = at-payload .before in
     let at-byte2 = at-byte3 .before in
     let bytes = now (at-byte2 .before .before .args .bytes) in (
-      length-told bytes _ _ _ _ _ _ (at-byte0 .byte3 .ensures) (at-byte2 .byte .ensures) (at-byte3 .byte2 .ensures) (at-count .path-count-in .ensures)
-          (at-head .header-length-in .ensures .0) (c .word-value .ensures .0 ∙ at-payload .payload-length .ensures),
+      length-told bytes (header-told bytes (at-byte0 .byte3 .ensures) (at-count .path-count-in .ensures) (at-head .header-length-in .ensures .0))
+          (at-byte2 .byte .ensures) (at-byte3 .byte2 .ensures) (c .word-value .ensures .0 ∙ at-payload .payload-length .ensures),
       omega (arith, at-head .header-length-in .ensures .1, c .word-value .ensures .0, at-payload .payload-length .ensures),
     )
 

@@ -1,47 +1,36 @@
-use Prim.Native.Nat.{_<_, _≤_}
-use mathlib.Core.Path.{ap, sym, _∙_}
+use mathlib.Core.Path.{refl, ap, sym, _∙_}
 use denote.Ref.{now}
-use lib.ListN.{length}
-use borrow.Author.Tests.{lt-ltb}
 use Rattle.pdu.specs.declared.Header.{Header}
 use Rattle.pdu.specs.declared.Reading.the-variants.{Pdu}
-use Rattle.pdu.specs.Header.{headerOf}
 use Rattle.pdu.specs.Sizes.{headerLength, pduLength}
 use Rattle.pdu.specs.Reading.{readOf}
-use Rattle.pdu.proofs.Inversion.{read-whole}
-use Rattle.pdu.proofs.Faults.{passes, first-byte-given, header-cut, payload-cut}
-use Rattle.pdu.proofs.Number.{reading-within, read-refused}
+use Rattle.pdu.proofs.Faults.{start-given, end-given}
+use Rattle.pdu.proofs.Showing.{header-found}
+use Rattle.pdu.proofs.Number.{reading-within, read-refused, read-0}
 use native.Mathlib.Omega.{arith}
 use borrow.Author.Needs.{needs}
 use Rattle.pdu.proofs.read.Statement.{statement}
 use Rattle.pdu.proofs.read.Tie as tie
 
-returns : tie.Need-returns
-unfolding readOf
-returns c = simp (lt-ltb _ _ (c .if1 .taken))
+byte-requires : tie.Need-byte-requires
+byte-requires c κs = search needs
 
-shared-slice-read-first-byte-fault : tie.Need-shared-slice-read-first-byte-fault
-shared-slice-read-first-byte-fault c = search needs
-
-first-byte-fault-requires : tie.Need-first-byte-fault-requires
-first-byte-fault-requires c κs = search needs
+start-fault-requires : tie.Need-start-fault-requires
+start-fault-requires c κs = search needs
 
 refusal-of-requires : tie.Need-refusal-of-requires
 refusal-of-requires c κs =
     let first = c .before in
-    let six = first .before .before in
-    let bytes = now (six .before .before .args .bytes) in
-    let given = first-byte-given bytes (six .if1 .left) (first .first-byte-fault .ensures) (c .if2 .taken) in
-    let within = reading-within (readOf bytes) in
-    (omega arith, omega (arith, given, within))
+    let bytes = now (first .before .before .before .args .bytes) in
+    let given = start-given bytes refl (first .before .byte .ensures) (first .start-fault .ensures) (c .if1 .taken) in
+    (omega arith, omega (arith, given, reading-within (readOf bytes)))
 
-returns-2 : tie.Need-returns-2
-returns-2 c =
+returns : tie.Need-returns
+returns c =
     let first = c .before .before in
-    let six = first .before .before in
-    let bytes = now (six .before .before .args .bytes) in
-    read-refused _ _
-    (c .refusal-of .ensures ∙ first-byte-given bytes (six .if1 .left) (first .first-byte-fault .ensures) (c .before .if2 .taken))
+    let bytes = now (first .before .before .before .args .bytes) in
+    let given = start-given bytes refl (first .before .byte .ensures) (first .start-fault .ensures) (c .before .if1 .taken) in
+    read-refused (readOf bytes) _ (c .refusal-of .ensures ∙ given)
 
 destination-in-requires : tie.Need-destination-in-requires
 destination-in-requires c κs = search needs
@@ -58,69 +47,90 @@ header-from-requires c κs = search needs
 header-length-requires : tie.Need-header-length-requires
 header-length-requires c κs = search needs
 
-returns-3 : tie.Need-returns-3
-returns-3 c =
-    let size = c .before in
-    let header = size .before in
-    let number = header .before .before .before .before in
-    let first = number .before in
-    let six = first .before .before in
-    let bytes = now (six .before .before .args .bytes) in
-    let told = size .header-length .ensures .0 ∙ ap (λ (h : Header). headerLength h) (header .header-from .ensures) in
-    let cut : length bytes < headerLength (headerOf bytes) = omega (arith, told) in
-    read-refused _ _ (sym (header-cut bytes (six .if1 .left) (passes _ (first .first-byte-fault .ensures) (number .if2 .left)) cut))
-
 pdu-length-requires : tie.Need-pdu-length-requires
 pdu-length-requires c κs = search needs
 
-returns-4 : tie.Need-returns-4
-returns-4 c =
-    let size = c .before in
-    let head = size .before .before in
-    let header = head .before in
-    let number = header .before .before .before .before in
-    let first = number .before in
-    let six = first .before .before in
-    let bytes = now (six .before .before .args .bytes) in
-    let header-told = head .header-length .ensures .0 ∙ ap (λ (h : Header). headerLength h) (header .header-from .ensures) in
-    let told = size .pdu-length .ensures .0 ∙ ap (λ (h : Header). pduLength h) (header .header-from .ensures) in
-    let there : headerLength (headerOf bytes) ≤ length bytes = omega (arith, header-told) in
-    let cut : length bytes < pduLength (headerOf bytes) = omega (arith, told) in
-    read-refused _ _ (sym (payload-cut bytes (six .if1 .left) (passes _ (first .first-byte-fault .ensures) (number .if2 .left)) there cut))
+end-fault-requires : tie.Need-end-fault-requires
+end-fault-requires c κs = search needs
 
-returns-5 : tie.Need-returns-5
-returns-5 c =
-    let size = c .before in
-    let header = size .before .before .before in
-    let number = header .before .before .before .before in
-    let first = number .before in
-    let six = first .before .before in
-    let bytes = now (six .before .before .args .bytes) in
-    let told = size .pdu-length .ensures .0 ∙ ap (λ (h : Header). pduLength h) (header .header-from .ensures) in
-    let p = passes _ (first .first-byte-fault .ensures) (number .if2 .left) in
-    ap Pdu (header .header-from .ensures) ∙ sym (read-whole bytes (record {
-      six = six .if1 .left;
-      version-0 = p .version-0;
-      known = p .known;
-      addressed = p .addressed;
-      all = omega (arith, told);
-    }))
+refusal-of-requires-2 : tie.Need-refusal-of-requires-2
+refusal-of-requires-2 c κs =
+    let end = c .before in
+    let whole = end .before in
+    let head = whole .before in
+    let header = head .before in
+    let count = header .before in
+    let id = count .before in
+    let to = id .before in
+    let none = to .before in
+    let first = none .before in
+    let bytes = now (first .before .before .before .args .bytes) in
+    let found =
+    header .header-from .ensures
+    ∙ header-found bytes (to .destination-in .ensures) (id .pdu-id-in .ensures) (count .path-count-in .ensures) in
+    let given =
+    end-given bytes refl (first .before .byte .ensures) (first .start-fault .ensures) (none .if1 .left) (end .end-fault .ensures)
+    (head .header-length .ensures .0 ∙ ap (λ (h : Header). headerLength h) found)
+    (whole .pdu-length .ensures .0 ∙ ap (λ (h : Header). pduLength h) found) in
+    (omega arith, omega (arith, given, reading-within (readOf bytes)))
+
+returns-2 : tie.Need-returns-2
+returns-2 c =
+    let end = c .before .before in
+    let whole = end .before in
+    let head = whole .before in
+    let header = head .before in
+    let count = header .before in
+    let id = count .before in
+    let to = id .before in
+    let none = to .before in
+    let first = none .before in
+    let bytes = now (first .before .before .before .args .bytes) in
+    let found =
+    header .header-from .ensures
+    ∙ header-found bytes (to .destination-in .ensures) (id .pdu-id-in .ensures) (count .path-count-in .ensures) in
+    let given =
+    end-given bytes refl (first .before .byte .ensures) (first .start-fault .ensures) (none .if1 .left) (end .end-fault .ensures)
+    (head .header-length .ensures .0 ∙ ap (λ (h : Header). headerLength h) found)
+    (whole .pdu-length .ensures .0 ∙ ap (λ (h : Header). pduLength h) found) in
+    read-refused (readOf bytes) _ (c .refusal-of2 .ensures ∙ given)
+
+returns-3 : tie.Need-returns-3
+returns-3 c =
+    let end = c .before in
+    let whole = end .before in
+    let head = whole .before in
+    let header = head .before in
+    let count = header .before in
+    let id = count .before in
+    let to = id .before in
+    let none = to .before in
+    let first = none .before in
+    let bytes = now (first .before .before .before .args .bytes) in
+    let found =
+    header .header-from .ensures
+    ∙ header-found bytes (to .destination-in .ensures) (id .pdu-id-in .ensures) (count .path-count-in .ensures) in
+    let given =
+    end-given bytes refl (first .before .byte .ensures) (first .start-fault .ensures) (none .if1 .left) (end .end-fault .ensures)
+    (head .header-length .ensures .0 ∙ ap (λ (h : Header). headerLength h) found)
+    (whole .pdu-length .ensures .0 ∙ ap (λ (h : Header). pduLength h) found) in
+    ap Pdu found ∙ sym (read-0 bytes (sym given ∙ c .if2 .left))
 
 pub read-spec : {M : Type 1} → statement M
 read-spec =
     tie.close
     (tie.spec
-    returns
-    shared-slice-read-first-byte-fault
-    first-byte-fault-requires
+    byte-requires
+    start-fault-requires
     refusal-of-requires
-    returns-2
+    returns
     destination-in-requires
     pdu-id-in-requires
     path-count-in-requires
     header-from-requires
     header-length-requires
-    returns-3
     pdu-length-requires
-    returns-4
-    returns-5)
+    end-fault-requires
+    refusal-of-requires-2
+    returns-2
+    returns-3)

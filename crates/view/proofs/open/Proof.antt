@@ -1,4 +1,4 @@
--- `view::open` meets its contract: a walk of its MIR. The places that `find_places` answers are held in a local, and the view is made of them and
+-- `view::open` meets its contract: a walk of its MIR. The extent that `extent_of` returns is held in a local, and the view is made of it and
 -- the slice in the result's.
 -- A `&[u8]` is Copy, so what it owns is had twice: for the parameter at exit, and inside the view.
 use mathlib.Core.Path.{_≡_, refl, ap, subst}
@@ -39,15 +39,14 @@ use denote.Triple.Spec.{Meets, tripleOf}
 use denote.Triple.Table.{entered, cited}
 use denote.Triple.Walked.{says, Stays, stay-none-slice, walkOf, goes-none-slice, Walks, ends-at, walked, walk-meets}
 use denote.Exit.{yes}
-use Rattle.view.specs.View.{placesOf}
-use Rattle.pdu.specs.Reading.{readOf}
-use Rattle.view.proofs.find_places as find
-use Rattle.view.proofs.find_places.Symbol as find-def
-use Rattle.view.proofs.find_places.Met as find-thm
+use Rattle.pdu.specs.Reading.{readOf, extentOf}
+use Rattle.pdu.specs.declared.Extent.{Extent}
+use Rattle.pdu.proofs.Extent as P
+use Rattle.pdu.proofs.Extent.Laws as P′
+use Rattle.pdu.proofs.extent_of as find
+use Rattle.pdu.proofs.extent_of.Symbol as find-def
+use Rattle.pdu.proofs.extent_of.Met as find-thm
 use Rattle.view.specs.declared.Pdu.{Pdu}
-use Rattle.view.specs.declared.Places.{Places}
-use Rattle.view.proofs.Places as P
-use Rattle.view.proofs.Places.Laws as P′
 use Rattle.view.proofs.Pdu as T
 use Rattle.view.proofs.Pdu.Laws as T′
 use Rattle.view.proofs.open.Key as key
@@ -70,10 +69,10 @@ module _ {M : Type 1} (𝓤 : URA M) (H : Heap 𝓤) (A : Atoms 𝓤) (W : Given
   abbrev v : Val
   v = sliceVal (s .ptr) (length (s .now))
 
-  abbrev w : Places → Val
+  abbrev w : Extent → Val
   w = LL.val P.the-type P′.the-laws
 
-  abbrev made : Places → Pdu
+  abbrev made : Extent → Pdu
   made p = record { bytes = s; at = p }
 
   abbrev at : List Val × Unit {0}
@@ -88,7 +87,7 @@ module _ {M : Type 1} (𝓤 : URA M) (H : Heap 𝓤) (A : Atoms 𝓤) (W : Given
   abbrev Token : Item 𝓤
   Token = ‵ (flft κ q) ⊛ ‵ ftrue
 
-  -- the call of `find_places`, which asks what `open` itself was asked
+  -- the call of `extent_of`, which asks what `open` itself was asked
   abbrev to-find : Find 𝓤 H A mem run .Ghost
   to-find = (((κ, tt), (q, tt), tt, (s, tt), at), tt)
 
@@ -99,11 +98,11 @@ module _ {M : Type 1} (𝓤 : URA M) (H : Heap 𝓤) (A : Atoms 𝓤) (W : Given
       move ! (0 ∷ 2 ∷ []) $ fjoin ! $ move ! (2 ∷ 0 ∷ []) $ use2 W (raw (Find 𝓤 H A mem run .pre to-find))
       (qed W (Token ∷ ‵ (owns (ShrSlice (named 0) κ u8 ∷ []) (s, tt) at) ∷ []) ∵ join ! $ frame ! $ done !) $ frame ! $ done !
 
-  said : (p : Places) → ent 𝓤 (ensured 𝓤 H A find.ended (find.clauses 𝓤 H A mem run) (κ, tt) (s, tt) tt p)
-      (fact 𝓤 (p ≡ placesOf (readOf (now s))))
-  said p = exE 𝓤 _ (λ ws. snd∗ 𝓤 (sem 𝓤 H A (lasts find.ended (κ, tt) (s, tt) ws)) (fact 𝓤 (p ≡ placesOf (readOf (now s)))))
+  said : (p : Extent) → ent 𝓤 (ensured 𝓤 H A find.ended (find.clauses 𝓤 H A mem run) (κ, tt) (s, tt) tt p)
+      (fact 𝓤 (p ≡ extentOf (readOf (now s))))
+  said p = exE 𝓤 _ (λ ws. snd∗ 𝓤 (sem 𝓤 H A (lasts find.ended (κ, tt) (s, tt) ws)) (fact 𝓤 (p ≡ extentOf (readOf (now s)))))
 
-  exits : (p : Places) → p ≡ placesOf (readOf (now s))
+  exits : (p : Extent) → p ≡ extentOf (readOf (now s))
       → ent 𝓤 (⋆ 𝓤 H A (‵ (P.the-row .own p (w p ∷ [])) ∷ Token ∷ ‵ Own ∷ [])) (Post (T′.lowered (made p)))
   exits p e =
       qed W (‵ (P.the-row .own p (w p ∷ [])) ∷ Token ∷ ‵ Own ∷ []) ∵
@@ -125,11 +124,11 @@ module _ {M : Type 1} (𝓤 : URA M) (H : Heap 𝓤) (A : Atoms 𝓤) (W : Given
         (init ! 2 refl (shr-slice-lawful 𝓤 H A W (named 0) κ u8 .typed s (v ∷ []) is .0)) $ pass0 ! $
         move ! (6 ∷ []) $ use1 W (raw (Find 𝓤 H A mem run .pre to-find) ⊛ ‵ Own) goes-find $ split ! $
         calls-at ! fm (Find 𝓤 H A mem run) known to-find (and-then ! (load ! (from ! (stop !)) (look ! 4 refl)) (no-more !)) (λ u.
-        use1 W (later (some (λ (p : Places). (Token ⊛ ‵ (P.the-row .own p (u ∷ []))) ⊛ raw
+        use1 W (later (some (λ (p : Extent). (Token ⊛ ‵ (P.the-row .own p (u ∷ []))) ⊛ raw
         (ensured 𝓤 H A find.ended (find.clauses 𝓤 H A mem run) (κ, tt) (s, tt) tt p)))) (id⊢ 𝓤 _) $ await ! tt $ pick ! (λ p.
-        split ! $ move ! (1 ∷ []) $ use1 W (raw (fact 𝓤 (p ≡ placesOf (readOf (now s))))) (said p) $ heard ! (p ≡ placesOf (readOf (now s)))
+        split ! $ move ! (1 ∷ []) $ use1 W (raw (fact 𝓤 (p ≡ extentOf (readOf (now s))))) (said p) $ heard ! (p ≡ extentOf (readOf (now s)))
         (λ e. split ! $ move ! (1 ∷ []) $
-        -- [what the places own; the token; what s owns; room for _2; …; _1; …; room for _0; …]
+        -- [what the extent owns; the token; what s owns; room for _2; …; _1; …; room for _0; …]
         peeks ! P.the-row (Is P.the-row) (shows 𝓤 H A P.the-row) p (u ∷ []) (λ gp.
         land ! (from ! (stop !)) (init ! 3 refl (LL.lawful P.the-type P′.the-laws 𝓤 H A W .typed p _ gp .0)) $
         rewrite ! 0 (λ (x : Val). ‵ (P.the-row .own p (x ∷ []))) (ap only (LL.tells P.the-type P′.the-laws p (u ∷ []) gp)) refl $
@@ -170,5 +169,5 @@ open-spec 𝓤 H 𝓜 𝓖 𝓡 =
     entered 𝓤 H (tripleOf 𝓤 H (𝓖 .A) open′.signature (open′.spec 𝓤 H (𝓖 .A) (𝓜 .mem) (𝓡 .run)))
     (tables 𝓤 H 𝓜 𝓡 code.env .C) (tables 𝓤 H 𝓜 𝓡 code.env .Λ) key.name code.function (code.unfolded 𝓤 H 𝓜 𝓡)
     (open-meets 𝓤 H (𝓖 .A) (givenOf 𝓤 H 𝓜 𝓖) (𝓜 .mem) (𝓡 .run) (tablesOf 𝓤 H 𝓜 (tables 𝓤 H 𝓜 𝓡 code.env))
-    (cited 𝓤 H (Find 𝓤 H (𝓖 .A) (𝓜 .mem) (𝓡 .run)) 𝓜 𝓡 code.env find-def.name find-def.routine code.calls-view·find-places
+    (cited 𝓤 H (Find 𝓤 H (𝓖 .A) (𝓜 .mem) (𝓡 .run)) 𝓜 𝓡 code.env find-def.name find-def.routine code.calls-pdu·extent-of
     (find-thm.met 𝓤 H 𝓜 𝓖 𝓡)))

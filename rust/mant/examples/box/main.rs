@@ -11,8 +11,8 @@
 mod modem;
 
 use mant::{
-    list_fault, originate, read, Answer, Bits, Choice, Deed, Fresh, Header, Key, Lists, Names,
-    Node, Queue, Record, Refusal, Reliable, Sending, Stations, TwoLists, EDITION_1_2,
+    originate, read, Answer, Bits, Choice, Deed, EightLists, Fresh, Header, Key, ListFault, Lists,
+    Names, Node, Queue, Record, Refusal, Reliable, Sending, Stations, TwoLists, EDITION_1_2,
     PAYLOAD_LIMIT, PDU_LIMIT,
 };
 
@@ -27,17 +27,8 @@ const TRIES: u64 = 2; // times that it is sent again
 const KEY: Key = Key {
     bytes: *b"keep me secret!!",
 };
-const LISTS: Lists = Lists {
-    source_pass: NONE,
-    source_reject: TwoLists {
-        first: &[1300, 1399],
-        second: &[],
-    },
-    destination_pass: NONE,
-    destination_reject: NONE,
-};
-const NONE: TwoLists = TwoLists {
-    first: &[],
+const SOURCE_REJECT: TwoLists = TwoLists {
+    first: &[1300, 1399],
     second: &[],
 };
 
@@ -45,6 +36,7 @@ const NONE: TwoLists = TwoLists {
 /// what a call writes. The record and the ID are kept over a restart (`save`).
 struct Repeater {
     node: Node,
+    lists: Lists,
     sending: Sending,
     stations: Stations,
     queue: Queue,
@@ -61,15 +53,16 @@ struct Repeater {
 }
 
 impl Repeater {
-    fn new() -> Repeater {
-        Repeater {
+    fn new() -> Result<Repeater, ListFault> {
+        Ok(Repeater {
             node: Node {
-                own: OWN,
-                echo: true,
-                repeating: true,
                 source_reject: Choice::First,
-                ..Node::default()
+                ..Node::new(OWN)
             },
+            lists: Lists::lay(&EightLists {
+                source_reject: SOURCE_REJECT,
+                ..EightLists::default()
+            })?,
             sending: Sending {
                 hop_limit: HOP_LIMIT,
                 with_path: true,
@@ -85,7 +78,7 @@ impl Repeater {
             output: [0; PDU_LIMIT],
             plain: [0; PAYLOAD_LIMIT],
             slot: [0; SLOT_BYTES],
-        }
+        })
     }
 
     /// A frame has PDUs back to back. What follows one that cannot be read is
@@ -102,8 +95,8 @@ impl Repeater {
     /// The PDU at the start of the bytes; gives its length, or 0 where it cannot
     /// be read.
     fn hear(&mut self, bytes: &[u8]) -> usize {
-        let (node, output) = (&self.node, &mut self.output);
-        let heard = self.stations.hear(EDITION_1_2, node, &LISTS, bytes, output);
+        let (node, lists, output) = (&self.node, &self.lists, &mut self.output);
+        let heard = self.stations.hear(node, lists, bytes, output);
         let answer = heard.answer;
         done("table of stations", heard.table);
         if let Some(length) = done("repeat", answer.repeat) {
@@ -259,9 +252,8 @@ fn print_hex(name: &str, bytes: &[u8]) {
     println!("    {name}, {} bytes{colon}{digits}", bytes.len());
 }
 
-fn main() -> Result<(), Refusal> {
-    list_fault(&LISTS)?;
-    let mut repeater = Repeater::new();
+fn main() -> Result<(), ListFault> {
+    let mut repeater = Repeater::new()?;
     for now in 1..=40 {
         for (what, frame) in modem::heard_at(now) {
             println!("{now} s: {what}");

@@ -1,8 +1,5 @@
 //! What is delivered and what is repeated, for one PDU or over a batch.
 
-use super::lists::{takes_lists, with_lists};
-use super::Lists;
-
 /// `MANT_ANSWERED`.
 pub const ANSWERED: u8 = 0;
 /// `MANT_ENDED`.
@@ -15,6 +12,9 @@ pub const REFUSED: u8 = 2;
 #[repr(C)]
 #[derive(Clone, Copy, Debug, Default, PartialEq, Eq)]
 pub struct Node {
+    /// [`EDITION_1_1`](super::EDITION_1_1) or
+    /// [`EDITION_1_2`](super::EDITION_1_2).
+    pub edition: u64,
     /// Its own address.
     pub own: u16,
     /// Drop a PDU whose path holds the own address, or whose source it is.
@@ -86,56 +86,68 @@ pub struct Step {
 
 // The sizes that the header asserts.
 const _: () = {
-    assert!(size_of::<Node>() == 8);
+    assert!(size_of::<Node>() == 16);
     assert!(size_of::<Answer>() == 40);
     assert!(size_of::<Cursor>() == 16);
     assert!(size_of::<Step>() == 64);
 };
 
-takes_lists!(
-    fn mant_hear_eight(
-        edition: u64, settings: Node;
-        received: *const u8, received_length: usize, output: *mut u8, output_length: usize
-    ) -> Answer
-);
-
-// The cursor goes as its two fields. By then the registers are taken on both
-// processors, so either way it lies on the stack, 8 bytes for each; as a struct
-// it would be copied there whole right after its fields were written one by
-// one, which is slow.
-takes_lists!(
-    fn mant_step_eight(
-        edition: u64, settings: Node;
+// The cursor is passed as its two fields. On both processors each lands where it
+// would as a part of the struct, on x86-64 on the stack. A struct would be copied
+// there whole right after its fields were written one by one, which is slow.
+#[rustfmt::skip]
+extern "C" {
+    fn mant_hear(
+        node: Node, lists: *const u16, lists_length: usize,
+        received: *const u8, received_length: usize, output: *mut u8, output_length: usize,
+    ) -> Answer;
+    fn mant_step(
+        node: Node, lists: *const u16, lists_length: usize,
         batch: *const u8, batch_length: usize, cursor_place: usize, cursor_ended: bool,
-        output: *mut u8, output_length: usize
-    ) -> Step
-);
-
-/// `mant_hear_eight`.
-#[inline]
-pub fn hear(
-    edition: u64,
-    settings: Node,
-    lists: Lists,
-    received: &[u8],
-    output: &mut [u8],
-) -> Answer {
-    let (room, length) = (output.as_mut_ptr(), output.len());
-    let (from, given) = (received.as_ptr(), received.len());
-    with_lists!(mant_hear_eight: edition, settings; lists; from, given, room, length)
+        output: *mut u8, output_length: usize,
+    ) -> Step;
+    fn mant_change_over(node: Node, choice: u64) -> Node;
 }
 
-/// `mant_step_eight`.
+/// `mant_hear`.
 #[inline]
-pub fn step(
-    edition: u64,
-    settings: Node,
-    lists: Lists,
-    batch: &[u8],
-    cursor: Cursor,
-    output: &mut [u8],
-) -> Step {
-    let (room, length) = (output.as_mut_ptr(), output.len());
-    let (from, given) = (batch.as_ptr(), batch.len());
-    with_lists!(mant_step_eight: edition, settings; lists; from, given, cursor.place, cursor.ended, room, length)
+pub fn hear(node: Node, lists: &[u16], received: &[u8], output: &mut [u8]) -> Answer {
+    // SAFETY: here and below, pointers and lengths are those of live slices,
+    // and what is changed is borrowed alone.
+    unsafe {
+        mant_hear(
+            node,
+            lists.as_ptr(),
+            lists.len(),
+            received.as_ptr(),
+            received.len(),
+            output.as_mut_ptr(),
+            output.len(),
+        )
+    }
+}
+
+/// `mant_step`.
+#[inline]
+pub fn step(node: Node, lists: &[u16], batch: &[u8], cursor: Cursor, output: &mut [u8]) -> Step {
+    // SAFETY: as above.
+    unsafe {
+        mant_step(
+            node,
+            lists.as_ptr(),
+            lists.len(),
+            batch.as_ptr(),
+            batch.len(),
+            cursor.place,
+            cursor.ended,
+            output.as_mut_ptr(),
+            output.len(),
+        )
+    }
+}
+
+/// `mant_change_over`.
+pub fn change_over(node: Node, choice: u64) -> Node {
+    // SAFETY: it takes no pointer.
+    unsafe { mant_change_over(node, choice) }
 }

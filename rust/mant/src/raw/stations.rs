@@ -1,7 +1,6 @@
 //! The stations heard.
 
-use super::lists::{takes_lists, with_lists};
-use super::{Answer, Lists, Node};
+use super::{Answer, Node};
 
 /// `MANT_STATION_LIMIT`.
 pub const STATION_LIMIT: usize = 128;
@@ -73,14 +72,6 @@ const _: () = {
     assert!(size_of::<Listened>() == 48);
 };
 
-takes_lists!(
-    fn mant_hear_and_count_eight(
-        edition: u64, settings: Node;
-        received: *const u8, received_length: usize, output: *mut u8, output_length: usize,
-        table: *mut u16, table_words: usize
-    ) -> Listened
-);
-
 #[rustfmt::skip]
 extern "C" {
     fn mant_stations_capacity(table: *const u16, table_words: usize) -> usize;
@@ -90,6 +81,11 @@ extern "C" {
     fn mant_remove_station(table: *mut u16, table_words: usize, address: u16) -> u8;
     fn mant_count_heard(table: *mut u16, table_words: usize, heard: Heard) -> u8;
     fn mant_count_answer(table: *mut u16, table_words: usize, received: *const u8, received_length: usize, answer: Answer) -> u8;
+    fn mant_hear_and_count(
+        node: Node, lists: *const u16, lists_length: usize,
+        received: *const u8, received_length: usize, output: *mut u8, output_length: usize,
+        table: *mut u16, table_words: usize,
+    ) -> Listened;
 }
 
 /// `mant_stations_capacity`.
@@ -144,20 +140,27 @@ pub fn count_answer(table: &mut [u16], received: &[u8], answer: Answer) -> u8 {
     }
 }
 
-/// `mant_hear_and_count_eight`.
+/// `mant_hear_and_count`.
 #[inline]
 pub fn hear_and_count(
-    edition: u64,
-    settings: Node,
-    lists: Lists,
+    node: Node,
+    lists: &[u16],
     received: &[u8],
     output: &mut [u8],
     table: &mut [u16],
 ) -> Listened {
-    let (room, length) = (output.as_mut_ptr(), output.len());
-    let (words, count) = (table.as_mut_ptr(), table.len());
-    let (from, given) = (received.as_ptr(), received.len());
-    with_lists!(
-        mant_hear_and_count_eight: edition, settings; lists; from, given, room, length, words, count
-    )
+    // SAFETY: as above.
+    unsafe {
+        mant_hear_and_count(
+            node,
+            lists.as_ptr(),
+            lists.len(),
+            received.as_ptr(),
+            received.len(),
+            output.as_mut_ptr(),
+            output.len(),
+            table.as_mut_ptr(),
+            table.len(),
+        )
+    }
 }

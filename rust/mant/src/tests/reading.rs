@@ -44,7 +44,11 @@ fn editions_show_three_bits() {
         let mut output = [0xAA; 7];
         assert_eq!(write_again(edition, &pdu, &mut output), Ok(6));
         assert_eq!(output, [0, 0xBA, 0x20, 0, 0, 5, 0xAA]);
-        let answer = hear(edition, &node(2000), &Lists::default(), &pdu, &mut output);
+        let node = Node {
+            edition,
+            ..Node::new(2000)
+        };
+        let answer = hear(&node, &Lists::none(), &pdu, &mut output);
         assert_eq!((answer.repeat, output[2]), (Ok(6), 0x10));
     }
 }

@@ -42,12 +42,12 @@ fn a_command_is_sent_again_and_fails() {
 #[test]
 fn a_command_is_acknowledged() {
     let (mut base, mut gate) = (retaining(), Reliable::default());
-    let (lists, mut output) = (Lists::default(), [0xAA; 10]);
+    let (lists, mut output) = (Lists::none(), [0xAA; 10]);
     let sending = Sending {
         hop_limit: 3,
         ..Sending::default()
     };
-    let answer = hear(EDITION_1_2, &node(1600), &lists, &COMMAND, &mut []);
+    let answer = hear(&Node::new(1600), &lists, &COMMAND, &mut []);
     let wrong = Sending {
         hop_limit: 8,
         ..sending
@@ -58,7 +58,7 @@ fn a_command_is_acknowledged() {
     assert_eq!(acknowledged, Ok(Deed::Acknowledged(NAMES, 9)));
     let wanted = [0x09, 1, 0x30, 0, 0x06, 0x40, 0x03, 0xE8, 7, 0xAA];
     assert_eq!((gate, output), (Reliable::new(), wanted));
-    let answer = hear(EDITION_1_2, &node(1000), &lists, &output[..9], &mut []);
+    let answer = hear(&Node::new(1000), &lists, &output[..9], &mut []);
     let freed = base.acknowledge(&output[..9], &answer, &sending, &mut []);
     assert_eq!(freed, Ok(Deed::Freed(0, NAMES)));
     let again = base.acknowledge(&output[..9], &answer, &sending, &mut []);

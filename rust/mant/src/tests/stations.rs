@@ -9,8 +9,8 @@ fn from(source: u16) -> Vec<u8> {
 
 /// Heard at node 2000.
 fn heard(stations: &mut Stations, received: &[u8]) -> Listened {
-    let lists = Lists::default();
-    stations.hear(EDITION, &node(2000), &lists, received, &mut [0; 30])
+    let lists = Lists::none();
+    stations.hear(&Node::new(2000), &lists, received, &mut [0; 30])
 }
 
 fn number(answered: Result<(), Refusal>) -> u8 {
@@ -21,11 +21,11 @@ fn number(answered: Result<(), Refusal>) -> u8 {
 fn a_node_drops_its_own_report() {
     let mut stations = Stations::new();
     let mut output = [0xAA; 30];
-    let (lists, originator) = (Lists::default(), node(1000));
+    let (lists, originator) = (Lists::none(), Node::new(1000));
     let own = Some(Refusal::OwnReport);
     for report in [example(), repeated(), vec![0, 0, 0x70, 0, 0x03, 0xE8]] {
         let answer = stations
-            .hear(EDITION, &originator, &lists, &report, &mut output)
+            .hear(&originator, &lists, &report, &mut output)
             .answer;
         assert_eq!((answer.delivery.err(), answer.repeat.err()), (own, own));
         assert_eq!((answer.taken, output), (report.len(), [0xAA; 30]));
@@ -36,7 +36,7 @@ fn a_node_drops_its_own_report() {
         echo: false,
         ..originator
     };
-    let answer = hear(EDITION, &off, &lists, &example(), &mut output);
+    let answer = hear(&off, &lists, &example(), &mut output);
     assert_eq!(answer.delivery, Err(Refusal::ForAnother));
     assert_eq!(answer.repeat, Ok(22));
 }
@@ -45,13 +45,13 @@ fn a_node_drops_its_own_report() {
 fn the_example_is_counted() {
     let mut stations = Stations::default();
     let mut output = [0; 30];
-    let (node, lists) = (node(2000), Lists::default());
-    let listened = stations.hear(EDITION, &node, &lists, &example(), &mut output);
-    let answer = hear(EDITION, &node, &lists, &example(), &mut [0; 30]);
+    let (node, lists) = (Node::new(2000), Lists::none());
+    let listened = stations.hear(&node, &lists, &example(), &mut output);
+    let answer = hear(&node, &lists, &example(), &mut [0; 30]);
     assert_eq!((listened.answer, listened.table), (answer, Ok(())));
     assert_eq!(output[..22], repeated());
-    stations.hear(EDITION, &node, &lists, &repeated(), &mut output);
-    stations.hear(EDITION, &node, &lists, &example()[..19], &mut output);
+    stations.hear(&node, &lists, &repeated(), &mut output);
+    stations.hear(&node, &lists, &example()[..19], &mut output);
     let station = Station {
         address: 1000,
         reads: 2,

@@ -11,7 +11,7 @@ fn walk_ends_at_a_pdu_that_cannot_be_read() {
         0, 0, 16, 0, 0, 1, // for everyone
         0, 0, 0, 9, 0, 1, // its payload is missing
     ];
-    let walked = walk(EDITION_1_2, &node(9), &Lists::EMPTY, &batch, &mut [0; 6]).unwrap();
+    let walked = walk(&node(9), &Lists::EMPTY, &batch, &mut [0; 6]).unwrap();
     let lines: Vec<_> = walked
         .steps
         .iter()
@@ -26,7 +26,7 @@ fn walk_ends_at_a_pdu_that_cannot_be_read() {
 #[test]
 fn walk_goes_on_after_40() {
     let batch = [0, 0, 16, 0, 0, 1, 0, 0, 0, 0, 0, 1];
-    let walked = walk(EDITION_1_2, &node(9), &Lists::EMPTY, &batch, &mut [0; 5]).unwrap();
+    let walked = walk(&node(9), &Lists::EMPTY, &batch, &mut [0; 5]).unwrap();
     assert_eq!(walked.steps.len(), 2);
     assert_eq!(walked.steps[0].answer.repeat, 40);
     assert_eq!(walked.end, 12);
@@ -36,7 +36,7 @@ fn walk_goes_on_after_40() {
 #[test]
 fn walk_limits() {
     let bad = Lists::firsts([&[1], &[], &[], &[]]);
-    let walk_of = |length| walk(EDITION_1_2, &node(9), &bad, &vec![0; length], &mut []);
+    let walk_of = |length| walk(&node(9), &bad, &vec![0; length], &mut []);
     assert_eq!(walk_of(16_385), Err(54));
     let full = walk_of(16_384).unwrap();
     assert_eq!((full.steps.len(), full.end), (1, 0));

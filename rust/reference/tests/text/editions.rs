@@ -23,8 +23,9 @@ fn pdu(byte_1: u8) -> [u8; 6] {
     [0, byte_1, 0x20, 0, 0, 5]
 }
 
-fn node() -> Settings {
+fn node(edition: u64) -> Settings {
     Settings {
+        edition,
         own_address: 9,
         repeating: true,
         ..Settings::default()
@@ -80,7 +81,7 @@ fn repeating_is_the_same_under_both() {
     for byte_1 in 0..=255 {
         let [one, two] = BOTH.map(|edition| {
             let mut out = [0xAA; 7];
-            let answer = hear(edition, &node(), &Lists::EMPTY, &pdu(byte_1), &mut out);
+            let answer = hear(&node(edition), &Lists::EMPTY, &pdu(byte_1), &mut out);
             (answer, out)
         });
         assert_eq!(one, two);
@@ -99,7 +100,7 @@ fn another_number_is_17_before_all() {
             assert_eq!(write_again(edition, bytes, &mut []), (17, 0));
             for lists in [Lists::EMPTY, faults] {
                 let mut out = [0xAA; 7];
-                let answer = hear(edition, &node(), &lists, bytes, &mut out);
+                let answer = hear(&node(edition), &lists, bytes, &mut out);
                 assert_eq!((answer.delivery, answer.repeat), (17, 17));
                 assert_eq!((answer.taken, answer.last_sender), (0, None));
                 assert_eq!((answer.delivered, answer.repeated_length), ((0, 0), 0));
@@ -123,16 +124,16 @@ fn it_ends_a_walk() {
     for edition in OTHERS {
         for length in [1, 12, MOST_BATCH, MOST_BATCH + 1] {
             let batch = vec![0; length];
-            let walked = walk(edition, &node(), &faults, &batch, &mut [0; 6]).unwrap();
+            let walked = walk(&node(edition), &faults, &batch, &mut [0; 6]).unwrap();
             let numbers: Vec<_> = walked.steps.iter().map(|step| step.answer.repeat).collect();
             assert_eq!((numbers, walked.end), (vec![17], 0));
         }
-        let walked = walk(edition, &node(), &faults, &[], &mut []).unwrap();
+        let walked = walk(&node(edition), &faults, &[], &mut []).unwrap();
         assert_eq!((walked.steps, walked.end), (vec![], 0));
     }
     for edition in BOTH {
         let long = vec![0; MOST_BATCH + 1];
-        let walked = walk(edition, &node(), &faults, &long, &mut []);
+        let walked = walk(&node(edition), &faults, &long, &mut []);
         assert_eq!(walked, Err(54));
     }
 }
@@ -142,8 +143,7 @@ fn it_counts_nothing() {
     for edition in OTHERS {
         let mut stations = Stations::empty();
         let (answer, number) = hear_and_count(
-            edition,
-            &node(),
+            &node(edition),
             &Lists::EMPTY,
             &pdu(0),
             &mut [0; 6],

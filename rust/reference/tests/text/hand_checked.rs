@@ -26,7 +26,7 @@ fn starting(first: u8) -> Vec<u8> {
 /// Delivery number, repeat number and the repeated PDU, with ample room.
 fn heard(settings: &Settings, received: &[u8]) -> (u8, u8, Vec<u8>) {
     let mut out = [0; MOST_PDU];
-    let answer = hear(EDITION_1_2, settings, &Lists::EMPTY, received, &mut out);
+    let answer = hear(settings, &Lists::EMPTY, received, &mut out);
     let repeated = out[..answer.repeated_length].to_vec();
     (answer.delivery, answer.repeat, repeated)
 }
@@ -98,7 +98,7 @@ fn p8_example_at_node_2000() {
 fn p9_example_at_its_destination() {
     let received = bytes(EXAMPLE);
     let mut out = [0xAA; MOST_PDU];
-    let answer = hear(EDITION_1_2, &node(1600), &Lists::EMPTY, &received, &mut out);
+    let answer = hear(&node(1600), &Lists::EMPTY, &received, &mut out);
     assert_eq!((answer.delivery, answer.repeat), (0, 41));
     assert_eq!(answer.delivered, (9, 11));
     assert_eq!(out, [0xAA; MOST_PDU]);

@@ -42,6 +42,7 @@ const ASKED: Origination = Origination {
 /// A node with echo and repeating on.
 const fn node(own_address: u16) -> Settings {
     Settings {
+        edition: EDITION_1_2,
         own_address,
         echo: true,
         repeating: true,

@@ -4,7 +4,7 @@ use crate::{node, FULL};
 use reference::*;
 
 fn numbers(settings: &Settings, lists: &Lists, received: &[u8]) -> (u8, u8) {
-    let answer = hear(EDITION_1_2, settings, lists, received, &mut [0; MOST_PDU]);
+    let answer = hear(settings, lists, received, &mut [0; MOST_PDU]);
     (answer.delivery, answer.repeat)
 }
 
@@ -15,14 +15,20 @@ fn list_faults_in_order() {
     let odd_and_low_above_high = [2, 1, 5];
     let low_above_high = [1, 1, 2, 1];
     let good = [9; 128];
-    let fault = |lists: [&[u16]; 4]| list_fault(&Lists::firsts(lists));
-    assert_eq!(fault([&good, &good, &good, &long_and_odd]), 22);
+    let fault = |lists: [&[u16]; 4]| {
+        let fault = list_fault(&Lists::firsts(lists))?;
+        Some((fault.number, fault.list))
+    };
+    assert_eq!(fault([&good, &good, &good, &long_and_odd]), Some((22, 6)));
     assert_eq!(
         fault([&[], &odd_and_low_above_high, &long_and_odd, &[]]),
-        21
+        Some((21, 2))
     );
-    assert_eq!(fault([&low_above_high, &long_and_odd, &[], &[1]]), 20);
-    assert_eq!(fault([&good, &[0, 65535], &[], &good]), 0);
+    assert_eq!(
+        fault([&low_above_high, &long_and_odd, &[], &[1]]),
+        Some((20, 0))
+    );
+    assert_eq!(fault([&good, &[0, 65535], &[], &good]), None);
 }
 
 /// Lists come before reading, and are checked though they are off.
@@ -93,23 +99,11 @@ fn delivery_and_repeating() {
 fn repeat_needs_room() {
     let received = [2, 0, 0x60, 1, 0, 1, 0, 0x55];
     let mut out = [0xAA; 12];
-    let answer = hear(
-        EDITION_1_2,
-        &node(9),
-        &Lists::EMPTY,
-        &received,
-        &mut out[..9],
-    );
+    let answer = hear(&node(9), &Lists::EMPTY, &received, &mut out[..9]);
     assert_eq!((answer.delivery, answer.repeat), (40, 40));
     assert_eq!((answer.delivered, answer.repeated_length), ((0, 0), 0));
     assert_eq!((answer.taken, out), (8, [0xAA; 12]));
-    let answer = hear(
-        EDITION_1_2,
-        &node(9),
-        &Lists::EMPTY,
-        &received,
-        &mut out[..10],
-    );
+    let answer = hear(&node(9), &Lists::EMPTY, &received, &mut out[..10]);
     assert_eq!((answer.delivery, answer.repeat), (0, 0));
     assert_eq!((answer.delivered, answer.repeated_length), ((7, 1), 10));
     let repeated = [2, 0, 0x50, 1, 0, 1, 1, 0, 9, 0x55, 0xAA, 0xAA];
@@ -122,7 +116,7 @@ fn hop_limits() {
     for hop in 0..=7u8 {
         let received = [0, 0, hop << 4, 0, 0, 1];
         let mut out = [0xAA; 6];
-        let answer = hear(EDITION_1_2, &node(9), &Lists::EMPTY, &received, &mut out);
+        let answer = hear(&node(9), &Lists::EMPTY, &received, &mut out);
         match hop {
             0 => assert_eq!((answer.repeat, out), (37, [0xAA; 6])),
             7 => assert_eq!((answer.repeat, out[2]), (0, 0x70)),
@@ -135,7 +129,7 @@ fn hop_limits() {
 #[test]
 fn the_last_sender_is_carried_on() {
     let at = |settings: &Settings, lists: &Lists, received: &[u8], room: usize| {
-        let answer = hear(EDITION_1_2, settings, lists, received, &mut vec![0; room]);
+        let answer = hear(settings, lists, received, &mut vec![0; room]);
         (answer.delivery, answer.last_sender)
     };
     let passing_none = Settings {
@@ -159,14 +153,8 @@ fn the_last_sender_is_carried_on() {
 #[test]
 fn a_repeat_is_heard_from_its_repeater() {
     let mut out = [0; MOST_PDU];
-    let length = hear(EDITION_1_2, &node(9), &Lists::EMPTY, &FULL, &mut out).repeated_length;
-    let heard = hear(
-        EDITION_1_2,
-        &node(8),
-        &Lists::EMPTY,
-        &out[..length],
-        &mut [0; MOST_PDU],
-    );
+    let length = hear(&node(9), &Lists::EMPTY, &FULL, &mut out).repeated_length;
+    let heard = hear(&node(8), &Lists::EMPTY, &out[..length], &mut [0; MOST_PDU]);
     assert_eq!(heard.last_sender, Some(9));
     let batch = [2, 0, 0, 0, 0, 0, 0, 0, 0, 0, 0, 0, 5, 9];
     let job = [&[0, 9, 3, 0, 0, 0, 0, 0, 14], &batch[..]].concat();

@@ -6,7 +6,7 @@ use reference::*;
 /// Heard with room: the two numbers and the repeated PDU.
 fn heard(settings: &Settings, lists: &Lists, received: &[u8]) -> (u8, u8, Vec<u8>) {
     let mut out = [0xAA; 64];
-    let answer = hear(EDITION_1_2, settings, lists, received, &mut out);
+    let answer = hear(settings, lists, received, &mut out);
     let (repeated, rest) = out.split_at(answer.repeated_length);
     assert!(rest.iter().all(|byte| *byte == 0xAA));
     (answer.delivery, answer.repeat, repeated.to_vec())
@@ -31,17 +31,11 @@ fn dropped_with_the_path_bit_or_without() {
 fn nothing_is_delivered_and_it_is_taken() {
     let received = [1, 0, 0x70, 2, 0, 9, 0, 9, 5, 5, 0];
     let mut out = [0xAA; 16];
-    let answer = hear(EDITION_1_2, &node(9), &Lists::EMPTY, &received, &mut out);
+    let answer = hear(&node(9), &Lists::EMPTY, &received, &mut out);
     assert_eq!((answer.delivery, answer.repeat), (42, 42));
     assert_eq!((answer.delivered, answer.repeated_length), ((0, 0), 0));
     assert_eq!((answer.taken, out), (10, [0xAA; 16]));
-    let walked = walk(
-        EDITION_1_2,
-        &node(9),
-        &Lists::EMPTY,
-        &received[..10].repeat(3),
-        &mut [],
-    );
+    let walked = walk(&node(9), &Lists::EMPTY, &received[..10].repeat(3), &mut []);
     assert_eq!(walked.map(|walked| walked.end), Ok(30));
 }
 
@@ -99,14 +93,8 @@ fn the_table_counts_it_as_echo() {
         report(9, 7, Some(&[3])),
         report(9, 0, Some(&[9])),
     ] {
-        let (_, number) = hear_and_count(
-            EDITION_1_2,
-            &node(9),
-            &Lists::EMPTY,
-            &received,
-            &mut [],
-            &mut stations,
-        );
+        let (_, number) =
+            hear_and_count(&node(9), &Lists::EMPTY, &received, &mut [], &mut stations);
         assert_eq!(number, 0);
     }
     let station = stations.get(9).unwrap();

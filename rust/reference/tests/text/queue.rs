@@ -190,7 +190,7 @@ fn a_batch_taken_is_walked_to_its_end() {
         source_pass: Choice::First,
         ..Settings::default()
     };
-    let walked = walk(EDITION_1_2, &every_setting, &Lists::EMPTY, &batch, &mut []).unwrap();
+    let walked = walk(&every_setting, &Lists::EMPTY, &batch, &mut []).unwrap();
     let offsets: Vec<usize> = walked.steps.iter().map(|step| step.offset).collect();
     assert_eq!(offsets, (0..12).map(|place| 33 * place).collect::<Vec<_>>());
     assert_eq!(walked.end, batch.len());

@@ -50,7 +50,11 @@ fn hearers(network: &Network, sender: u16) -> Vec<u16> {
 fn heard(own: u16, sent: &[u8]) -> (Option<usize>, Option<Vec<u8>>) {
     let edition = [EDITION_1_1, EDITION_1_2][usize::from(own % 2)];
     let mut out = [0; MOST_PDU];
-    let answer = hear(edition, &node(own), &Lists::EMPTY, sent, &mut out);
+    let settings = Settings {
+        edition,
+        ..node(own)
+    };
+    let answer = hear(&settings, &Lists::EMPTY, sent, &mut out);
     let count = read(sent).unwrap().path.unwrap().len();
     let (place, length) = answer.delivered;
     if answer.delivery == 0 {

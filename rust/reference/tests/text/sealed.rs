@@ -262,7 +262,7 @@ fn repeats_do_not_matter() {
                 ..Settings::default()
             };
             let mut out = [0; 99];
-            let answer = hear(EDITION_1_2, &settings, &Lists::EMPTY, &heard, &mut out);
+            let answer = hear(&settings, &Lists::EMPTY, &heard, &mut out);
             heard = out[..answer.repeated_length].to_vec();
         }
         assert_eq!(

@@ -14,14 +14,7 @@ fn pdu(source: u16, path: Option<&[u16]>) -> Vec<u8> {
 /// Heard at node 2000 with ample room: the delivery number and the table's.
 fn heard(stations: &mut Stations, received: &[u8]) -> (u8, u8) {
     let mut out = [0; MOST_PDU];
-    let (answer, number) = hear_and_count(
-        EDITION_1_2,
-        &NODE,
-        &Lists::EMPTY,
-        received,
-        &mut out,
-        stations,
-    );
+    let (answer, number) = hear_and_count(&NODE, &Lists::EMPTY, received, &mut out, stations);
     (answer.delivery, number)
 }
 
@@ -72,23 +65,10 @@ fn what_is_read_counts_whatever_the_lists_say() {
         ..NODE
     };
     let received = pdu(9, None);
-    let (answer, number) = hear_and_count(
-        EDITION_1_2,
-        &settings,
-        &Lists::EMPTY,
-        &received,
-        &mut [],
-        &mut stations,
-    );
+    let (answer, number) =
+        hear_and_count(&settings, &Lists::EMPTY, &received, &mut [], &mut stations);
     assert_eq!((answer.delivery, number), (31, 0));
-    let (answer, number) = hear_and_count(
-        EDITION_1_2,
-        &NODE,
-        &Lists::EMPTY,
-        &received,
-        &mut [],
-        &mut stations,
-    );
+    let (answer, number) = hear_and_count(&NODE, &Lists::EMPTY, &received, &mut [], &mut stations);
     assert_eq!((answer.delivery, number), (40, 0));
     assert_eq!(stations.list(), [station(9, 2, 0, None)]);
 }
@@ -101,14 +81,7 @@ fn what_is_not_read_does_not_count() {
         assert!((1..=6).contains(&delivery) && number == 0);
     }
     let fault = Lists::firsts([&[], &[], &[], &[2, 1]]);
-    let (answer, number) = hear_and_count(
-        EDITION_1_2,
-        &NODE,
-        &fault,
-        &pdu(9, None),
-        &mut [],
-        &mut stations,
-    );
+    let (answer, number) = hear_and_count(&NODE, &fault, &pdu(9, None), &mut [], &mut stations);
     assert_eq!((answer.delivery, number), (20, 0));
     assert_eq!(stations.list(), []);
 }

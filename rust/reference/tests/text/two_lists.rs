@@ -8,18 +8,21 @@ const CHOICES: [Choice; 3] = [Choice::None, Choice::First, Choice::Second];
 /// From 5 to 7, hop limit 2.
 const PDU: [u8; 8] = [1, 0, 0x20, 0, 0, 5, 0, 7];
 
-/// What a node 9 with these choices answers for the PDU.
-fn delivery(choices: [Choice; 4], lists: [&[u16]; 8]) -> u8 {
+/// A node 9 with these choices.
+fn with(choices: [Choice; 4]) -> Settings {
     let [source_pass, source_reject, destination_pass, destination_reject] = choices;
-    let settings = Settings {
+    Settings {
         source_pass,
         source_reject,
         destination_pass,
         destination_reject,
         ..node(9)
-    };
-    let answer = hear(EDITION_1_2, &settings, &Lists::of(lists), &PDU, &mut [0; 8]);
-    answer.delivery
+    }
+}
+
+/// What it answers for the PDU.
+fn delivery(choices: [Choice; 4], lists: [&[u16]; 8]) -> u8 {
+    hear(&with(choices), &Lists::of(lists), &PDU, &mut [0; 8]).delivery
 }
 
 /// All choices of the four kinds.
@@ -37,15 +40,16 @@ fn the_first_fault_of_eight() {
         for (number, list) in faults {
             let mut lists: [&[u16]; 8] = [&[]; 8];
             lists[place] = list;
-            assert_eq!(list_fault(&Lists::of(lists)), number);
+            let fault = |number, list| Some(ListFault { number, list });
+            assert_eq!(list_fault(&Lists::of(lists)), fault(number, place));
             for choices in all_choices() {
                 assert_eq!(delivery(choices, lists), number);
             }
             let (other, at_fault) = faults[usize::from(number) % 3];
             lists[place + 1..].fill(at_fault);
-            assert_eq!(list_fault(&Lists::of(lists)), number);
+            assert_eq!(list_fault(&Lists::of(lists)), fault(number, place));
             lists[place] = &[];
-            let left = if place == 7 { 0 } else { other };
+            let left = fault(other, place + 1).filter(|_| place < 7);
             assert_eq!(list_fault(&Lists::of(lists)), left);
         }
     }
@@ -102,6 +106,50 @@ fn as_with_the_four_chosen() {
             assert_eq!(delivery(choices, lists), of_four);
         }
     }
+}
+
+/// Operators "change over by one setting".
+#[test]
+fn one_setting_changes_over() {
+    for choices in all_choices() {
+        let before = with(choices);
+        for choice in CHOICES {
+            assert_eq!(before.changed_over(choice), with([choice; 4]));
+        }
+    }
+}
+
+/// Every block holds eight lists: lengths, then values, cut where it ends.
+#[test]
+fn lists_in_a_block() {
+    let block = [1, 0, 2, 0, 0, 0, 3, 65_535, 10, 20, 21, 30, 31, 32, 40];
+    let lists: [&[u16]; 8] = [&[10], &[], &[20, 21], &[], &[], &[], &[30, 31, 32], &[40]];
+    assert_eq!(Lists::in_block(&block).in_order(), lists);
+    let cut: [&[u16]; 8] = [&[10], &[], &[20, 21], &[], &[], &[], &[30, 31], &[]];
+    assert_eq!(Lists::in_block(&block[..13]).in_order(), cut);
+    for length in 0..=8 {
+        assert_eq!(Lists::in_block(&[65_535; 8][..length]), Lists::EMPTY);
+    }
+    let far = [65_535, 1, 0, 0, 0, 0, 0, 0, 7, 8];
+    assert_eq!(Lists::in_block(&far).in_order()[..2], [&[7, 8][..], &[]]);
+}
+
+/// What was laid is there again; a list that is too long stays too long.
+#[test]
+fn lists_laid() {
+    let (most, long, longest) = (vec![7; 128], vec![7; 129], vec![7; 65_536]);
+    let lists = Lists::of([&most, &[], &[1, 2], &[3], &[], &most, &most, &[5, 4]]);
+    let block = lists.laid();
+    assert_eq!(block[..9], [128, 0, 2, 1, 0, 128, 128, 2, 7]);
+    assert_eq!(Lists::in_block(&block), lists);
+    assert_eq!(Lists::EMPTY.laid(), [0; 8]);
+    for list in [&long, &longest] {
+        let block = Lists::of([&[], list, &[1], list, list, list, list, list]).laid();
+        assert_eq!((block[1], block.len()), (129, 8 + 6 * 129 + 1));
+        let fault = list_fault(&Lists::in_block(&block));
+        assert_eq!(fault.map(|fault| (fault.number, fault.list)), Some((22, 1)));
+    }
+    assert_eq!(Lists::of([&longest; 8]).laid().len(), 1_040);
 }
 
 /// "The job of `relay` keeps its four sections, each its kind's first list; the

@@ -1,4 +1,5 @@
 use mathlib.Core.Path.{ap, _∙_}
+use denote.Ref.{now}
 use Rattle.pdu.specs.Header.{payloadLength}
 use Rattle.pdu.proofs.Showing.{header-is}
 use borrow.Author.Needs.{needs}
@@ -26,10 +27,9 @@ word-requires c κs = search needs
 returns : tie.Need-returns
 returns c =
     let b = c .before .before .before in
-    let given = b .before .before .before .before .pre in
-    header-is _ (b .before .before .byte .ensures) (b .before .byte2 .ensures) (b .byte3 .ensures)
-    (c .before .payload-length .ensures ∙ ap (payloadLength _) (c .before .before .byte4 .ensures)) (c .word .ensures) (given .0) (given .1)
-    (given .2)
+    let a = b .before .before .before .before .args in
+    header-is (now (a .bytes)) (a .destination) (a .pdu-id) (a .path-count) (b .before .before .byte .ensures) (b .before .byte2 .ensures) (b .byte3 .ensures)
+    (c .before .payload-length .ensures ∙ ap (payloadLength _) (c .before .before .byte4 .ensures)) (c .word .ensures)
 
 pub header-from-spec : {M : Type 1} → statement M
 header-from-spec =

@@ -90,16 +90,10 @@ fn an_acknowledgement_frees_the_first_that_matches() {
 fn two_nodes() {
     let (mut gate, mut base, mut out) = (Table::free(), Table::free(), [0; 256]);
     base.retain(5, &command(3, 3)).unwrap();
-    let at_gate = hear(
-        EDITION_1_2,
-        &node(1600),
-        &Lists::EMPTY,
-        &command(3, 3),
-        &mut [],
-    );
+    let at_gate = hear(&node(1600), &Lists::EMPTY, &command(3, 3), &mut []);
     let answered = gate.heard(&command(3, 3), at_gate.delivery, &SENDING, &mut out);
     assert_eq!(answered, Ok(Done::Answered(names(3), 9)));
-    let at_base = hear(EDITION_1_2, &node(1000), &Lists::EMPTY, &out[..9], &mut []);
+    let at_base = hear(&node(1000), &Lists::EMPTY, &out[..9], &mut []);
     assert_eq!((at_base.delivery, at_base.delivered.1), (0, 0));
     let freed = base.heard(&out[..9], at_base.delivery, &SENDING, &mut []);
     assert_eq!(freed, Ok(Done::Freed(0, names(3))));

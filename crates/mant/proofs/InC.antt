@@ -1,0 +1,90 @@
+-- What C sees of a node's answer, from what the node answers with the settings that C gave.
+use Prim.Native.Nat.{ℕ, _+_, _≤_, _<_}
+use native.Mathlib.Omega.{arith}
+use mathlib.Core.Bool.{true, false}
+use mathlib.Core.List.{List}
+use mathlib.Core.Path.{_≡_, refl, ap, _∙_}
+use lib.Dec.{eqb}
+use lib.ListN.{length, drop}
+use Rattle.pdu.specs.declared.Sender.{Sender}
+use Rattle.pdu.specs.declared.Sender.the-variants.{Unknown, Known}
+use Rattle.lists.specs.Lists.{Lists}
+use Rattle.decision.specs.declared.Settings.{Settings}
+use Rattle.decision.specs.Decision.{Node, nodeOf}
+use Rattle.node.specs.declared.Answer.{Answer}
+use Rattle.node.specs.Answers.{answerOf, outputAfter, Hears}
+use Rattle.batch.specs.declared.Cursor.{Cursor}
+use Rattle.batch.specs.declared.Stepped.{Stepped}
+use Rattle.batch.specs.Walk.{isTooLong, Steps}
+use Rattle.batch.proofs.Stepping.{within-batch, answered}
+use Rattle.listening.specs.Listening.{answerNumber, memoryAfterAnswer}
+use Rattle.boundary.specs.declared.a_node.MantNode.{MantNode}
+use Rattle.boundary.specs.declared.a_node.MantAnswer.{MantAnswer}
+use Rattle.boundary.specs.declared.a_walk.MantStep.{MantStep}
+use Rattle.boundary.specs.Boundary.{hasSender, senderAddress, senderFromC, nodeFromC, answerInC, answerFromC, HearsInC, ListensInC, stepInC, StepsInC}
+
+pub heard-in-c : (given : MantNode) (settings : Settings) (lists : Lists) (received output left : List ℕ) (answer : Answer) (told : MantAnswer)
+    → settings ≡ nodeFromC given → Hears (nodeOf settings lists) received output answer left → told ≡ answerInC answer
+    → HearsInC (nodeOf (nodeFromC given) lists) received output told left
+heard-in-c given settings lists received output left answer told is heard e = (
+  e ∙ ap answerInC (heard .0) ∙ ap (λ (s : Settings). answerInC (answerOf (nodeOf s lists) (length output) received)) is,
+  heard .1 ∙ ap (λ (s : Settings). outputAfter (nodeOf s lists) received output) is,
+)
+
+abbrev stepTo : Cursor → MantAnswer → MantStep
+stepTo cursor told =
+    record { kind = 0; answer = told; next = record { place = cursor .place + told .taken; ended = eqb (told .taken) 0 } }
+
+-- a step of a walk, as C is told of it
+module _ (node : Node) (batch output : List ℕ) (cursor : Cursor) where
+  pub stepped-in-c : (stepped : Stepped) (left : List ℕ) (told : MantStep) → Steps node batch cursor output stepped left
+      → told ≡ stepInC cursor stepped → StepsInC node batch cursor output told left
+  stepped-in-c stepped left told went e = (e ∙ ap (stepInC cursor) (went .0), went .1)
+
+  -- with the PDU at the cursor heard
+  module _ (short : isTooLong (node .settings) batch ≡ false) (goes : cursor .ended ≡ false) (before : cursor .place < length batch) (rest left : List ℕ)
+      (is : rest ≡ drop (cursor .place) batch) (told : MantAnswer) (heard : HearsInC node rest output told left) where
+    abbrev answer : Answer
+    answer = answerOf node (length output) rest
+
+    pub next-in-c : cursor .place + told .taken ≤ length batch
+    next-in-c =
+        let same : told .taken ≡ answer .taken = ap (λ (m : MantAnswer). m .taken) (heard .0) in
+        omega (arith, same, within-batch node batch output cursor short before answer rest is refl)
+
+    pub answered-in-c : StepsInC node batch cursor output
+        (record { kind = 0; answer = told; next = record { place = cursor .place + told .taken; ended = eqb (told .taken) 0 } }) left
+    answered-in-c =
+        let went = answered node batch output cursor short goes before answer rest left is (refl, heard .1) in (
+          ap (stepTo cursor) (heard .0) ∙ ap (stepInC cursor) (went .0),
+          went .1,
+        )
+
+sender-back : (sender : Sender) → senderFromC (hasSender sender) (senderAddress sender) ≡ sender
+sender-back Unknown = refl
+sender-back (Known address) = refl
+
+answer-back : (answer : Answer) → answerFromC (answerInC answer) ≡ answer
+answer-back answer =
+    λ i.
+    record {
+      delivery = answer .delivery;
+      repeat = answer .repeat;
+      «delivered_place» = answer .«delivered_place»;
+      «delivered_length» = answer .«delivered_length»;
+      «repeated_length» = answer .«repeated_length»;
+      taken = answer .taken;
+      «last_sender» = sender-back (answer .«last_sender») i;
+    }
+
+-- a PDU heard and then counted by what was told of it
+pub counted-in-c : (node : Node) (received output left memory after : List ℕ) (told : MantAnswer) (number : ℕ)
+    → HearsInC node received output told left
+    → (number ≡ answerNumber (answerFromC told) received memory) × (after ≡ memoryAfterAnswer (answerFromC told) received memory)
+    → ListensInC node received output memory (record { answer = told; «table_number» = number }) left after
+counted-in-c node received output left memory after told number heard counted =
+    let back = ap answerFromC (heard .0) ∙ answer-back (answerOf node (length output) received) in (
+      heard,
+      counted .0 ∙ ap (λ (a : Answer). answerNumber a received memory) back,
+      counted .1 ∙ ap (λ (a : Answer). memoryAfterAnswer a received memory) back,
+    )
