@@ -15,7 +15,9 @@ use Rattle.pdu.specs.declared.Reading.the-variants.{Pdu, Refused}
 use Rattle.pdu.specs.declared.Sender.the-variants.{Unknown}
 use Rattle.pdu.specs.declared.Written.{Written}
 use Rattle.pdu.specs.Sizes.{pduLimit, pduLength}
-use Rattle.pdu.specs.Reading.{readOf}
+use Rattle.pdu.specs.declared.Refusal.{Refusal}
+use Rattle.pdu.specs.Reading.{readOf, refusalNumber}
+use Rattle.pdu.proofs.Number.{refusal-within}
 use Rattle.pdu.specs.Parts.{pathIn, payloadIn}
 use Rattle.writing.specs.Writing.{encode, writtenOf, outputOf, writeAgain, writtenAgain}
 use Rattle.editions.specs.Editions.{known}
@@ -27,7 +29,7 @@ use Rattle.decision.specs.Decision.{Node, repeatFault}
 use Rattle.node.specs.Repeat.{repeatedHeader, repeated}
 use Rattle.node.specs.declared.Answer.{Answer}
 use Rattle.node.specs.Answers.{nodeFault, nodeOrReadingFault, repeatNumber, answerOf, twice, outputAfter, Hears}
-use Rattle.node.proofs.Faults.{unknown-fault, known-fault, fault-answer, fault-output}
+use Rattle.node.proofs.Faults.{unknown-fault, known-fault, no-fault, fault-answer, fault-output, unread-answer, unread-output, reading-unread}
 use Rattle.batch.specs.declared.Cursor.{Cursor}
 use Rattle.batch.specs.declared.Stepped.the-variants.{TooLong, Ended, Answered}
 use Rattle.batch.proofs.Stepping.{not-too-long}
@@ -108,6 +110,13 @@ refused : (node : Node) (received output : List ℕ) (n : ℕ) → (n ≡ 0 → 
 refused node received output n some fault =
     (sym (fault-answer node n some fault received (length output)), sym (fault-output node n some fault received output))
 
+unreadable : (node : Node) (received output : List ℕ) (refusal : Refusal) → nodeFault node ≡ 0 → readOf received ≡ Refused refusal
+    → Hears node received output (twice (refusalNumber refusal) 0 Unknown) output
+unreadable node received output refusal clean e =
+    let some : refusalNumber refusal ≡ 0 → ⊥ = λ z. omega (arith, z, refusal-within refusal .0) in
+    let unread = reading-unread node received refusal clean e in
+    (sym (unread-answer node _ some received unread (length output)), sym (unread-output node _ some received unread output))
+
 pub total : Demand1
 unfolding originated originatedOutput
 total =
@@ -119,6 +128,7 @@ total =
       step-untouched = λ node batch cursor output ne. step-as-was node batch cursor output ne;
       edition-refused = λ node received output e. refused node received output 17 (omega arith) (unknown-fault node e);
       lists-refused = λ node received output e some. refused node received output (listFault (node .lists)) some (known-fault node e);
+      reading-refused = λ node received output refusal is-known clean e. unreadable node received output refusal (no-fault node is-known clean) e;
       any-lists = holds-laid;
     }
 

@@ -9,11 +9,12 @@ use lib.ListN.{length, take, drop}
 use Rattle.octets.specs.Octets.{AllBytes, over}
 use Rattle.pdu.specs.declared.Destination.the-variants.{Everyone}
 use Rattle.pdu.specs.declared.Header.{Header}
-use Rattle.pdu.specs.declared.Reading.the-variants.{Pdu}
+use Rattle.pdu.specs.declared.Reading.the-variants.{Pdu, Refused}
+use Rattle.pdu.specs.declared.Refusal.{Refusal}
 use Rattle.pdu.specs.declared.Sender.the-variants.{Unknown}
 use Rattle.pdu.specs.Header.{sourceOf}
 use Rattle.pdu.specs.Sizes.{pathLimit, pduLimit, pduLength}
-use Rattle.pdu.specs.Reading.{readOf}
+use Rattle.pdu.specs.Reading.{readOf, refusalNumber}
 use Rattle.pdu.specs.Parts.{pathIn, payloadIn}
 use Rattle.writing.specs.Writing.{encode, writeAgain, writtenAgain, WellFormed}
 use Rattle.editions.specs.Editions.{known}
@@ -55,6 +56,9 @@ pub record Demand1 : Type 0 where
       → Hears node received output (twice 17 0 Unknown) output
   pub lists-refused : (node : Node) (received output : List ℕ) → known (node .settings .edition) ≡ true → (listFault (node .lists) ≡ 0 → ⊥)
       → Hears node received output (twice (listFault (node .lists)) 0 Unknown) output
+  -- and so are bytes that cannot be read, with 1 to 6
+  pub reading-refused : (node : Node) (received output : List ℕ) (refusal : Refusal) → known (node .settings .edition) ≡ true → listFault (node .lists) ≡ 0
+      → readOf received ≡ Refused refusal → Hears node received output (twice (refusalNumber refusal) 0 Unknown) output
   -- any lent block holds eight lists, and any eight lists lie in some block; in 16-bit words, those of at most 65,535 values each
   pub any-lists : (lists : Lists) → listsIn (laid lists) ≡ lists
 

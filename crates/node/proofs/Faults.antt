@@ -1,4 +1,4 @@
--- 17 and the faults of the lists, which stop every PDU: what follows where there is one, and where there is none.
+-- 17, the faults of the lists and of reading: what follows where there is one, and where there is none.
 use Prim.Native.Nat.{ℕ}
 use native.Mathlib.Omega.{arith}
 use mathlib.Core.Bool.{true, false, not}
@@ -6,8 +6,12 @@ use mathlib.Core.List.{List}
 use mathlib.Core.Path.{_≡_, ap, _∙_}
 use lib.ListN.{length}
 use borrow.Author.Tests.{ne-eqb, not-false}
+use Rattle.octets.specs.Numbers.{_orElse_}
 use Rattle.octets.proofs.Numbering.{orElse-zero, gives-zero, gives-here, gives-later, orElse-first}
+use Rattle.pdu.specs.declared.Refusal.{Refusal}
+use Rattle.pdu.specs.declared.Reading.the-variants.{Refused}
 use Rattle.pdu.specs.declared.Sender.the-variants.{Unknown}
+use Rattle.pdu.specs.Reading.{readOf, refusalNumber}
 use Rattle.editions.specs.Editions.{known}
 use Rattle.lists.specs.Lists.{listFault}
 use Rattle.decision.specs.Decision.{Node}
@@ -30,36 +34,56 @@ without-fault node zero = let both = orElse-zero _ _ zero in (not-false _ (gives
 pub no-fault : (node : Node) → known (node .settings .edition) ≡ true → listFault (node .lists) ≡ 0 → nodeFault node ≡ 0
 no-fault node is-known clean = known-fault node is-known ∙ clean
 
--- one is: its number twice, nothing taken, and the output as it was
+-- a number of the edition, the lists or reading: it is given twice, nothing is taken, and the output is as it was
+module _ (node : Node) (n : ℕ) (some : n ≡ 0 → ⊥) (received : List ℕ) (unread : nodeOrReadingFault node received ≡ n) where
+  pub unread-taken : taken node received ≡ 0
+  unfolding taken
+  unread-taken = rw (unread, ne-eqb n 0 some)
+
+  heard : heardFrom node received ≡ Unknown
+  unfolding heardFrom
+  heard = rw (unread, ne-eqb n 0 some)
+
+  stops : (room : ℕ) → stopFault node room received ≡ n
+  unfolding stopFault
+  stops room = rw unread (orElse-first n _ some)
+
+  delivery : (room : ℕ) → deliveryNumber node room received ≡ n
+  unfolding deliveryNumber
+  delivery room = rw (stops room) (orElse-first n _ some)
+
+  pub unread-repeat : (room : ℕ) → repeatNumber node room received ≡ n
+  unfolding repeatNumber
+  unread-repeat room = rw (stops room) (orElse-first n _ some)
+
+  pub unread-answer : (room : ℕ) → answerOf node room received ≡ twice n 0 Unknown
+  unfolding answerOf
+  unread-answer room = rw (delivery room, unread-repeat room, unread-taken, heard, ne-eqb n 0 some)
+
+  pub unread-output : (output : List ℕ) → outputAfter node received output ≡ output
+  unfolding outputAfter
+  unread-output output = rw (unread-repeat (length output), ne-eqb n 0 some)
+
+-- the same where the node itself has the fault
 module _ (node : Node) (n : ℕ) (some : n ≡ 0 → ⊥) (fault : nodeFault node ≡ n) (received : List ℕ) where
   pub fault-unread : nodeOrReadingFault node received ≡ n
   unfolding nodeOrReadingFault
   fault-unread = rw fault (orElse-first n _ some)
 
   pub fault-taken : taken node received ≡ 0
-  unfolding taken
-  fault-taken = rw (fault-unread, ne-eqb n 0 some)
-
-  heard : heardFrom node received ≡ Unknown
-  unfolding heardFrom
-  heard = rw (fault-unread, ne-eqb n 0 some)
-
-  stops : (room : ℕ) → stopFault node room received ≡ n
-  unfolding stopFault
-  stops room = rw fault-unread (orElse-first n _ some)
-
-  delivery : (room : ℕ) → deliveryNumber node room received ≡ n
-  unfolding deliveryNumber
-  delivery room = rw (stops room) (orElse-first n _ some)
+  fault-taken = unread-taken node n some received fault-unread
 
   pub fault-repeat : (room : ℕ) → repeatNumber node room received ≡ n
-  unfolding repeatNumber
-  fault-repeat room = rw (stops room) (orElse-first n _ some)
+  fault-repeat = unread-repeat node n some received fault-unread
 
   pub fault-answer : (room : ℕ) → answerOf node room received ≡ twice n 0 Unknown
-  unfolding answerOf
-  fault-answer room = rw (delivery room, fault-repeat room, fault-taken, heard, ne-eqb n 0 some)
+  fault-answer = unread-answer node n some received fault-unread
 
   pub fault-output : (output : List ℕ) → outputAfter node received output ≡ output
-  unfolding outputAfter
-  fault-output output = rw (fault-repeat (length output), ne-eqb n 0 some)
+  fault-output = unread-output node n some received fault-unread
+
+-- and where reading has it
+pub reading-unread : (node : Node) (received : List ℕ) (refusal : Refusal) → nodeFault node ≡ 0 → readOf received ≡ Refused refusal
+    → nodeOrReadingFault node received ≡ refusalNumber refusal
+unfolding nodeOrReadingFault _orElse_
+reading-unread node received refusal clean e = rw (clean, e)

@@ -1,26 +1,27 @@
 -- The programs shut out, from laws of the node and of the walk.
 use Prim.Native.Nat.{ℕ, zero, suc, _+_, _<_}
 use native.Mathlib.Omega.{arith}
-use mathlib.Core.Bool.{Bool, true, false, cond}
+use mathlib.Core.Bool.{Bool, true, false, not, cond}
 use mathlib.Core.List.{List, [], _∷_, _++_}
 use mathlib.Core.Path.{_≡_, refl, ap, sym, _∙_}
 use lib.Dec.{eqb}
 use lib.ListN.{length, drop}
 use borrow.Author.Tests.{ne-eqb, eq-eqb}
 use Rattle.octets.specs.Numbers.{_gives_, _orElse_}
+use Rattle.octets.specs.Octets.{over}
 use Rattle.octets.proofs.Numbering.{orElse-zero, gives-zero}
 use Rattle.pdu.specs.Header.{headerOf}
 use Rattle.pdu.specs.Reading.{readOf}
 use Rattle.pdu.specs.Parts.{addressesAt, inPath, lastOr}
 use Rattle.lists.specs.Lists.{lowAboveHigh, faultOf, firstFault, holds}
 use Rattle.decision.specs.Decision.{Node, echoFault, passFault, dropFault, deliveryFault, repeatFault}
-use Rattle.node.specs.Repeat.{lowered}
-use Rattle.node.specs.Answers.{nodeFault, nodeOrReadingFault, stopFault, deliveryNumber, repeatNumber, taken, heardFrom, answerOf}
+use Rattle.node.specs.Repeat.{lowered, repeated}
+use Rattle.node.specs.Answers.{nodeFault, nodeOrReadingFault, stopFault, deliveryNumber, repeatNumber, taken, heardFrom, answerOf, outputAfter}
 use Rattle.node.proofs.ShutOut as shut
 use Rattle.batch.specs.declared.Cursor.{Cursor}
 use Rattle.batch.specs.declared.Stepped.{Stepped}
 use Rattle.batch.specs.declared.Stepped.the-variants.{TooLong, Ended, Answered}
-use Rattle.batch.specs.Walk.{isTooLong, stepOf, Walk, endingAt, walkFrom, walk, continued, steps}
+use Rattle.batch.specs.Walk.{isTooLong, stepOf, stepOutput, Walk, endingAt, walkFrom, walk, continued, steps}
 use Rattle.batch.proofs.Walking as walking
 use Rattle.checked_by_hand.specs.Examples.{nodeAt}
 use Rattle.shut_out.specs.ShutOut.{Stepper, KeepsStepping, walkedBy, Follows, ShutOut, lentOutput}
@@ -113,11 +114,26 @@ zero-stays node room received none again =
 lowered-by-one : (hop : ℕ) → 0 < hop → hop < 7 → lowered hop + 1 ≡ hop
 lowered-by-one hop some few = rw (ne-eqb hop 7 (λ e. omega arith)) (omega arith)
 
+off-stays : (node : Node) (room : ℕ) (received : List ℕ) → node .settings .repeating ≡ false → repeatNumber node room received ≡ 0 → ⊥
+unfolding repeatNumber repeatFault
+off-stays node room received off again =
+    let later = orElse-zero _ _ (orElse-zero _ _ again .1) .1 in
+    let on : not (node .settings .repeating) ≡ false = gives-zero _ 36 (omega arith) (orElse-zero _ _ later .0) in
+    let both : true ≡ false = sym (ap not off) ∙ on in
+    let z : _≡_ {A = ℕ} 0 1 = cc in
+    omega arith
+
 pub shut-out : ShutOut
-unfolding answerOf deliveryNumber repeatNumber stopFault nodeFault nodeOrReadingFault dropFault echoFault passFault deliveryFault repeatFault taken heardFrom
+unfolding stepOutput outputAfter repeated over answerOf deliveryNumber repeatNumber stopFault nodeFault nodeOrReadingFault dropFault echoFault passFault deliveryFault repeatFault taken heardFrom
     readOf headerOf addressesAt inPath lastOr faultOf firstFault lowAboveHigh holds _gives_ _orElse_
 shut-out =
     record {
+      off-stays = off-stays;
+      off-numbers = (refl, refl);
+      added-header = (refl, refl);
+      full-path = (refl, refl);
+      room-last = (refl, refl, refl, refl);
+      step-copies-out = refl;
       refuses-all = λ hearer refuses keeps. shut.refuses-all hearer refuses keeps;
       one-fixed-answer = λ hearer fixed same keeps. shut.one-fixed-answer hearer fixed same keeps;
       copies-nothing-out = λ hearer leaves keeps. shut.copies-nothing-out hearer leaves keeps;

@@ -2,7 +2,7 @@
 -- from its parts.
 use Prim.Native.Nat.{ℕ, zero, suc, _+_, _<_}
 use mathlib.Core.Bool.{true, false}
-use mathlib.Core.List.{List, [], _∷_}
+use mathlib.Core.List.{List, [], _∷_, _++_}
 use mathlib.Core.Path.{_≡_}
 use lib.ListN.{length, take, drop, replicate}
 use Rattle.octets.specs.Octets.{at}
@@ -18,7 +18,7 @@ use Rattle.node.specs.Repeat.{lowered}
 use Rattle.node.specs.Answers.{taken, repeatNumber, answerOf, twice, Hears}
 use Rattle.batch.specs.declared.Cursor.{Cursor}
 use Rattle.batch.specs.declared.Stepped.{Stepped}
-use Rattle.batch.specs.Walk.{Steps, Walk, endingAt, walk, continued}
+use Rattle.batch.specs.Walk.{stepOutput, Steps, Walk, endingAt, walk, continued}
 use Rattle.checked_by_hand.specs.Examples.{example, exampleRepeated, nodeAt}
 
 -- whatever stands for `hear`: an answer and what is left in the output; and that it keeps the promise of `hear`
@@ -78,7 +78,47 @@ ownRange = 2000 ∷ 2000 ∷ []
 abbrev pub reliablePdu : List ℕ
 reliablePdu = 0x0B ∷ 0x00 ∷ 0x10 ∷ 0x00 ∷ 0x03 ∷ 0xE8 ∷ 0x06 ∷ 0x40 ∷ 0x55 ∷ 0x01 ∷ 0x07 ∷ 0xD0 ∷ []
 
+-- node 2000, set not to repeat
+abbrev pub silent : Node
+silent =
+    record {
+      settings = record {
+        edition = 12;
+        own = 2000;
+        echo = true;
+        repeating = false;
+        «source_pass» = Neither;
+        «source_reject» = Neither;
+        «destination_pass» = Neither;
+        «destination_reject» = Neither;
+      };
+      lists = record { sourcePass = two [] []; sourceReject = two [] []; destinationPass = two [] []; destinationReject = two [] [] };
+    }
+
+-- PDUs for everyone: of hop limit 0; with an added header; with a full path
+abbrev pub withoutHops : List ℕ
+withoutHops = 0x00 ∷ 0x00 ∷ 0x00 ∷ 0x00 ∷ 0x03 ∷ 0xE8 ∷ []
+
+abbrev pub withAddedHeader : List ℕ
+withAddedHeader = 0x00 ∷ 0x00 ∷ 0x90 ∷ 0x00 ∷ 0x03 ∷ 0xE8 ∷ []
+
+abbrev pub withFullPath : List ℕ
+withFullPath = (0x02 ∷ 0x00 ∷ 0x10 ∷ 0x00 ∷ 0x03 ∷ 0xE8 ∷ 0xFF ∷ []) ++ replicate 510 0
+
 pub record ShutOut : Type 0 where
+  -- a node set not to repeat never does; its number is 36, before 37 and after 41
+  pub off-stays : (node : Node) (room : ℕ) (received : List ℕ) → node .settings .repeating ≡ false → repeatNumber node room received ≡ 0 → ⊥
+  pub off-numbers : (answerOf silent 100 example .repeat ≡ 36) × (answerOf silent 100 withoutHops .repeat ≡ 36)
+  -- with an added header 35, and it is repeated; with a full path 38, and it is delivered
+  pub added-header : (answerOf (nodeAt 2000 true false) 100 withAddedHeader .delivery ≡ 35) × (answerOf (nodeAt 2000 true false) 100 withAddedHeader .repeat ≡ 0)
+  pub full-path : (answerOf (nodeAt 2000 true false) 1000 withFullPath .delivery ≡ 0) × (answerOf (nodeAt 2000 true false) 1000 withFullPath .repeat ≡ 38)
+  -- the lists before the room; 40 twice; no room is needed where nothing is repeated
+  pub room-last : (answerOf (nodeAt 2000 true true) 0 example ≡ twice 31 20 (Known 1000))
+      × (answerOf (nodeAt 2000 true false) 21 example ≡ twice 40 20 (Known 1000))
+      × (answerOf (nodeAt 1600 true false) 0 example .delivery ≡ 0) × (answerOf silent 0 withoutHops .delivery ≡ 0)
+  -- a step that copies nothing out, or the wrong PDU
+  pub step-copies-out : stepOutput (nodeAt 2000 true false) (withoutHops ++ example) (record { place = 6; ended = false }) lentOutput
+      ≡ exampleRepeated ++ replicate 78 0
   -- a node that refuses all, as far as repeating goes
   pub refuses-all : (hearer : Hearer) → ((node : Node) (received output : List ℕ) → hearer node received output .0 .repeat ≡ 0 → ⊥)
       → KeepsHearing hearer → ⊥

@@ -29,6 +29,12 @@ counted-not : (answer : Answer) (received memory : List ℕ) → wasRead answer 
 unfolding answerNumber memoryAfterAnswer
 counted-not answer received memory e = (rw e, rw e)
 
+counted-so : (answer : Answer) (received memory : List ℕ) → wasRead answer ≡ true
+    → (answerNumber answer received memory ≡ countNumber (heardOf answer received) memory)
+    × (memoryAfterAnswer answer received memory ≡ memoryAfterCount (heardOf answer received) memory)
+unfolding answerNumber memoryAfterAnswer
+counted-so answer received memory e = (rw e, rw e)
+
 nothing-counted : (node : Node) (room : ℕ) (received memory : List ℕ) → (nodeOrReadingFault node received ≡ 0 → ⊥)
     → let answer = answerOf node room received in (answerNumber answer received memory ≡ 0) × (memoryAfterAnswer answer received memory ≡ memory)
 nothing-counted node room received memory fault = go (wasRead answer) refl
@@ -72,6 +78,8 @@ pub stations-heard : StationsHeard
 stations-heard =
     record {
       room-for-128 = λ memory h. omega arith;
+      counted = counted-so;
+      heard = λ answer received. (refl, refl, refl);
       read = λ node room received e. (read-judged node room received e, echo-judged node room received e);
       read-only = unread-judged;
       not-read = nothing-counted;

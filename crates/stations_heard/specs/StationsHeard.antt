@@ -26,6 +26,13 @@ pub record StationsHeard : Type 0 where
       × (heardOf (answerOf node room received) received .echo
       ≡ (isEcho (node .settings) (headerOf received) received || isOwnReport (node .settings) (headerOf received)))
   pub read-only : (node : Node) (room : ℕ) (received : List ℕ) → wasRead (answerOf node room received) ≡ true → nodeOrReadingFault node received ≡ 0
+  -- where it was read, it is counted, by its source, its path bit and its path count
+  pub counted : (answer : Answer) (received memory : List ℕ) → wasRead answer ≡ true
+      → (answerNumber answer received memory ≡ countNumber (heardOf answer received) memory)
+      × (memoryAfterAnswer answer received memory ≡ memoryAfterCount (heardOf answer received) memory)
+  pub heard : (answer : Answer) (received : List ℕ) → let told = heardOf answer received in
+      (told .source ≡ headerOf received .source) × (told .«path_bit» ≡ headerOf received .«path_bit»)
+      × (told .«path_count» ≡ headerOf received .«path_count»)
   -- where it was not read, with 17 as with a fault of the lists or of reading, nothing is counted
   pub not-read : (node : Node) (room : ℕ) (received memory : List ℕ) → (nodeOrReadingFault node received ≡ 0 → ⊥)
       → let answer = answerOf node room received in (answerNumber answer received memory ≡ 0) × (memoryAfterAnswer answer received memory ≡ memory)

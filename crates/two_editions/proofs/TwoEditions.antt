@@ -8,7 +8,8 @@ use Rattle.pdu.specs.declared.Sender.the-variants.{Unknown}
 use Rattle.pdu.specs.Header.{headerOf}
 use Rattle.pdu.specs.Reading.{readOf}
 use Rattle.writing.specs.Writing.{headerBytes, pathBytes, encode}
-use Rattle.editions.specs.Editions.{shownWith, readUnder}
+use Rattle.pdu.specs.Parts.{addressesAt, lastOr}
+use Rattle.editions.specs.Editions.{shownWith, wireOf, readUnder}
 use Rattle.editions.proofs.Showing.{unknown-refused}
 use Rattle.editions.proofs.Same.{wire-read, same-bytes}
 use Rattle.origin.specs.Origination.{freshHeader, fresh, settingsFault, originationNumber}
@@ -51,7 +52,7 @@ module _ where
   flag-written = refl
 
 pub two-editions : TwoEditions
-unfolding readUnder readOf headerOf shownWith settingsOf answerNumber memoryAfterAnswer
+unfolding readUnder readOf headerOf shownWith wireOf lastOr addressesAt settingsOf answerNumber memoryAfterAnswer
 two-editions =
     record {
       two = (refl, refl);
@@ -101,9 +102,10 @@ two-editions =
       fresh-set = flag-written;
       in-c-reserved = λ seen bytes number is. (refl, ap hasFlag is, ap flagOf is, ap reservedShown is);
       in-c-flagged = λ seen bytes encrypted number is. (refl, ap hasFlag is, ap flagOf is, ap reservedShown is);
-      in-c-refused = λ number bytes. (refl, refl, refl, refl, refl, refl);
+      in-c-refused = λ number bytes. refl;
+      in-c-whole = refl;
       node-in-c = λ node. refl;
-      fresh-in-c = λ settings. (refl, refl);
+      fresh-in-c = λ settings. (refl, refl, refl, refl, refl, refl, refl, refl, refl);
       in-c-11 = (refl, refl, refl);
       in-c-12 = (refl, refl, refl);
       counts-nothing = λ received memory. (refl, refl);

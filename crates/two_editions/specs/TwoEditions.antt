@@ -70,7 +70,11 @@ withEdition edition node =
     })
     (node .lists)
 
--- For the worked cases: a PDU of 6 bytes whose three bits after the port are all set
+-- For the worked cases: a PDU with every field; and one of 6 bytes whose three bits after the port are all set
+abbrev pub everyField : List ℕ
+everyField =
+    0x0F ∷ 0x9D ∷ 0xD0 ∷ 0x02 ∷ 0x03 ∷ 0xE8 ∷ 0x06 ∷ 0x40 ∷ 0x55 ∷ 0x01 ∷ 0x07 ∷ 0xD0 ∷ 0xAA ∷ 0xBB ∷ []
+
 abbrev pub allSet : List ℕ
 allSet = 0x00 ∷ 0x0E ∷ 0x00 ∷ 0x00 ∷ 0x00 ∷ 0x05 ∷ []
 
@@ -204,11 +208,35 @@ pub record TwoEditions : Type 0 where
   pub in-c-flagged : (shown : Shown) (bytes : List ℕ) (encrypted : Bool) (number : ℕ) → shown .bits ≡ Flagged encrypted number
       → let header = headerInC (Pdu shown) bytes in
       (header .number ≡ 0) × (header .«has_encrypted» ≡ true) × (header .encrypted ≡ encrypted) × (header .reserved ≡ number)
-  pub in-c-refused : (number : ℕ) (bytes : List ℕ) → let header = headerInC (Refused number) bytes in
-      (header .number ≡ number) × (header .«has_encrypted» ≡ false) × (header .encrypted ≡ false) × (header .reserved ≡ 0)
-      × (header .«header_length» ≡ 0) × (header .«pdu_length» ≡ 0)
+  pub in-c-refused : (number : ℕ) (bytes : List ℕ) → headerInC (Refused number) bytes
+      ≡ record {
+        number = number;
+        protocol = 0;
+        «time_stamp_request» = false;
+        «path_bit» = false;
+        «has_destination» = false;
+        port = 0;
+        «has_encrypted» = false;
+        encrypted = false;
+        reserved = 0;
+        ack = false;
+        «added_header» = false;
+        «hop_limit» = 0;
+        «payload_length» = 0;
+        source = 0;
+        destination = 0;
+        «pdu_id» = 0;
+        «path_count» = 0;
+        «has_last_sender» = false;
+        «last_sender» = 0;
+        «header_length» = 0;
+        «pdu_length» = 0;
+      }
   pub node-in-c : (node : MantNode) → nodeFromC node .edition ≡ node .edition
-  pub fresh-in-c : (settings : MantFresh) → (freshFromC settings .edition ≡ settings .edition) × (freshFromC settings .encrypted ≡ settings .encrypted)
+  pub fresh-in-c : (settings : MantFresh) → let fresh = freshFromC settings in
+      (fresh .edition ≡ settings .edition) × (fresh .source ≡ settings .source) × (fresh .«hop_limit» ≡ settings .«hop_limit»)
+      × (fresh .port ≡ settings .port) × (fresh .«time_stamp_request» ≡ settings .«time_stamp_request») × (fresh .«with_path» ≡ settings .«with_path»)
+      × (fresh .reliable ≡ settings .reliable) × (fresh .«pdu_id» ≡ settings .«pdu_id») × (fresh .encrypted ≡ settings .encrypted)
   -- IV. WORKED CASES
   -- no other number is an edition, also none that 32 bits would cut to 11
   pub no-other : (known 0 ≡ false) × (known 1 ≡ false) × (known 2 ≡ false) × (known 10 ≡ false) × (known 13 ≡ false) × (known 4294967307 ≡ false)
@@ -232,5 +260,30 @@ pub record TwoEditions : Type 0 where
   pub fresh-set : fresh (settingsFor 12 true 0 false) [] ≡ 0x00 ∷ 0x08 ∷ 0x00 ∷ 0x00 ∷ 0x00 ∷ 0x05 ∷ []
   pub in-c-11 : let header = headerInC (readUnder 11 allSet) allSet in
       (header .«has_encrypted» ≡ false) × (header .encrypted ≡ false) × (header .reserved ≡ 7)
+  -- every field of a PDU that has all of them, each with a value of its own
+  pub in-c-whole : headerInC (readUnder 12 everyField) everyField
+      ≡ record {
+        number = 0;
+        protocol = 1;
+        «time_stamp_request» = true;
+        «path_bit» = true;
+        «has_destination» = true;
+        port = 9;
+        «has_encrypted» = true;
+        encrypted = true;
+        reserved = 2;
+        ack = true;
+        «added_header» = true;
+        «hop_limit» = 5;
+        «payload_length» = 2;
+        source = 1000;
+        destination = 1600;
+        «pdu_id» = 85;
+        «path_count» = 1;
+        «has_last_sender» = true;
+        «last_sender» = 2000;
+        «header_length» = 12;
+        «pdu_length» = 14;
+      }
   pub in-c-12 : let header = headerInC (readUnder 12 allSet) allSet in
       (header .«has_encrypted» ≡ true) × (header .encrypted ≡ true) × (header .reserved ≡ 3)

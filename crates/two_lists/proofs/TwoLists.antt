@@ -48,8 +48,9 @@ changed-choice number = go (eqb number 1) (eqb number 2)
     go false false = refl
 
 in-each : (faultOf (replicate 129 7) ≡ 22) × (faultOf (9 ∷ 5 ∷ 7 ∷ []) ≡ 21) × (faultOf (9 ∷ 5 ∷ []) ≡ 20) × (faultOf (replicate 128 7) ≡ 0)
+    × (faultOf (5 ∷ 9 ∷ 9 ∷ 5 ∷ []) ≡ 20) × (faultOf (5 ∷ 9 ∷ 4 ∷ 4 ∷ []) ≡ 0)
 unfolding faultOf lowAboveHigh _gives_ _orElse_
-in-each = (refl, refl, refl, refl)
+in-each = (refl, refl, refl, refl, refl, refl)
 
 blocks : (listsIn [] ≡ eight [] [] [] [] [] [] [] []) × (listsIn (2 ∷ 0 ∷ 0 ∷ 0 ∷ 0 ∷ 0 ∷ 2 ∷ []) ≡ eight [] [] [] [] [] [] [] [])
     × (listsIn (4 ∷ 0 ∷ 0 ∷ 0 ∷ 0 ∷ 0 ∷ 0 ∷ 0 ∷ 1 ∷ 5 ∷ []) ≡ eight (1 ∷ 5 ∷ []) [] [] [] [] [] [] [])
@@ -84,7 +85,9 @@ two-lists =
           let is = changed-choice choice in (refl, refl, refl, refl, is, is, is, is);
       job-lists = λ bytes job. refl;
       job-choices = λ bytes job.
-          let flag : ℕ → Bool = λ bit. eqb (job .flags / bit % 2) 1 in (first-if (flag 4), first-if (flag 8), first-if (flag 16), first-if (flag 32));
+          let flag : ℕ → Bool = λ bit. eqb (job .flags / bit % 2) 1 in (
+            first-if (flag 4), first-if (flag 8), first-if (flag 16), first-if (flag 32), refl, refl,
+          );
       choices = λ first second. (refl, refl, refl);
       stopping = λ list address. (refl, refl, refl, refl);
       stopping-by-destination = λ list address. (refl, refl, refl, refl);
@@ -104,7 +107,13 @@ two-lists =
       empty-chosen = (refl, refl, refl);
       not-chosen-found = (refl, refl, refl);
       changed-over = (refl, refl, refl, refl);
+      answer-in-c = λ answer. (refl, refl, refl, refl, refl, refl);
+      step-in-c = λ cursor next answer. (refl, refl, refl, refl, refl, refl, refl);
+      heard-in-c = λ node received output left told e. e;
+      stepped-in-c = λ node batch output left cursor told e. e;
       in-each = in-each;
+      held = (refl, refl, refl, refl);
+      cut-to-none = refl;
       blocks = blocks;
       far-too-long = far-too-long;
     }

@@ -19,6 +19,7 @@ use Rattle.list_block.specs.Laying.{cutLists, eight, Lays}
 use Rattle.decision.specs.declared.Choice.the-variants.{First, Second, Neither}
 use Rattle.decision.specs.declared.Settings.{Settings}
 use Rattle.decision.specs.Decision.{Node, nodeOf, chosen, isOutside, isIn, destinationIsOutside, destinationIsIn, passFault}
+use Rattle.node.specs.declared.Answer.{Answer}
 use Rattle.node.specs.Answers.{nodeFault, answerOf, twice, outputAfter}
 use Rattle.batch.specs.declared.Cursor.{Cursor}
 use Rattle.batch.specs.declared.Stepped.the-variants.{TooLong, Ended, Answered}
@@ -27,7 +28,9 @@ use Rattle.job.specs.declared.Job.{Job}
 use Rattle.job.specs.Jobs.{valuesIn, nodeIn}
 use Rattle.flood.specs.Air.{sends}
 use Rattle.boundary.specs.declared.a_node.MantNode.{MantNode}
-use Rattle.boundary.specs.Boundary.{choiceFromC, nodeFromC, changedOver}
+use Rattle.boundary.specs.declared.a_node.MantAnswer.{MantAnswer}
+use Rattle.boundary.specs.declared.a_walk.MantStep.{MantStep}
+use Rattle.boundary.specs.Boundary.{choiceFromC, nodeFromC, changedOver, answerInC, stepInC, HearsInC, StepsInC}
 use Rattle.two_lists.specs.ListsAndChoices.{listInOrder, chosenLists, firstsPass, secondsPass, exampleNumberAt, numberBy, byEmpty, besideOdd}
 
 -- For the worked cases: node 2000 as C sets it, edition 1.2, echo and repeating on, no list chosen
@@ -84,6 +87,7 @@ pub record TwoLists : Type 0 where
       × (settings .«source_reject» ≡ cond (eqb (job .flags / 8 % 2) 1) First Neither)
       × (settings .«destination_pass» ≡ cond (eqb (job .flags / 16 % 2) 1) First Neither)
       × (settings .«destination_reject» ≡ cond (eqb (job .flags / 32 % 2) 1) First Neither)
+      × (settings .echo ≡ eqb (job .flags % 2) 1) × (settings .repeating ≡ eqb (job .flags / 2 % 2) 1)
   -- II. CASE BY CASE, what the definitions say
   -- what a choice chooses; a pass list stops what it does not hold, a reject list what it holds, none nothing; and of each kind the list chosen is asked
   pub choices : (first second : List ℕ) → (chosen First (two first second) ≡ some first) × (chosen Second (two first second) ≡ some second)
@@ -130,6 +134,18 @@ pub record TwoLists : Type 0 where
       × (settings .«source_pass» ≡ choiceFromC (node .«source_pass»)) × (settings .«source_reject» ≡ choiceFromC (node .«source_reject»))
       × (settings .«destination_pass» ≡ choiceFromC (node .«destination_pass»))
       × (settings .«destination_reject» ≡ choiceFromC (node .«destination_reject»))
+  -- what C sees of an answer and of a step, field by field, and that its calls return these and leave the output that the node leaves
+  pub answer-in-c : (answer : Answer) → let told = answerInC answer in
+      (told .delivery ≡ answer .delivery) × (told .repeat ≡ answer .repeat) × (told .«delivered_place» ≡ answer .«delivered_place»)
+      × (told .«delivered_length» ≡ answer .«delivered_length») × (told .«repeated_length» ≡ answer .«repeated_length»)
+      × (told .taken ≡ answer .taken)
+  pub step-in-c : (cursor next : Cursor) (answer : Answer) → (stepInC cursor (Answered answer next) ≡ record { kind = 0; answer = answerInC answer; next = next })
+      × (stepInC cursor Ended .kind ≡ 1) × (stepInC cursor Ended .answer .delivery ≡ 255) × (stepInC cursor Ended .answer .repeat ≡ 255)
+      × (stepInC cursor TooLong .kind ≡ 2) × (stepInC cursor TooLong .answer .delivery ≡ 54) × (stepInC cursor TooLong .answer .repeat ≡ 54)
+  pub heard-in-c : (node : Node) (received output left : List ℕ) (told : MantAnswer) → HearsInC node received output told left
+      → (told ≡ answerInC (answerOf node (length output) received)) × (left ≡ outputAfter node received output)
+  pub stepped-in-c : (node : Node) (batch output left : List ℕ) (cursor : Cursor) (told : MantStep) → StepsInC node batch cursor output told left
+      → (told ≡ stepInC cursor (stepOf node (length output) batch cursor)) × (left ≡ stepOutput node batch cursor output)
   -- IV. WORKED CASES
   -- where each list chosen lets the example pass, and where none is chosen, no list stops it
   pub none-stops : (numberBy firstsPass First First First First ≡ 39) × (numberBy firstsPass Neither Neither Neither Neither ≡ 39)
@@ -149,6 +165,12 @@ pub record TwoLists : Type 0 where
       × (exampleNumberAt (nodeFromC (changedOver nodeInC 257)) secondsPass ≡ 39)
   -- in each list 22 before 21, and that before 20: of 129 values, of three, of two, and of 128
   pub in-each : (faultOf (replicate 129 7) ≡ 22) × (faultOf (9 ∷ 5 ∷ 7 ∷ []) ≡ 21) × (faultOf (9 ∷ 5 ∷ []) ≡ 20) × (faultOf (replicate 128 7) ≡ 0)
+      × (faultOf (5 ∷ 9 ∷ 9 ∷ 5 ∷ []) ≡ 20) × (faultOf (5 ∷ 9 ∷ 4 ∷ 4 ∷ []) ≡ 0)
+  -- a list of two ranges, and one whose last value has no partner
+  pub held : (holds (1 ∷ 2 ∷ 5 ∷ 9 ∷ []) 9 ≡ true) × (holds (1 ∷ 2 ∷ 5 ∷ 9 ∷ []) 3 ≡ false) × (holds (5 ∷ 9 ∷ 7 ∷ []) 8 ≡ true)
+      × (holds (5 ∷ 9 ∷ 7 ∷ []) 10 ≡ false)
+  -- that number is no choice in C, so that 0 stands there
+  pub cut-to-none : changedOver nodeInC 257 .«source_pass» ≡ 0
   -- a block as its words stand: eight empty lists where there are none; a length that is not there is 0; a list ends where the block does; and each of the
   -- eight in its place
   pub blocks : (listsIn [] ≡ eight [] [] [] [] [] [] [] []) × (listsIn (2 ∷ 0 ∷ 0 ∷ 0 ∷ 0 ∷ 0 ∷ 2 ∷ []) ≡ eight [] [] [] [] [] [] [] [])
