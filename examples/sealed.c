@@ -1,5 +1,5 @@
-/* A gate command from 1000 to 1600 that nobody else can read or make: sealed, repeated at node 2000, opened at the gate, and refused when it comes again or
-   was changed. From the repository's root:
+/* A gate command from 1000 to 1600: sealed, repeated at node 2000, opened at the gate, and refused when it comes again or was changed. From the
+   repository's root:
 
        rt staticlib mant
        gcc -std=c11 -Wall -Wextra -pedantic examples/sealed.c -Iinclude target/staticlib/libmant.a -o /tmp/sealed && /tmp/sealed
@@ -9,10 +9,20 @@
 
 #include "mant.h"
 
-/* The key is shared by the two sites. Sender and receiver keep the next number and the record over a restart. */
+/* The two sites share the key, and no third site has it. These two variables stand for memory that survives a restart: the sender's next number, and the
+   receiver's record. */
 static const MantKey key = {{'k', 'e', 'e', 'p', ' ', 'm', 'e', ' ', 's', 'e', 'c', 'r', 'e', 't', '!', '!'}};
 static uint64_t next_number = 850;
 static uint32_t record[MANT_SOURCE_WORDS];
+
+/* Overwrites the stack that mant_seal or mant_open used, since round keys are left there. The function that made that call makes this one, at once. */
+__attribute__((noinline)) static void clear_stack(void)
+{
+    volatile uint8_t used[2048];
+    for (size_t i = 0; i < sizeof used; i++) {
+        used[i] = 0;
+    }
+}
 
 static void print_hex(const char *name, const uint8_t *bytes, size_t length)
 {
@@ -23,10 +33,21 @@ static void print_hex(const char *name, const uint8_t *bytes, size_t length)
     printf("\n");
 }
 
+/* The next number is kept before the sealed PDU can go out: after a restart no number is used twice. */
+static MantWritten seal_next(const uint8_t *pdu, size_t length, uint8_t *sealed, size_t room)
+{
+    uint64_t number = next_number;
+    next_number = number + 1;
+    MantWritten written = mant_seal(key, number, pdu, length, sealed, room);
+    clear_stack();
+    return written;
+}
+
 static void open_at_gate(const char *name, const uint8_t *pdu, size_t length)
 {
     uint8_t plain[MANT_PAYLOAD_LIMIT];
     MantWritten opened = mant_open(key, record, MANT_SOURCE_WORDS, pdu, length, plain, sizeof plain);
+    clear_stack();
 
     printf("%s: %u, %s\n", name, opened.number, mant_meaning(opened.number));
     if (opened.number == MANT_DONE) {
@@ -43,8 +64,9 @@ int main(void)
 
     MantWritten written = mant_originate(settings, command, sizeof command, fresh, sizeof fresh);
     print_hex("originated", fresh, written.length);
-    written = mant_seal(key, next_number++, fresh, written.length, sealed, sizeof sealed);
+    written = seal_next(fresh, written.length, sealed, sizeof sealed);
     print_hex("sealed", sealed, written.length);
+    printf("its message number: %u\n", (unsigned)mant_message_number(sealed, written.length).message);
 
     /* Node 2000 has no key and needs none. */
     MantAnswer answer = mant_hear(node, NULL, 0, sealed, written.length, repeated, sizeof repeated);
@@ -56,5 +78,9 @@ int main(void)
     open_at_gate("as it was sent", repeated, answer.repeated_length);
     open_at_gate("the same again", sealed, written.length);
     printf("%u source is held: the last number accepted from %u is %u\n", (unsigned)record[0], (unsigned)record[1], (unsigned)record[2]);
+
+    /* Both sites change the key: the gate removes the source, and its numbers may begin again. */
+    printf("removed: %s\n", mant_remove_source(record, MANT_SOURCE_WORDS, settings.source) ? "yes" : "no");
+    printf("sources held: %u\n", (unsigned)record[0]);
     return 0;
 }

@@ -15,7 +15,7 @@
  *     The transmit queue   PDUs that wait for the modem's next slot
  *     The serial exchange  a PDU between a decoder and an encoder that are two devices
  *     Reliable messages    PDUs that are sent again until they are acknowledged
- *     Sealing and opening  payloads that nobody without the key can read or make
+ *     Sealing and opening  payloads enciphered under a key, and opened once
  *     Planning             how often one report can go out at most; the sizes
  *
  * Each begins with what it is for, its memory, the numbers that it answers beside 0 and the stack of its calls, and ends with an example: the body of a main,
@@ -818,20 +818,31 @@ MantOutcome mant_acknowledge(MantRetained *table, size_t records, uint64_t last,
 
 /* ---- Sealing and opening ----
  *
- * Payloads that nobody without the key can read or make (document 02, W-212; document 000, section 3.5): a PDU sealed by who sends it, its payload opened by
- * who it is for, once. Repeaters need no key. The message number lies in clear in the first three bytes of the sealed payload, most significant first. Once a
- * later number is accepted from a source an earlier one never opens, so who sends has one sealed message under way to a box, or seals what was lost anew under
- * a new number. 82 is found before the hash is looked at: it proves nothing about who sent the PDU, nor that it was opened before; acknowledge then
- * only the very message that was carried out last (examples/box.c).
+ * Payloads enciphered under a key (document 02, W-212; document 000, section 3.5). Sealing enciphers the payload of a PDU, and with it a hash of header,
+ * message number and payload. Opening returns the payload once: a PDU that was changed by someone who does not know its payload is refused with 83, and one
+ * whose number is not greater than the last accepted from its source with 82. Repeaters need no key. The message number lies in clear. Once a later number is
+ * accepted from a source an earlier one never opens, so a sender has one sealed message under way to a box, or seals what was lost anew under a new number.
+ * 82 is found before the hash is looked at: it proves nothing about who sent the PDU, nor that it was opened before; acknowledge then only the very message
+ * that was carried out last (examples/box.c).
+ * What sealing does not protect (docs/requests/W-212.md):
+ *     - Known plain text. The hash has no key of its own. Whoever knows the payload of one sealed PDU can make others with its source and number, up to its
+ *       length, for any destination and port; they open wherever that number was not accepted yet. Do not seal what can be guessed, or use a key for each gate.
+ *     - The hash has 32 bits: of random PDUs one in 4,294,967,296 opens.
+ *     - Hop limit, path and so the last sender can be changed by anyone; the whole header and the message number can be read by anyone.
+ *     - Acknowledgements are not sealed: anyone can make one.
+ *     - Whoever holds the key can seal for every source. Use a key for each gate.
+ *     - The time of a table look-up depends on the key, on a processor with a cache.
+ *     - Both calls leave round keys, from which the key follows, in the stack that they used. If others can read that memory, overwrite 2,048 bytes of stack
+ *       after each call (clear_stack in examples/sealed.c).
  * Memory: to open, a record that the caller lends, and keeps over a restart too: MANT_SOURCE_WORDS uint32_t words, 516 bytes, for MANT_SOURCE_LIMIT sources;
  *     more words have room for no more, fewer for (words - 1) / 2. It is empty where its first word is 0. The first word is how many sources are held; then
- *     come two words for each, its address and the last message number accepted from it. A first word above the room is a full record's. A record is
- *     changed only where a PDU is opened (number 0): then the number of its source's entry is written, or a new source is put behind the others and counted;
- *     every other word is kept, but that a first word above the room becomes the room. A caller who changes the key empties the record. Of words put
- *     together by hand the first entry of a source counts, and an address above 65,535 is no source's. To seal, none, but the caller counts the message
- *     numbers.
- * Numbers: in sealing 1 to 6, 88, 85, 86 and 87; in opening 1 to 6, 80 to 84 and 87.
- * Stack: mant_seal 1,464, mant_open 1,504.
+ *     come two words for each, its address and the last message number accepted from it. A first word above the room is a full record's. Where a PDU is
+ *     opened (number 0) the number of its source's entry is written, or a new source is put behind the others and counted; every other word is kept, but that
+ *     a first word above the room becomes the room. mant_remove_source changes it too, and no other call does. In malformed memory the first entry of a source
+ *     counts, and an address above 65,535 is no source's. If a source gets another key, remove it from the record (mant_remove_source): under a new key its
+ *     numbers may begin at 0 again. To seal, none, but the caller counts the message numbers.
+ * Numbers: in sealing 1 to 6, 88, 85, 86 and 87; in opening 1 to 6, 80 to 84 and 87; mant_message_number 1 to 6, 80 and 81.
+ * Stack: mant_seal 1,480, mant_open 1,504, mant_message_number 184, mant_remove_source 56.
  */
 
 #define MANT_SOURCE_LIMIT 64
@@ -846,6 +857,13 @@ typedef struct MantKey {
     uint8_t bytes[16];
 } MantKey;
 MANT_SIZE(MantKey, 16);
+
+/* The message number of a sealed PDU. Number 0; or 1 to 6, 80 or 81, and the message number is 0 then. */
+typedef struct MantNumbered {
+    uint8_t number;
+    uint32_t message;
+} MantNumbered;
+MANT_SIZE(MantNumbered, 8);
 
 /* Seals the PDU at the start of the bytes: writes it with its payload enciphered under the key, its encrypted bit set, its time stamp request clear and
    its payload MANT_SEAL_LENGTH bytes longer; hop limit, path and all else are as they were. Answers 1 to 6 where there is no PDU, 88 where its encrypted
@@ -864,6 +882,15 @@ MantWritten mant_seal(MantKey key, uint64_t number, const uint8_t *pdu, size_t p
 MantWritten mant_open(MantKey key, uint32_t *record, size_t record_words, const uint8_t *pdu, size_t pdu_length, uint8_t *output,
                       size_t output_length);
 
+/* The message number of the sealed PDU at the start of the bytes, 0 to MANT_NUMBER_LIMIT. Returns 1 to 6 where there is no PDU, 80 where its encrypted bit
+   is clear, 81 where its payload is shorter than MANT_SEAL_LENGTH, the first that applies. Neither key nor hash is used: anyone can send any number. */
+MantNumbered mant_message_number(const uint8_t *pdu, size_t pdu_length);
+
+/* Removes a source from the record, and returns whether it was held; if it was not, no word changes. The entries behind it move up, and the words behind the
+   entries left stay. The next number from that source may be any, also one that was accepted before: remove a source only when its key changes, or when it is
+   gone for good. */
+bool mant_remove_source(uint32_t *record, size_t record_words, uint16_t source);
+
 /* Example: a command under message number 850 opens once.
 
        static uint32_t record[MANT_SOURCE_WORDS];
@@ -872,10 +899,12 @@ MantWritten mant_open(MantKey key, uint32_t *record, size_t record_words, const 
        uint8_t sealed[MANT_PDU_LIMIT], plain[MANT_PAYLOAD_LIMIT];
        MantWritten written = mant_seal(key, 850, pdu, sizeof pdu, sealed, sizeof sealed);
        assert(written.number == MANT_DONE && written.length == sizeof pdu + MANT_SEAL_LENGTH);
+       assert(mant_message_number(sealed, written.length).message == 850);
        MantWritten opened = mant_open(key, record, MANT_SOURCE_WORDS, sealed, written.length, plain, sizeof plain);
        assert(opened.number == MANT_DONE && opened.length == 1 && plain[0] == 0x2A);
        opened = mant_open(key, record, MANT_SOURCE_WORDS, sealed, written.length, plain, sizeof plain);
-       assert(opened.number == MANT_NUMBER_NOT_GREATER); */
+       assert(opened.number == MANT_NUMBER_NOT_GREATER);
+       assert(mant_remove_source(record, MANT_SOURCE_WORDS, 1000) && record[0] == 0); */
 
 /* ---- Planning ----
  *

@@ -51,7 +51,8 @@ from mant_types import (ADDRESS, BYTE, EDITION_1_1, EDITION_1_2, EXCHANGE_LIMIT,
 # `open` is left out, so that `from mant import *` does not take the place of Python's own
 __all__ = ['Answer', 'EDITION_1_1', 'EDITION_1_2', 'Exchange', 'FIRST_LIST', 'Header', 'LibraryMissing', 'Limits', 'ListFault', 'Lists', 'NO_LIST', 'Node',
            'Number', 'ProgramMissing', 'Reach', 'Reached', 'Record', 'Refused', 'SECOND_LIST', 'Step', 'change_over', 'hear', 'limits', 'list_fault',
-           'list_holds', 'most_bytes', 'most_transmissions', 'originate', 'path', 'reach', 'read', 'read_exchange', 'seal', 'walk', 'write_exchange']
+           'list_holds', 'message_number', 'most_bytes', 'most_transmissions', 'originate', 'path', 'reach', 'read', 'read_exchange', 'remove_source', 'seal',
+           'walk', 'write_exchange']
 
 # known by this module's name, whichever file they stand in
 for _known in (Answer, Exchange, Header, LibraryMissing, Limits, ListFault, Lists, Node, Number, ProgramMissing, Reach, Reached, Record, Refused, Step, reach):
@@ -261,6 +262,28 @@ def seal(pdu, key, number):
     """
     output = given.room()
     return given.written(library().mant_seal(given.key(key), whole('number', number, WORD_64), *given.sliced('pdu', pdu), *output), output)
+
+
+def message_number(pdu):
+    """The message number of the sealed PDU at the start of the bytes. It lies in clear, and anyone can send any.
+
+    >>> message_number(seal(originate(b'open gate 3', source=1000, hop_limit=3), b'sixteen  letters', 850))
+    850
+    """
+    numbered = library().mant_message_number(*given.sliced('pdu', pdu))
+    given.checked(numbered.number)
+    return numbered.message
+
+
+def remove_source(record, source):
+    """Removes a source from a record, for when its key changes, and returns whether it was held. Its next number may then be any.
+
+    >>> record = Record((1, 1000, 850) + (0,) * 126)
+    >>> remove_source(record, 1000), remove_source(record, 1000), record.words[0]
+    (True, False, 0)
+    """
+    words = given.a(Record, 'record', record)._words
+    return library().mant_remove_source(words, SOURCE_WORDS, whole('source', source, ADDRESS))
 
 
 def open(pdu, key, record):

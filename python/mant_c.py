@@ -4,7 +4,7 @@ import ctypes
 import functools
 import os
 import pathlib
-from ctypes import c_bool, c_size_t, c_uint8, c_uint16, c_uint64, c_void_p
+from ctypes import c_bool, c_size_t, c_uint8, c_uint16, c_uint32, c_uint64, c_void_p
 
 TOP = pathlib.Path(__file__).resolve().parent.parent
 LIBRARY = TOP / 'target/python/libmant.so'
@@ -39,6 +39,7 @@ Step = struct('MantStep', kind=c_uint8, answer=Answer, next=Cursor)
 Exchange = struct(
     'MantExchange', number=c_uint8, header_place=c_size_t, header_length=c_size_t, payload_place=c_size_t, payload_length=c_size_t)
 Key = struct('MantKey', bytes=c_uint8 * 16)
+Numbered = struct('MantNumbered', number=c_uint8, message=c_uint32)
 Bound = struct('MantBound', number=c_uint8, too_large=c_bool, value=c_uint64)
 Limits = struct('MantLimits', fixed=c_size_t, payload=c_size_t, path=c_size_t, header=c_size_t, pdu=c_size_t, list=c_size_t, batch=c_size_t)
 
@@ -60,6 +61,8 @@ FUNCTIONS = {
     'mant_write_exchange': (Written, *SLICE, *SLICE),
     'mant_seal': (Written, Key, c_uint64, *SLICE, *SLICE),
     'mant_open': (Written, Key, *SLICE, *SLICE, *SLICE),
+    'mant_message_number': (Numbered, *SLICE),
+    'mant_remove_source': (c_bool, *SLICE, c_uint16),
     'mant_most_transmissions': (Bound, c_uint64, c_uint64),
     'mant_most_bytes': (Bound, c_uint64, c_uint64, c_uint64),
     'mant_limits': (Limits,),

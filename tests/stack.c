@@ -106,6 +106,8 @@ CALL(seal_short_call, mant_seal(key, 850, plain, sizeof plain, sealed, 99).numbe
 CALL(open_short_call, mant_open(key, record, MANT_SOURCE_WORDS, sealed, sizeof sealed, output, 99).number == MANT_NO_ROOM_FOR_PAYLOAD)
 CALL(open_call, mant_open(key, record, MANT_SOURCE_WORDS, sealed, sizeof sealed, output, sizeof output).length == PLAIN_LENGTH)
 CALL(open_again_call, mant_open(key, record, MANT_SOURCE_WORDS, sealed, sizeof sealed, output, sizeof output).number == MANT_NUMBER_NOT_GREATER)
+CALL(message_number_call, mant_message_number(sealed, sizeof sealed).message == 850)
+CALL(remove_source_call, mant_remove_source(record, MANT_SOURCE_WORDS, (uint16_t)record[1]))
 
 /* Each function, and calls of it: the longest way, and others that may be deeper. */
 static const struct {
@@ -142,6 +144,8 @@ static const struct {
     {"mant_queue_clear", {queue_clear_call}},
     {"mant_seal", {seal_short_call, seal_call}},
     {"mant_open", {open_short_call, open_call, open_again_call}},
+    {"mant_message_number", {message_number_call}},
+    {"mant_remove_source", {remove_source_call}},
     {"mant_most_transmissions", {most_transmissions_call}},
     {"mant_most_bytes", {most_bytes_call}},
     {"mant_limits", {limits_call}},

@@ -1,4 +1,4 @@
-/* Payloads that nobody without the key can read or make. */
+/* Payloads enciphered under a key, and opened once. */
 
 /* A hash that has taken the header, hop limit 0 and no path, as it stands in these bytes. */
 static Hashing hash_header(Header header, const uint8_t *bytes)

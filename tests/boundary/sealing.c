@@ -55,8 +55,6 @@ static void opening(void)
     memset(output, 77, sizeof output);
     CHECK(is_written(mant_open(key, record, MANT_SOURCE_WORDS, sealed, 27, output, 12), 82, 0) && memcmp(output, untouched, 12) == 0);
     CHECK(is_written(mant_open(key, record, MANT_SOURCE_WORDS, changed, 27, output, 12), 82, 0));
-    const uint8_t *number = sealed + mant_read(EDITION, sealed, 27).header_length;
-    CHECK((number[0] << 16 | number[1] << 8 | number[2]) == 850);
     CHECK(mant_hear(node, NO_LISTS, sealed, 27, repeated, sizeof repeated).repeated_length == 29);
     record[2] = 849;
     CHECK(is_written(mant_open(key, record, MANT_SOURCE_WORDS, repeated, 29, output, 12), 0, 11) && memcmp(output, example + 9, 11) == 0);
@@ -88,9 +86,70 @@ static void records(void)
     CHECK(is_written(mant_open(key, small, 4, output, 13, NULL, 0), 0, 0) && is_record(small, 1, 1000, 5) && small[3] == 1000);
 }
 
+static bool is_numbered(const uint8_t *pdu, size_t length, uint8_t number, uint32_t message)
+{
+    MantNumbered numbered = mant_message_number(pdu, length);
+    return numbered.number == number && numbered.message == message;
+}
+
+static void message_numbers(void)
+{
+    const uint8_t shorter[12] = {0, 8, 0, 6, 0x03, 0xE8}, plain[12] = {0, 0, 0, 6, 0x03, 0xE8};
+    const uint8_t greatest[13] = {0, 8, 0, 7, 0x03, 0xE8, 0xFF, 0xFF, 0xFF};
+    CHECK(is_numbered(NULL, 0, MANT_TOO_SHORT, 0) && is_numbered(sealed, 26, MANT_PAYLOAD_CUT, 0) && is_numbered(example, 20, 80, 0));
+    CHECK(is_numbered(shorter, 12, 81, 0) && is_numbered(plain, 12, 80, 0));
+    CHECK(is_numbered(sealed, 27, 0, 850) && is_numbered(greatest, 13, 0, MANT_NUMBER_LIMIT));
+}
+
+/* Sources removed: the first, the last, one that is not held, and one that stands twice in malformed words; with fewer words and with too great a count. */
+static void removing(void)
+{
+    uint32_t record[7] = {3, 1000, 5, 2000, 6, 3000, 7}, twice[7] = {9, 1000, 5, 2000, 6, 1000, 7}, untouched[7];
+    memcpy(untouched, record, sizeof record);
+    CHECK(!mant_remove_source(NULL, 0, 1000) && !mant_remove_source(record, 7, 4000) && !mant_remove_source(record, 2, 1000));
+    CHECK(memcmp(record, untouched, sizeof record) == 0);
+    CHECK(mant_remove_source(record, 7, 1000) && is_record(record, 2, 2000, 6) && record[3] == 3000 && record[4] == 7 && record[5] == 3000 && record[6] == 7);
+    CHECK(!mant_remove_source(record, 7, 1000) && mant_remove_source(record, 7, 3000) && is_record(record, 1, 2000, 6) && record[3] == 3000);
+    CHECK(mant_remove_source(record, 7, 2000) && is_record(record, 0, 2000, 6));
+    CHECK(mant_remove_source(twice, 7, 1000) && is_record(twice, 1, 2000, 6) && twice[3] == 2000 && twice[4] == 6 && twice[5] == 1000);
+}
+
+/* Forgeries that the protocol lets through (document 000, 3.5): made without the key by someone who knows the plain payload of document 002's example, and so
+   15 bytes of the key stream of source 1000 and number 850. They open wherever that number was not accepted yet, as here where the last was 849. */
+static void forgeries(void)
+{
+    static const struct {
+        size_t length;
+        uint8_t pdu[27];
+        size_t plain_length;
+        uint8_t plain[11];
+    } forged[] = {
+        /* the same payload for another destination, 1601 */
+        {27, {0x03, 0x08, 0x70, 0x12, 0x03, 0xE8, 0x06, 0x41, 0x00, 0x00, 0x03, 0x52, 0x11, 0x46, 0xDF, 0x21, 0xA1, 0xE0, 0xFB, 0x1E, 0x42, 0x5C, 0x93,
+              0xB7, 0xC7, 0x91, 0x74},
+         11, {0x70, 0x01, 0x08, 0x12, 0x12, 0x03, 0x24, 0x13, 0x22, 0x02, 0x76}},
+        /* another payload of the same length */
+        {27, {0x03, 0x08, 0x70, 0x12, 0x03, 0xE8, 0x06, 0x40, 0x00, 0x00, 0x03, 0x52, 0x9E, 0xB8, 0x28, 0xCC, 0x4C, 0x1C, 0x20, 0xF2, 0x9F, 0xA1, 0x1A,
+              0xA4, 0x40, 0xDE, 0xE4},
+         11, {0xFF, 0xFF, 0xFF, 0xFF, 0xFF, 0xFF, 0xFF, 0xFF, 0xFF, 0xFF, 0xFF}},
+        /* a payload of one byte, for 1601 */
+        {17, {0x03, 0x08, 0x70, 0x08, 0x03, 0xE8, 0x06, 0x41, 0x00, 0x00, 0x03, 0x52, 0x60, 0xD4, 0x73, 0x8B, 0xB6}, 1, {0x01}},
+    };
+    for (size_t i = 0; i < sizeof forged / sizeof forged[0]; i++) {
+        uint32_t record[MANT_SOURCE_WORDS] = {1, 1000, 849};
+        uint8_t output[11];
+        MantWritten opened = mant_open(key, record, MANT_SOURCE_WORDS, forged[i].pdu, forged[i].length, output, sizeof output);
+        CHECK(is_written(opened, 0, forged[i].plain_length) && memcmp(output, forged[i].plain, forged[i].plain_length) == 0 && is_record(record, 1, 1000, 850));
+        CHECK(is_written(mant_open(key, record, MANT_SOURCE_WORDS, forged[i].pdu, forged[i].length, output, sizeof output), 82, 0));
+    }
+}
+
 void sealing_and_opening(void)
 {
     sealing();
     opening();
     records();
+    message_numbers();
+    removing();
+    forgeries();
 }

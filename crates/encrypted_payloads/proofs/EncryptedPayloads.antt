@@ -1,5 +1,5 @@
 -- W-212 from its parts.
-use Prim.Native.Nat.{ℕ, _+_, _*_, _/_, min}
+use Prim.Native.Nat.{ℕ, _+_, _*_, _/_, _<_, min}
 use native.Mathlib.Omega.{arith}
 use mathlib.Core.Bool.{Bool, true, false, not, cond, _&&_}
 use mathlib.Core.List.{List, [], _∷_, _++_}
@@ -9,31 +9,38 @@ use lib.ListN.{length}
 use borrow.Author.Tests.{ne-eqb, le-leb, lt-leb}
 use Rattle.octets.specs.Numbers.{flag, _gives_, _orElse_}
 use Rattle.octets.specs.Octets.{at, AllBytes}
+use Rattle.octets.proofs.Words.{bytes-joined}
 use Rattle.field.specs.Field.{inverse, affine, subByte}
+use Rattle.field.proofs.Substitutes.{substituted}
 use Rattle.pdu.specs.declared.Header.{Header}
 use Rattle.pdu.specs.Header.{headerOf}
 use Rattle.pdu.specs.Reading.{readOf, readingNumber}
 use Rattle.pdu.proofs.Number.{read-0}
 use Rattle.writing.specs.Writing.{onlyIf, headerBytes}
-use Rattle.sources.specs.Sources.{Accepted, capacity, entriesFrom, recordIn, placeOf, isHeld, lastNumber, numberFault, sourceFault}
+use Rattle.sources.specs.Sources.{Accepted, capacity, entriesFrom, recordIn, placeOf, isHeld, lastNumber, numberFault, sourceFault, memoryWithout}
 use Rattle.sources.proofs.Laws.{length-record}
 use Rattle.sources.proofs.Noting.{last-accepted, last-other}
+use Rattle.sources.proofs.Forgotten.{record-without, removed-new, others-left}
 use Rattle.message.specs.Protection.{hashedHeader}
 use Rattle.message.specs.Sealable.{sealNumber}
 use Rattle.message.proofs.Sealable as sealing
-use Rattle.sealing.specs.Sealing.{sealedHeader, sealWritten, sealOutput}
-use Rattle.genuine.specs.Genuine.{plainLength}
-use Rattle.opening.specs.Opening.{genuine, openNumber, openWritten, openOutput, memoryAfterOpening}
+use Rattle.sealing.specs.Sealing.{sealedHeader, sealedPdu, sealWritten, sealOutput}
+use Rattle.genuine.specs.Genuine.{messageNumber, plainLength}
+use Rattle.opening.specs.Opening.{sealedFault, numberedAs, genuine, openNumber, openWritten, openOutput, memoryAfterOpening}
 use Rattle.opening.proofs.Sealed as keyless
 use Rattle.opening.proofs.Deciding as opening
+use Rattle.protection.proofs.Bytes.{sealed-small}
 use Rattle.protection.proofs.Hashed.{hashedFields, hashed-shown}
 use Rattle.protection.proofs.Repeats.{heard-alike, open-alike, plain-alike, memory-alike}
 use Rattle.protection.proofs.RoundTrip.{header-sent, path-sent, number-sent, plain-back, opens}
 use Rattle.protection.proofs.Replay.{record-after, no-replay}
 use Rattle.protection.proofs.Answers.{genuine-only, genuine-where, seal-done, open-done, seal-answer, open-answer}
 use Rattle.worked.proofs.Inverse.{inverse-is, inverse-zero}
+use Rattle.worked.proofs.Counter as vector
 use Rattle.worked.proofs.Sealed as worked
-use Rattle.encrypted_payloads.specs.EncryptedPayloads.{header002, hashed002, reliable, of4088, of4089, encrypted4089, hopless, fives, EncryptedPayloads}
+use Rattle.encrypted_payloads.specs.EncryptedPayloads.{header002, hashed002, reliable, of4088, of4089, encrypted4089, hopless, fives}
+use Rattle.encrypted_payloads.specs.EncryptedPayloads.{IsTable, EncryptedPayloads}
+use Rattle.encrypted_payloads.proofs.Once.{blocks-once}
 
 -- the record's answers
 module _ (source number : ℕ) (held : List Accepted) where
@@ -105,9 +112,24 @@ hashed-header-is bytes small read =
     let count = onlyIf (header .«path_bit») (header .«path_count» ∷ []) in
     hopless-hashed header ∙ sym (ap (λ (l : List ℕ). l ++ count) (hashed-shown bytes header small (read-0 bytes read)))
 
-is-substituted : (b : ℕ) → subByte b ≡ affine (inverse b)
+is-substituted : (table : List ℕ) → IsTable table → (b : ℕ) → b < 256 → at table b ≡ affine (inverse b)
 unfolding subByte
-is-substituted b = refl
+is-substituted table is b h = substituted b is h
+
+early : (key memory bytes : List ℕ) (room fault : ℕ) → fault ≡ sealedFault bytes → (fault ≡ 0 → ⊥) → openNumber key memory bytes room ≡ fault
+early key memory bytes room fault is some = opening.early-open key memory bytes room fault (keyless.early-refused memory bytes fault is some) some
+
+not-there : (source : ℕ) (memory : List ℕ) → isHeld source (recordIn memory) ≡ false → memoryWithout source memory ≡ memory
+unfolding memoryWithout
+not-there source memory h = rw h
+
+is-numbered : (bytes : List ℕ) → sealedFault bytes ≡ 0 → numberedAs bytes ≡ record { number = 0; message = messageNumber bytes }
+unfolding numberedAs
+is-numbered bytes none = rw none
+
+is-refused : (bytes : List ℕ) → (sealedFault bytes ≡ 0 → ⊥) → numberedAs bytes ≡ record { number = sealedFault bytes; message = 0 }
+unfolding numberedAs
+is-refused bytes some = rw (ne-eqb (sealedFault bytes) 0 some)
 
 -- the cases that compute, each by itself
 module _ where
@@ -171,11 +193,11 @@ encrypted-payloads =
         path-sent key bytes behind number room small zero,
         number-sent key bytes behind number room small zero,
       );
-      unopened = λ key memory bytes room some. opening.early-open key memory bytes room _ (keyless.reading-refused memory bytes _ refl some) some;
+      unopened = λ key memory bytes room some. early key memory bytes room _ (keyless.reading-refused bytes _ refl some) some;
       not-encrypted = λ key memory bytes room read e.
-          opening.early-open key memory bytes room 80 (keyless.plain-refused memory bytes (headerOf bytes) refl read e) (λ z. omega arith);
+          early key memory bytes room 80 (keyless.plain-refused bytes (headerOf bytes) refl read e) (λ z. omega arith);
       too-short = λ key memory bytes room read e h.
-          opening.early-open key memory bytes room 81 (keyless.short-refused memory bytes (headerOf bytes) refl read e h) (λ z. omega arith);
+          early key memory bytes room 81 (keyless.short-refused bytes (headerOf bytes) refl read e h) (λ z. omega arith);
       replayed = λ key memory bytes room read e h f.
           opening.early-open key memory bytes room 82 (keyless.keyless-number memory bytes read e h 82 f) (λ z. omega arith);
       keyless = keyless.keyless-none;
@@ -203,16 +225,33 @@ encrypted-payloads =
       after-repeats = λ key memory bytes room repeats small all.
           let same = heard-alike repeats bytes small all in
           (open-alike same key memory room, plain-alike same key, memory-alike same key memory room);
+      sealed-bytes = λ key bytes number room hk small zero. sealed-small key bytes number room hk small zero;
+      sealed-repeated-opened = λ key bytes behind memory number room space repeats hk small hb zero greater held wide all.
+          let sealed = sealedPdu key number bytes ++ behind in
+          let all-bytes = bytes-joined (sealedPdu key number bytes) behind (sealed-small key bytes number room hk small zero) hb in
+          let same = heard-alike repeats sealed all-bytes all in (
+            open-alike same key memory space ∙ opens key bytes behind number room small zero memory space greater held wide,
+            plain-alike same key ∙ plain-back key bytes behind number room small zero,
+          );
       no-replay = no-replay;
+      removed = record-without;
+      removed-new = removed-new;
+      others-left = others-left;
+      none-removed = not-there;
+      numbered = is-numbered;
+      not-numbered = λ bytes some. (is-refused bytes some, λ key memory room. early key memory bytes room _ refl some);
       hashed-all = hashed-header-is;
       hashed = hashed-there;
       nonce = refl;
+      counter-blocks = (refl, refl, refl);
+      counted = vector.single;
       number-bytes = (refl, refl);
       example = worked.seals;
       example-changed = worked.refused;
       inverse-is = inverse-is;
       inverse-of-0 = inverse-zero;
       substituted = is-substituted;
+      counted-once = blocks-once;
       at-4088 = seal-4088;
       at-4089 = seal-4089;
       at-16777216 = seal-16777216;

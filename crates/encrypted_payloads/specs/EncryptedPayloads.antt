@@ -1,11 +1,14 @@
 -- Document 02, W-212, as one record; `proofs/EncryptedPayloads.antt` gives it from its parts. "Any memory" is any words, put together by hand or not.
-use Prim.Native.Nat.{ℕ, _+_, _≤_, _<_}
+use Prim.Native.Nat.{ℕ, _+_, _^_, _≤_, _<_}
 use mathlib.Core.Bool.{true, false}
 use mathlib.Core.List.{List, [], _∷_, _++_}
 use mathlib.Core.Path.{_≡_}
 use lib.ListN.{length, drop, replicate}
 use Rattle.octets.specs.Octets.{at, AllBytes}
-use Rattle.field.specs.Field.{_•_, inverse, affine, subByte}
+use Rattle.field.specs.Field.{_•_, inverse, affine}
+use Rattle.field.proofs.all_substitutes.Reads as table-reads
+use Rattle.aes.specs.Cipher.{keyExpansion}
+use Rattle.counter.specs.Counter.{counterBlock, stream, added}
 use Rattle.pdu.specs.declared.Header.{Header}
 use Rattle.pdu.specs.Header.{headerOf, sourceOf}
 use Rattle.pdu.specs.Sizes.{pduLength}
@@ -13,11 +16,13 @@ use Rattle.pdu.specs.Reading.{readOf, readingNumber}
 use Rattle.pdu.specs.Parts.{pathIn, payloadIn}
 use Rattle.writing.specs.Writing.{onlyIf, headerBytes}
 use Rattle.sources.specs.Sources.{Accepted, capacity, recordIn, isHeld, lastNumber, numberFault, sourceFault, withAccepted}
+use Rattle.sources.specs.Sources.{withoutSource, memoryWithout}
 use Rattle.message.specs.Protection.{messageNumberBytes, hashedHeader, hashBytes, nonceOf}
 use Rattle.message.specs.Sealable.{sealNumber}
 use Rattle.sealing.specs.Sealing.{sealedHeader, sealedPdu, sealWritten, sealOutput}
 use Rattle.genuine.specs.Genuine.{messageNumber, plainLength}
-use Rattle.opening.specs.Opening.{deciphered, plainPayload, genuine, keylessFault, openNumber, openWritten, openOutput, memoryAfterOpening}
+use Rattle.opening.specs.Opening.{sealedFault, numberedAs, deciphered, plainPayload, genuine, keylessFault}
+use Rattle.opening.specs.Opening.{openNumber, openWritten, openOutput, memoryAfterOpening}
 use Rattle.protection.specs.Histories.{Repeat, heardAtLast, AllRepeat, Opening, memoryAfterOne, memoryAfterAll}
 
 -- a header with its hop limit 0
@@ -40,6 +45,10 @@ hopless header =
       «path_count» = header .«path_count»;
     }
 
+-- a table that `field::all_substitutes`, which has no argument, may return by its contract
+abbrev pub IsTable : List ℕ → Type 0
+IsTable table = table-reads.Post tt tt table tt
+
 -- For the worked cases: document 002, "Examples", "Encryption": key, PDU given, PDU sealed, and that with its last byte changed
 abbrev pub key002 : List ℕ
 key002 = 0x6B ∷ 0x65 ∷ 0x65 ∷ 0x70 ∷ 0x20 ∷ 0x6D ∷ 0x65 ∷ 0x20 ∷ 0x73 ∷ 0x65 ∷ 0x63 ∷ 0x72 ∷ 0x65 ∷ 0x74 ∷ 0x21 ∷ 0x21 ∷ []
@@ -54,7 +63,20 @@ endingIn last =
     0x03 ∷ 0x08 ∷ 0x10 ∷ 0x12 ∷ 0x03 ∷ 0xE8 ∷ 0x06 ∷ 0x40 ∷ 0x00 ∷ 0x00 ∷ 0x03 ∷ 0x52
     ∷ 0x11 ∷ 0x46 ∷ 0xDF ∷ 0x21 ∷ 0xA1 ∷ 0xE0 ∷ 0xFB ∷ 0x1E ∷ 0x42 ∷ 0x5C ∷ 0x93 ∷ 0x1A ∷ 0x7C ∷ 0x62 ∷ last ∷ []
 
--- its header as it is sent, with a path of two addresses besides; the bytes of it that enter the hash
+-- RFC 3686, test vector 1: key, nonce, "Single block msg" and what it is enciphered to
+abbrev pub key3686 : List ℕ
+key3686 = 0xAE ∷ 0x68 ∷ 0x52 ∷ 0xF8 ∷ 0x12 ∷ 0x10 ∷ 0x67 ∷ 0xCC ∷ 0x4B ∷ 0xF7 ∷ 0xA5 ∷ 0x76 ∷ 0x55 ∷ 0x77 ∷ 0xF3 ∷ 0x9E ∷ []
+
+abbrev pub nonce3686 : List ℕ
+nonce3686 = 0x00 ∷ 0x00 ∷ 0x00 ∷ 0x30 ∷ 0x00 ∷ []
+
+abbrev pub plain3686 : List ℕ
+plain3686 = 0x53 ∷ 0x69 ∷ 0x6E ∷ 0x67 ∷ 0x6C ∷ 0x65 ∷ 0x20 ∷ 0x62 ∷ 0x6C ∷ 0x6F ∷ 0x63 ∷ 0x6B ∷ 0x20 ∷ 0x6D ∷ 0x73 ∷ 0x67 ∷ []
+
+abbrev pub enciphered3686 : List ℕ
+enciphered3686 = 0xE4 ∷ 0x09 ∷ 0x5D ∷ 0x4F ∷ 0xB7 ∷ 0xA7 ∷ 0xB3 ∷ 0x79 ∷ 0x2D ∷ 0x61 ∷ 0x75 ∷ 0xA3 ∷ 0x26 ∷ 0x13 ∷ 0x11 ∷ 0xB8 ∷ []
+
+-- document 002's header as it is sent, with a path of two addresses besides; the bytes of it that enter the hash
 abbrev pub header002 : List ℕ
 header002 = 0x03 ∷ 0x08 ∷ 0x10 ∷ 0x12 ∷ 0x03 ∷ 0xE8 ∷ 0x06 ∷ 0x40 ∷ 0x02 ∷ 0x11 ∷ 0x12 ∷ 0x13 ∷ 0x14 ∷ []
 
@@ -97,6 +119,15 @@ pub record EncryptedPayloads : Type 0 where
       → (openNumber key memory (heardAtLast repeats bytes) room ≡ openNumber key memory bytes room)
       × (plainPayload key (heardAtLast repeats bytes) ≡ plainPayload key bytes)
       × (memoryAfterOpening key memory (heardAtLast repeats bytes) room ≡ memoryAfterOpening key memory bytes room)
+  -- what is sealed are bytes, so the two make one: sealed, repeated by any nodes any number of times, and opened gives the payload back
+  pub sealed-bytes : (key bytes : List ℕ) (number room : ℕ) → AllBytes key → AllBytes bytes → sealNumber number bytes room ≡ 0
+      → AllBytes (sealedPdu key number bytes)
+  pub sealed-repeated-opened : (key bytes behind memory : List ℕ) (number room space : ℕ) (repeats : List Repeat)
+      → AllBytes key → AllBytes bytes → AllBytes behind → sealNumber number bytes room ≡ 0
+      → numberFault (headerOf bytes .source) number (recordIn memory) ≡ 0 → sourceFault (headerOf bytes .source) memory ≡ 0
+      → headerOf bytes .«payload_length» ≤ space → AllRepeat repeats (sealedPdu key number bytes ++ behind)
+      → let heard = heardAtLast repeats (sealedPdu key number bytes ++ behind) in
+      (openNumber key memory heard space ≡ 0) × (plainPayload key heard ≡ payloadIn (headerOf bytes) bytes)
   -- no replay: over any openings from any memory, what is accepted from a source later has a greater number
   pub no-replay : (memory : List ℕ) (first : Opening) (between : List Opening) (second : Opening)
       → openNumber (first .key) memory (first .bytes) (first .room) ≡ 0 → sourceOf (first .bytes) ≡ sourceOf (second .bytes)
@@ -108,7 +139,11 @@ pub record EncryptedPayloads : Type 0 where
   -- the substitution of a byte: the affine map of its inverse, {00} for {00} (FIPS 197, 5.1.1; computed in `crates/worked/proofs/Inverse.antt`)
   pub inverse-is : (b : ℕ) → 0 < b → b < 256 → b • inverse b ≡ 1
   pub inverse-of-0 : inverse 0 ≡ 0
-  pub substituted : (b : ℕ) → subByte b ≡ affine (inverse b)
+  -- every entry of the table in the code, whatever `all_substitutes` may return by its contract, is the affine map of its place's inverse
+  pub substituted : (table : List ℕ) → IsTable table → (b : ℕ) → b < 256 → at table b ≡ affine (inverse b)
+  -- no key stream is used twice (000, 3.5.1): equal counter blocks are of one source, one message number and one block
+  pub counted-once : (source other number later j k : ℕ) → number ≤ 16777215 → later ≤ 16777215 → j < 2 ^ 64 → k < 2 ^ 64
+      → counterBlock (nonceOf source number) j ≡ counterBlock (nonceOf other later) k → (source ≡ other) × (number ≡ later) × (j ≡ k)
   -- II. CASE BY CASE, what the definitions of the record, of sealing and of opening say
   -- the record: a memory of 129 words or more has room for 64 sources, any memory holds at most 64, and none where its first word is 0
   pub room-for-64 : (memory : List ℕ) → 129 ≤ length memory → capacity memory ≡ 64
@@ -125,6 +160,13 @@ pub record EncryptedPayloads : Type 0 where
       → sourceFault source memory ≡ 84
   pub not-full : (source : ℕ) (memory : List ℕ) → length (recordIn memory) < capacity memory → sourceFault source memory ≡ 0
   pub held-already : (source : ℕ) (memory : List ℕ) → isHeld source (recordIn memory) ≡ true → sourceFault source memory ≡ 0
+  -- a source removed: the memory shows the others; it is new then, every other source is as before, and one that was not held changes no word
+  pub removed : (source : ℕ) (memory : List ℕ) → recordIn (memoryWithout source memory) ≡ withoutSource source (recordIn memory)
+  pub removed-new : (source : ℕ) (held : List Accepted) → isHeld source (withoutSource source held) ≡ false
+  pub others-left : (other source : ℕ) (held : List Accepted) → (source ≡ other → ⊥)
+      → (isHeld other (withoutSource source held) ≡ isHeld other held)
+      × (isHeld other held ≡ true → lastNumber other (withoutSource source held) ≡ lastNumber other held)
+  pub none-removed : (source : ℕ) (memory : List ℕ) → isHeld source (recordIn memory) ≡ false → memoryWithout source memory ≡ memory
   -- sealing: 1 to 6, 88, 85, 86, 87 in that order, and only there
   pub unread : (number room : ℕ) (bytes : List ℕ) → (readingNumber (readOf bytes) ≡ 0 → ⊥) → sealNumber number bytes room ≡ readingNumber (readOf bytes)
   pub encrypted-already : (number room : ℕ) (bytes : List ℕ) → readingNumber (readOf bytes) ≡ 0 → headerOf bytes .encrypted ≡ true
@@ -159,6 +201,11 @@ pub record EncryptedPayloads : Type 0 where
       → let sealed = sealedPdu key number bytes ++ behind in
       (headerOf sealed ≡ sealedHeader (headerOf bytes)) × (pathIn (headerOf sealed) sealed ≡ pathIn (headerOf bytes) bytes)
       × (messageNumber sealed ≡ number)
+  -- the message number by itself: what opening would note, with 0; with 1 to 6, 80 or 81, as opening refuses with them, 0
+  pub numbered : (bytes : List ℕ) → sealedFault bytes ≡ 0 → numberedAs bytes ≡ record { number = 0; message = messageNumber bytes }
+  pub not-numbered : (bytes : List ℕ) → (sealedFault bytes ≡ 0 → ⊥)
+      → (numberedAs bytes ≡ record { number = sealedFault bytes; message = 0 })
+      × ((key memory : List ℕ) (room : ℕ) → openNumber key memory bytes room ≡ sealedFault bytes)
   -- opening: 1 to 6, 80, 81, 82 whatever the key, in that order
   pub unopened : (key memory bytes : List ℕ) (room : ℕ) → (readingNumber (readOf bytes) ≡ 0 → ⊥)
       → openNumber key memory bytes room ≡ readingNumber (readOf bytes)
@@ -208,6 +255,12 @@ pub record EncryptedPayloads : Type 0 where
   pub hashed : (hashedHeader header002 ≡ hashed002)
       × (hashedHeader reliable ≡ 0x0B ∷ 0x09 ∷ 0x80 ∷ 0x07 ∷ 0x03 ∷ 0xE8 ∷ 0x06 ∷ 0x40 ∷ 0x55 ∷ [])
   pub nonce : nonceOf 1000 850 ≡ 0x03 ∷ 0xE8 ∷ 0x00 ∷ 0x03 ∷ 0x52 ∷ []
+  -- counter block 0 is document 002's initialization vector, the last byte counts up first
+  pub counter-blocks : (counterBlock (nonceOf 1000 850) 0 ≡ 0x03 ∷ 0xE8 ∷ 0x00 ∷ 0x03 ∷ 0x52 ∷ replicate 11 0)
+      × (counterBlock (nonceOf 1000 850) 255 ≡ 0x03 ∷ 0xE8 ∷ 0x00 ∷ 0x03 ∷ 0x52 ∷ replicate 10 0 ++ (0xFF ∷ []))
+      × (counterBlock (nonceOf 1000 850) 256 ≡ 0x03 ∷ 0xE8 ∷ 0x00 ∷ 0x03 ∷ 0x52 ∷ replicate 9 0 ++ (0x01 ∷ 0x00 ∷ []))
+  -- RFC 3686's vector is of block 1, from place 16 of the stream on (computed in `crates/worked/proofs/Counter.antt`)
+  pub counted : added (stream (keyExpansion key3686) nonce3686) 16 plain3686 ≡ enciphered3686
   pub number-bytes : (messageNumberBytes 850 ≡ 0x00 ∷ 0x03 ∷ 0x52 ∷ []) × (messageNumberBytes 16777215 ≡ 0xFF ∷ 0xFF ∷ 0xFF ∷ [])
   -- document 002's example, whole: sealed, and 83 for its last byte changed (computed in `crates/worked/proofs/Sealed.antt`)
   pub example : sealedPdu key002 850 plain002 ≡ endingIn 0x50

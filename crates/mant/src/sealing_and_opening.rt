@@ -1,10 +1,12 @@
-// Sealing and opening: payloads that nobody without the key can read or make.
+// Sealing and opening: payloads enciphered under a key, and opened once.
 use message::Key;
+use opening::Numbered;
 use pdu::Written;
 ghost use mathlib.Core.Path.{_≡_};
 ghost use lib.ListN.{length};
+ghost use Rattle.sources.specs.Sources.{recordIn, isHeld, memoryWithout};
 ghost use Rattle.sealing.specs.Sealing.{sealWritten, sealOutput};
-ghost use Rattle.opening.specs.Opening.{openWritten, openOutput, memoryAfterOpening};
+ghost use Rattle.opening.specs.Opening.{numberedAs, openWritten, openOutput, memoryAfterOpening};
 
 // Seals the PDU at the start of `pdu` under a key, with a message number, and answers 0 and the sealed PDU's length. Answers 1 to 6 where there is no
 // PDU, 88 where it is encrypted already, 85 where its payload has no room for number and hash, 86 for a number above 16,777,215 and 87 where the output
@@ -29,4 +31,20 @@ pub extern "C" fn mant_open(key: Key, memory: &mut [u32], pdu: &[u8], output: &m
 {
     let bytes = key.bytes;
     opening::open(bytes, memory, pdu, output)
+}
+
+// The message number of the sealed PDU at the start of `pdu`, which lies in clear, with 0; or 1 to 6, 80 or 81, with message number 0. Document 02, W-212.
+#[no_mangle]
+pub extern "C" fn mant_message_number(pdu: &[u8]) -> Numbered
+    ensures { λ r. ⌜ r ≡ numberedAs (now (pdu .entry)) ⌝ }
+{
+    opening::message_number(pdu)
+}
+
+// Removes a source from the record, and returns whether it was held. Nothing changes where it was not. Document 02, W-212.
+#[no_mangle]
+pub extern "C" fn mant_remove_source(memory: &mut [u32], source: u16) -> bool
+    ensures { λ r. ⌜ (r ≡ isHeld source (recordIn (now (memory .entry)))) × (now (memory .exit) ≡ memoryWithout source (now (memory .entry))) ⌝ }
+{
+    sources::remove(memory, source)
 }

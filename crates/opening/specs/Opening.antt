@@ -12,6 +12,7 @@ use Rattle.pdu.specs.Header.{headerOf, sourceOf}
 use Rattle.pdu.specs.Reading.{readOf, readingNumber}
 use Rattle.sources.specs.Sources.{recordIn, numberFault, sourceFault, memoryAccepted}
 use Rattle.message.specs.Protection.{addedLength}
+use Rattle.opening.specs.declared.Numbered.{Numbered}
 use Rattle.genuine.specs.Genuine.{messageNumber, plainLength, decipheredUnder, plainUnder, genuineUnder}
 
 -- under a key: what follows the number deciphered, the plain payload, and whether the hash is right
@@ -24,13 +25,20 @@ plainPayload key bytes = plainUnder (keyExpansion key) bytes
 unfoldable pub genuine : List ℕ → List ℕ → Bool
 genuine key bytes = genuineUnder (keyExpansion key) bytes
 
--- what is refused without the key: 1 to 6, 80, 81, 82 in that order, or 0
-unfoldable pub keylessFault : List ℕ → List ℕ → ℕ
-keylessFault memory bytes =
+-- what is refused whatever the record and the key: 1 to 6, 80, 81 in that order, or 0
+unfoldable pub sealedFault : List ℕ → ℕ
+sealedFault bytes =
     readingNumber (readOf bytes)
     orElse not (headerOf bytes .encrypted) gives 80
     orElse ltb (headerOf bytes .«payload_length») addedLength gives 81
-    orElse numberFault (sourceOf bytes) (messageNumber bytes) (recordIn memory)
+
+-- the message number of a sealed PDU, which lies in clear; 0 with a refusal
+unfoldable pub numberedAs : List ℕ → Numbered
+numberedAs bytes = record { number = sealedFault bytes; message = cond (eqb (sealedFault bytes) 0) (messageNumber bytes) 0 }
+
+-- what is refused without the key: those, then 82
+unfoldable pub keylessFault : List ℕ → List ℕ → ℕ
+keylessFault memory bytes = sealedFault bytes orElse numberFault (sourceOf bytes) (messageNumber bytes) (recordIn memory)
 
 -- then 83, 84, 87
 unfoldable pub openNumber : List ℕ → List ℕ → List ℕ → ℕ → ℕ

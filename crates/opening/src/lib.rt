@@ -13,11 +13,18 @@ ghost use Rattle.counter.specs.Counter.{stream, added};
 ghost use Rattle.pdu.specs.Header.{headerOf, sourceOf};
 ghost use Rattle.sources.specs.Sources.{sourceFault, memoryAccepted};
 ghost use Rattle.genuine.specs.Genuine.{plainLength, genuineUnder};
-ghost use Rattle.opening.specs.Opening.{keylessFault, openWritten, openOutput, memoryAfterOpening};
+ghost use Rattle.opening.specs.Opening.{sealedFault, numberedAs, keylessFault, openWritten, openOutput, memoryAfterOpening};
 
-// The first thing that keeps the PDU from being opened whatever the key is: 1 to 6, 80, 81, 82, or 0.
-fn keyless_fault(memory: &[u32], pdu: &[u8]) -> u8
-    ensures { λ r. ⌜ r ≡ keylessFault (now (memory .entry)) (now (pdu .entry)) ⌝ }
+// The message number of a sealed PDU, or why there is none.
+#[repr(C)]
+pub struct Numbered {
+    pub number: u8,
+    pub message: u32,
+}
+
+// The first thing that keeps bytes from being a sealed PDU: 1 to 6, 80, 81, or 0.
+fn sealed_fault(pdu: &[u8]) -> u8
+    ensures { λ r. ⌜ r ≡ sealedFault (now (pdu .entry)) ⌝ }
 {
     let reading = pdu::fault(pdu);
     if reading != 0 {
@@ -28,8 +35,37 @@ fn keyless_fault(memory: &[u32], pdu: &[u8]) -> u8
         return 80;
     }
     if octets::word_value(header.payload_length) < Key::ADDED_LENGTH {
-        return 81;
+        81
+    } else {
+        0
     }
+}
+
+// The message number of the sealed PDU at the start of `pdu`, which lies in clear: 0 and the number, or 1 to 6, 80 or 81 and 0. Document 000, 3.5.3.
+pub fn message_number(pdu: &[u8]) -> Numbered
+    ensures { λ r. ⌜ r ≡ numberedAs (now (pdu .entry)) ⌝ }
+{
+    let wrong = sealed_fault(pdu);
+    if wrong != 0 {
+        return Numbered {
+            number: wrong,
+            message: 0,
+        };
+    }
+    let header = pdu::header_of(pdu);
+    let message = message::number_in(pdu::parts::payload(pdu, header));
+    Numbered { number: 0, message }
+}
+
+// The first thing that keeps the PDU from being opened whatever the key is: 1 to 6, 80, 81, 82, or 0.
+fn keyless_fault(memory: &[u32], pdu: &[u8]) -> u8
+    ensures { λ r. ⌜ r ≡ keylessFault (now (memory .entry)) (now (pdu .entry)) ⌝ }
+{
+    let early = sealed_fault(pdu);
+    if early != 0 {
+        return early;
+    }
+    let header = pdu::header_of(pdu);
     let number = message::number_in(pdu::parts::payload(pdu, header));
     sources::number_fault(memory, header.source, number)
 }

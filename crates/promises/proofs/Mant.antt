@@ -62,6 +62,10 @@ use Rattle.mant.proofs.sealing_and_opening.mant_seal.Reads as mant-seal-reads
 use Rattle.mant.proofs.sealing_and_opening.mant_seal.Kinds as mant-seal-kinds
 use Rattle.mant.proofs.sealing_and_opening.mant_open.Reads as mant-open-reads
 use Rattle.mant.proofs.sealing_and_opening.mant_open.Kinds as mant-open-kinds
+use Rattle.mant.proofs.sealing_and_opening.mant_message_number.Reads as mant-message-number-reads
+use Rattle.mant.proofs.sealing_and_opening.mant_message_number.Kinds as mant-message-number-kinds
+use Rattle.mant.proofs.sealing_and_opening.mant_remove_source.Reads as mant-remove-source-reads
+use Rattle.mant.proofs.sealing_and_opening.mant_remove_source.Kinds as mant-remove-source-kinds
 
 pub mant-read : Promised 1 mant-read-kinds.ps mant-read-kinds.r mant-read-reads.Asked mant-read-reads.Post (λ κs x. x)
 mant-read = (λ κs a. tt, λ κs a x y s t p q. p ∙ sym q)
@@ -190,3 +194,11 @@ mant-seal = (λ κs a. tt, λ κs a x y s t p q. (p .0 ∙ sym (q .0), p .1 ∙ 
 pub mant-open : PromisedWithOutput 3 mant-open-kinds.ps mant-open-kinds.r mant-open-reads.Asked
     mant-open-reads.Post (λ κs s. both (now (s .1 .0)) (now (s .1 .1 .1 .0)))
 mant-open = (λ κs a. tt, λ κs a x y s t p q. (p .0 ∙ sym (q .0), λ i. ((p .2 ∙ sym (q .2)) i, (p .1 ∙ sym (q .1)) i)))
+
+pub mant-message-number : Promised 1 mant-message-number-kinds.ps mant-message-number-kinds.r mant-message-number-reads.Asked
+    mant-message-number-reads.Post (λ κs x. x)
+mant-message-number = (λ κs a. tt, λ κs a x y s t p q. p ∙ sym q)
+
+pub mant-remove-source : PromisedWithOutput 1 mant-remove-source-kinds.ps mant-remove-source-kinds.r mant-remove-source-reads.Asked
+    mant-remove-source-reads.Post (λ κs s. now (s .0))
+mant-remove-source = (λ κs a. tt, λ κs a x y s t p q. (p .0 ∙ sym (q .0), p .1 ∙ sym (q .1)))

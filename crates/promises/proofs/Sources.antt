@@ -12,6 +12,8 @@ use Rattle.sources.proofs.source_fault.Reads as source-fault-reads
 use Rattle.sources.proofs.source_fault.Kinds as source-fault-kinds
 use Rattle.sources.proofs.accept.Reads as accept-reads
 use Rattle.sources.proofs.accept.Kinds as accept-kinds
+use Rattle.sources.proofs.remove.Reads as remove-reads
+use Rattle.sources.proofs.remove.Kinds as remove-kinds
 
 pub capacity : Promised 1 capacity-kinds.ps capacity-kinds.r capacity-reads.Asked capacity-reads.Post (λ κs x. x)
 capacity = (λ κs a. tt, λ κs a x y s t p q. p .0 ∙ sym (q .0))
@@ -27,3 +29,6 @@ source-fault = (λ κs a. tt, λ κs a x y s t p q. p ∙ sym q)
 
 pub accept : PromisedWithOutput 1 accept-kinds.ps accept-kinds.r accept-reads.Asked accept-reads.Post (λ κs s. now (s .0))
 accept = (λ κs a. tt, λ κs a x y s t p q. (refl, p ∙ sym q))
+
+pub remove : PromisedWithOutput 1 remove-kinds.ps remove-kinds.r remove-reads.Asked remove-reads.Post (λ κs s. now (s .0))
+remove = (λ κs a. tt, λ κs a x y s t p q. (p .0 ∙ sym (q .0), p .1 ∙ sym (q .1)))

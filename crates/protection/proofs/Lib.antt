@@ -3,3 +3,4 @@ pub mod Repeats
 pub mod RoundTrip
 pub mod Replay
 pub mod Answers
+pub mod Bytes

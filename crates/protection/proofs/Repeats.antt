@@ -15,7 +15,7 @@ use Rattle.node.proofs.Encoded.{repeat-reads, repeat-payload, repeat-bytes}
 use Rattle.node.proofs.Heard.{repeats}
 use Rattle.message.specs.Protection.{numberIn, hashedHeader, hashBytes}
 use Rattle.genuine.specs.Genuine.{messageNumber, decipheredUnder, plainUnder, genuineUnder}
-use Rattle.opening.specs.Opening.{deciphered, plainPayload, genuine, keylessFault, openNumber, memoryAfterOpening}
+use Rattle.opening.specs.Opening.{deciphered, plainPayload, genuine, sealedFault, keylessFault, openNumber, memoryAfterOpening}
 use Rattle.protection.specs.Histories.{Repeat, heardAfter, heardAtLast, RepeatedBy, AllRepeat}
 use Rattle.protection.proofs.Hashed.{hashedFields, hashed-shown}
 
@@ -62,7 +62,7 @@ module _ {a b : List ℕ} (same : Alike a b) where
 
     module _ (memory : List ℕ) (room : ℕ) where
       keyless-alike : keylessFault memory a ≡ keylessFault memory b
-      unfolding keylessFault
+      unfolding keylessFault sealedFault
       keyless-alike = rw (same .reads, same .encrypted, same .size, same .source, number-alike)
 
       pub open-alike : openNumber key memory a room ≡ openNumber key memory b room

@@ -31,6 +31,7 @@ use Rattle.message.proofs.Sealable.{Sealable, sealable}
 use Rattle.sealing.specs.Sealing.{sealedHeader, sealedPayload, sealedPdu}
 use Rattle.sealing.proofs.Laying.{length-hash, length-enciphered, hashed-header}
 use Rattle.genuine.specs.Genuine.{messageNumber, plainLength, decipheredUnder, plainUnder, sameFour, genuineUnder}
+use Rattle.opening.proofs.Sealed as keyless
 use Rattle.opening.specs.Opening.{deciphered, plainPayload, genuine, keylessFault, openNumber}
 
 sealed-encrypted : (header : Header) → sealedHeader header .encrypted ≡ true
@@ -164,13 +165,11 @@ module _ (key bytes behind : List ℕ) (number room : ℕ) (small : AllBytes byt
 
   module _ (memory : List ℕ) (space : ℕ) (greater : numberFault (header .source) number (recordIn memory) ≡ 0) where
     keyless-none : keylessFault memory heard ≡ 0
-    unfolding keylessFault
     keyless-none =
         let bit : headerOf heard .encrypted ≡ true = ap (λ (h : Header). h .encrypted) header-sent ∙ sealed-encrypted header in
-        let clear : not (headerOf heard .encrypted) ≡ false = ap not bit in
         let long : 7 ≤ headerOf heard .«payload_length» = omega (arith, ap (λ (h : Header). h .«payload_length») header-sent, sealed-size header) in
         let fault : numberFault (sourceOf heard) (messageNumber heard) (recordIn memory) ≡ 0 = rw (source-sent, number-sent) greater in
-        orElse-later _ _ (ap (λ (x : Reading). readingNumber x) sealed-reads) ∙ gives-later _ 80 _ clear ∙ gives-later _ 81 _ (le-ltb _ _ long) ∙ fault
+        keyless.keyless-none memory heard (ap (λ (x : Reading). readingNumber x) sealed-reads) bit long fault
 
     pub opens : sourceFault (header .source) memory ≡ 0 → header .«payload_length» ≤ space → openNumber key memory heard space ≡ 0
     unfolding openNumber

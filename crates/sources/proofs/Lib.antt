@@ -1,2 +1,4 @@
 pub mod Laws
 pub mod Noting
+pub mod Removing
+pub mod Forgotten

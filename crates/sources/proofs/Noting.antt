@@ -79,7 +79,7 @@ unfoldable pub nextNumber : ℕ → List Accepted → ℕ
 nextNumber source [] = 0
 nextNumber source (entry ∷ later) = cond (eqb (entry .source) source) (suc (entry .number)) (nextNumber source later)
 
-next-is : (source : ℕ) (held : List Accepted) → nextNumber source held ≡ cond (isHeld source held) (suc (lastNumber source held)) 0
+pub next-is : (source : ℕ) (held : List Accepted) → nextNumber source held ≡ cond (isHeld source held) (suc (lastNumber source held)) 0
 unfolding nextNumber placeOf
 next-is source [] = refl
 next-is source (x ∷ later) = go (eqb (x .source) source) (next-is source later)
@@ -142,7 +142,7 @@ next-other other source number (x ∷ later) ne =
     go false e ih = rw ih
 
 -- the same of the last numbers
-same-next : (h1 h2 : Bool) (l1 l2 : ℕ) → cond h1 (suc l1) 0 ≡ cond h2 (suc l2) 0 → (h1 ≡ h2) × (h2 ≡ true → l1 ≡ l2)
+pub same-next : (h1 h2 : Bool) (l1 l2 : ℕ) → cond h1 (suc l1) 0 ≡ cond h2 (suc l2) 0 → (h1 ≡ h2) × (h2 ≡ true → l1 ≡ l2)
 same-next true true l1 l2 e = (refl, λ t. omega arith)
 same-next true false l1 l2 e = absurd (omega arith)
 same-next false true l1 l2 e = absurd (omega arith)

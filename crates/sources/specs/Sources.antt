@@ -5,7 +5,7 @@ use mathlib.Core.List.{List, [], _∷_, _++_}
 use lib.Dec.{eqb, ltb, leb}
 use lib.ListN.{length, getD, take, drop, set}
 use Rattle.octets.specs.Numbers.{_gives_}
-use Rattle.octets.specs.Octets.{at}
+use Rattle.octets.specs.Octets.{at, over}
 
 -- a source, and the number last accepted from it
 pub record Accepted : Type 0 where
@@ -63,3 +63,18 @@ memoryAccepted source number memory =
     (set (set (set memory 0 (length (withAccepted source number (recordIn memory)))) (2 * placeOf source (recordIn memory) + 1) source)
     (2 * placeOf source (recordIn memory) + 2) number)
     memory
+
+-- the record without a source: the other entries, in their order
+unfoldable pub withoutSource : ℕ → List Accepted → List Accepted
+withoutSource source [] = []
+withoutSource source (entry ∷ later) = cond (eqb (entry .source) source) (withoutSource source later) (entry ∷ withoutSource source later)
+
+unfoldable pub wordsOf : List Accepted → List ℕ
+wordsOf [] = []
+wordsOf (entry ∷ later) = entry .source ∷ entry .number ∷ wordsOf later
+
+-- its memory, where the source is held: how many are left and their words; every word behind them stays
+unfoldable pub memoryWithout : ℕ → List ℕ → List ℕ
+memoryWithout source memory =
+    let left = withoutSource source (recordIn memory) in
+    cond (isHeld source (recordIn memory)) (over (length left ∷ wordsOf left) memory) memory

@@ -1,8 +1,11 @@
 // The numbers last accepted from each source: a record in memory that the caller lends.
 ghost use mathlib.Core.Path.{_≡_};
 ghost use Prim.Native.Nat.{_+_, _-_, _*_, _≤_, _<_};
-ghost use lib.ListN.{length};
-ghost use Rattle.sources.specs.Sources.{capacity, recordIn, placeOf, numberFault, sourceFault, memoryAccepted};
+ghost use mathlib.Core.Bool.{cond};
+ghost use lib.Dec.{eqb};
+ghost use lib.ListN.{length, set};
+ghost use Rattle.octets.specs.Octets.{at};
+ghost use Rattle.sources.specs.Sources.{capacity, recordIn, placeOf, isHeld, numberFault, sourceFault, memoryAccepted, memoryWithout};
 
 // The most sources that a record holds. Document 02, W-212.
 const LIMIT: usize = 64;
@@ -111,4 +114,40 @@ fn count_with(memory: &[u32], place: usize) -> u32
     } else {
         place as u32 + 1
     }
+}
+
+// Stores the entry of one place at another, unless it is the source's, and returns the place behind what is kept.
+fn keep(memory: &mut [u32], source: u16, kept: usize, place: usize) -> usize
+    requires { ⌜ (kept ≤ place) × (place < 64) × (2 * place + 2 < length (now memory)) ⌝ }
+    ensures { λ r. ⌜ (r ≡ cond (eqb (at (now (memory .entry)) (2 * place + 1)) source) kept (kept + 1))
+        × (now (memory .exit) ≡ cond (eqb (at (now (memory .entry)) (2 * place + 1)) source) (now (memory .entry)) (set (set (now (memory .entry))
+        (2 * kept + 1) (at (now (memory .entry)) (2 * place + 1))) (2 * kept + 2) (at (now (memory .entry)) (2 * place + 2)))) ⌝ }
+{
+    let address = memory[2 * place + 1];
+    let number = memory[2 * place + 2];
+    if address == wide(source) {
+        return kept;
+    }
+    memory[2 * kept + 1] = address;
+    memory[2 * kept + 2] = number;
+    kept + 1
+}
+
+// Removes a source, and returns whether it was held. Nothing changes where it was not. Its next number may be any.
+pub fn remove(memory: &mut [u32], source: u16) -> bool
+    ensures { λ r. ⌜ (r ≡ isHeld source (recordIn (now (memory .entry)))) × (now (memory .exit) ≡ memoryWithout source (now (memory .entry))) ⌝ }
+{
+    let end = held(memory);
+    if end <= place_of(memory, source) {
+        return false;
+    }
+    let mut kept: usize = 0;
+    let mut at: usize = 0;
+    while at < end {
+        let next = keep(memory, source, kept, at);
+        kept = next;
+        at += 1;
+    }
+    memory[0] = kept as u32;
+    true
 }

@@ -65,6 +65,40 @@ fn show_stream() {
     show(&hash);
 }
 
+// RFC 3686, test vector 1: "Single block msg" by the nonce's block 1, alone and behind block 0.
+fn show_counted() {
+    let keys = aes::expand(*b"\xae\x68\x52\xf8\x12\x10\x67\xcc\x4b\xf7\xa5\x76\x55\x77\xf3\x9e");
+    let nonce = *b"\x00\x00\x00\x30\x00";
+    let mut alone = *b"Single block msg";
+    counter::add_stream(&keys, nonce, 16, &mut alone);
+    show(&alone);
+    let mut behind = *b"This goes first.Single block msg";
+    counter::add_stream(&keys, nonce, 0, &mut behind);
+    show(&behind[16..32]);
+}
+
+// SP 800-38A, F.5.1: the output blocks of its four counter blocks. They go through the cipher alone: no message has such a counter block, since bytes 5
+// to 7 of ours are 0.
+fn show_output_blocks() {
+    let key = *b"\x2b\x7e\x15\x16\x28\xae\xd2\xa6\xab\xf7\x15\x88\x09\xcf\x4f\x3c";
+    show_cipher(
+        key,
+        *b"\xf0\xf1\xf2\xf3\xf4\xf5\xf6\xf7\xf8\xf9\xfa\xfb\xfc\xfd\xfe\xff",
+    );
+    show_cipher(
+        key,
+        *b"\xf0\xf1\xf2\xf3\xf4\xf5\xf6\xf7\xf8\xf9\xfa\xfb\xfc\xfd\xff\x00",
+    );
+    show_cipher(
+        key,
+        *b"\xf0\xf1\xf2\xf3\xf4\xf5\xf6\xf7\xf8\xf9\xfa\xfb\xfc\xfd\xff\x01",
+    );
+    show_cipher(
+        key,
+        *b"\xf0\xf1\xf2\xf3\xf4\xf5\xf6\xf7\xf8\xf9\xfa\xfb\xfc\xfd\xff\x02",
+    );
+}
+
 fn main() {
     // FIPS 197, appendix B, and appendix C.1.
     show_cipher(
@@ -81,4 +115,6 @@ fn main() {
     show_digest(b"abcdbcdecdefdefgefghfghighijhijkijkljklmklmnlmnomnopnopq");
     show_million();
     show_stream();
+    show_counted();
+    show_output_blocks();
 }

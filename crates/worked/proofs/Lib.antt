@@ -1,4 +1,5 @@
 pub mod Inverse
 pub mod Aes
+pub mod Counter
 pub mod Sha1
 pub mod Sealed

@@ -21,7 +21,7 @@ use Rattle.sources.specs.Sources.{entriesFrom, recordIn, placeOf, numberFault}
 use Rattle.message.specs.Protection.{hashedHeader, hashBytes}
 use Rattle.sealing.specs.Sealing.{sealedHeader, sealedPayload, sealedPdu}
 use Rattle.genuine.specs.Genuine.{messageNumber, decipheredUnder, plainUnder, sameFour, genuineUnder}
-use Rattle.opening.specs.Opening.{deciphered, genuine, keylessFault, openNumber}
+use Rattle.opening.specs.Opening.{deciphered, genuine, sealedFault, keylessFault, openNumber}
 use Rattle.opening.proofs.Deciding.{open-late, wrong-refused}
 
 -- "keep me secret!!"
@@ -76,7 +76,7 @@ abbrev pub memory : List ℕ
 memory = 0 ∷ 0 ∷ 0 ∷ []
 
 taken : keylessFault memory changed ≡ 0
-unfolding headerOf readOf _gives_ _orElse_ entriesFrom recordIn placeOf numberFault messageNumber keylessFault
+unfolding headerOf readOf _gives_ _orElse_ entriesFrom recordIn placeOf numberFault messageNumber sealedFault keylessFault
 taken = refl
 
 opened : deciphered key changed ≡ payload ++ (0x72 ∷ 0x5d ∷ 0xb2 ∷ 0xb3 ∷ [])

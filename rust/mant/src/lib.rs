@@ -84,7 +84,7 @@ pub use raw::{EDITION_1_1, EDITION_1_2, PAYLOAD_LIMIT, PDU_LIMIT};
 pub use reading::{path_address, path_has, read, write_again, Header};
 pub use refusal::Refusal;
 pub use reliable::{Deed, Reliable};
-pub use sealed::{seal, Record};
+pub use sealed::{message_number, seal, Record};
 pub use stations::{Heard, Listened, Station, Stations};
 
 /// What was written, or why nothing was.

@@ -68,6 +68,7 @@ impl Record {
     /// let pdu = [0x02, 0x00, 0x10, 0x01, 0x03, 0xE8, 0x00, 0x2A];
     /// let (mut sealed, mut plain, mut record) = ([0; 15], [0; 1], Record::new());
     /// assert_eq!(seal(&key, 850, &pdu, &mut sealed), Ok(15));
+    /// assert_eq!(mant::message_number(&sealed), Ok(850));
     /// assert_eq!(record.open(&key, &sealed, &mut []), Err(Refusal::NoRoomForPayload));
     /// assert_eq!(record.open(&key, &sealed, &mut plain), Ok(1));
     /// assert_eq!((plain, record.get(1000)), ([0x2A], Some(850)));
@@ -75,6 +76,20 @@ impl Record {
     /// ```
     pub fn open(&mut self, key: &Key, pdu: &[u8], output: &mut [u8]) -> Result<usize, Refusal> {
         length(raw::open(*key, &mut self.words, pdu, output))
+    }
+
+    /// Removes a source, and returns whether it was held. Its next number may
+    /// then be any, also one that was accepted before: for when its key changes.
+    ///
+    /// ```
+    /// let mut words = [0; mant::Record::WORDS];
+    /// words[..5].copy_from_slice(&[2, 1000, 850, 1600, 3]);
+    /// let mut record = mant::Record::from_words(words);
+    /// assert!(record.remove(1000) && !record.remove(1000));
+    /// assert_eq!((record.get(1000), record.get(1600)), (None, Some(3)));
+    /// ```
+    pub fn remove(&mut self, source: u16) -> bool {
+        raw::remove_source(&mut self.words, source)
     }
 }
 
@@ -88,6 +103,14 @@ impl fmt::Debug for Record {
     fn fmt(&self, f: &mut fmt::Formatter) -> fmt::Result {
         f.debug_map().entries(self.iter()).finish()
     }
+}
+
+/// The message number of the sealed PDU at the start of the bytes. It lies in
+/// clear, and anyone can send any. Refusals: 1 to 6 where there is no PDU, 80
+/// where its encrypted bit is clear, 81 where its payload has fewer than 7 bytes.
+pub fn message_number(pdu: &[u8]) -> Result<u32, Refusal> {
+    let numbered = raw::message_number(pdu);
+    Refusal::check(numbered.number).map(|()| numbered.message)
 }
 
 /// Seals the PDU at the start of the bytes under a message number, 16,777,215

@@ -1,4 +1,4 @@
-//! Payloads that nobody without the key can read or make.
+//! Payloads enciphered under a key, and opened once.
 
 use super::Written;
 
@@ -26,8 +26,20 @@ impl std::fmt::Debug for Key {
     }
 }
 
-// The size that the header asserts.
+/// The message number of a sealed PDU, or why there is none.
+/// In C `MantNumbered`.
+#[repr(C)]
+#[derive(Clone, Copy, Debug, Default, PartialEq, Eq)]
+pub struct Numbered {
+    /// 0, or the refusal.
+    pub number: u8,
+    /// The message number, 0 with a refusal.
+    pub message: u32,
+}
+
+// The sizes that the header asserts.
 const _: () = assert!(size_of::<Key>() == 16);
+const _: () = assert!(size_of::<Numbered>() == 8);
 
 #[rustfmt::skip]
 extern "C" {
@@ -35,6 +47,8 @@ extern "C" {
     fn mant_open(
         key: Key, record: *mut u32, record_words: usize, pdu: *const u8, pdu_length: usize, output: *mut u8, output_length: usize,
     ) -> Written;
+    fn mant_message_number(pdu: *const u8, pdu_length: usize) -> Numbered;
+    fn mant_remove_source(record: *mut u32, record_words: usize, source: u16) -> bool;
 }
 
 /// `mant_seal`.
@@ -69,4 +83,18 @@ pub fn open(key: Key, record: &mut [u32], pdu: &[u8], output: &mut [u8]) -> Writ
             output.len(),
         )
     }
+}
+
+/// `mant_message_number`.
+#[inline]
+pub fn message_number(pdu: &[u8]) -> Numbered {
+    // SAFETY: as above.
+    unsafe { mant_message_number(pdu.as_ptr(), pdu.len()) }
+}
+
+/// `mant_remove_source`.
+#[inline]
+pub fn remove_source(record: &mut [u32], source: u16) -> bool {
+    // SAFETY: as above.
+    unsafe { mant_remove_source(record.as_mut_ptr(), record.len(), source) }
 }
