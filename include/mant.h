@@ -935,8 +935,10 @@ typedef struct MantLimits {
 MANT_SIZE(MantLimits, 56);
 
 /* The most transmissions that one fresh PDU with a path and this hop limit can cause among so many repeating nodes, its first sending counted. Echo is
-   on at each node, and no two have the same address. The node at the PDU's source address hears too, with echo on, and does not count among these nodes,
-   since it drops what it hears of its own (42). So a gauge that also repeats counts for the reports of others, and not for its own. */
+   on at each node, no two have the same address, and none takes a transmission twice. A radio hears each transmission once. A decoder that hands a frame
+   over twice breaks that: with one repeater and hop limit 1, three can then go out instead of two. The node at the PDU's source address hears
+   too, with echo on, and does not count among these nodes, since it drops what it hears of its own (42). So a gauge that also repeats counts for the
+   reports of others, and not for its own. The PDU's destination does not count either, since it does not repeat what is for itself (41). */
 MantBound mant_most_transmissions(uint64_t nodes, uint64_t hop_limit);
 
 /* The most bytes that those transmissions have together, where the fresh PDU has this size. Any size is answered, also one that no PDU has. */

@@ -209,9 +209,10 @@ def _bound(found):
 
 
 def most_transmissions(nodes, hop_limit):
-    """The most times that one report goes out on the air, its first sending counted, for so many repeating nodes besides the originator. It holds if the
-    report has a path, every node has echo suppression on and an address of its own. Raises OverflowError where it is above 18,446,744,073,709,551,615. It takes
-    any number of nodes; `./plan` refuses more than 65,536, since there are no more addresses.
+    """The most times that one report goes out on the air, its first sending counted, for so many repeating nodes besides the originator and the
+    destination. It holds if the report has a path, every node has echo suppression on and an address of its own, and none takes a transmission twice. A
+    radio hears each one once. A decoder that hands a frame over twice breaks that. Raises OverflowError where it is above 18,446,744,073,709,551,615. It
+    takes any number of nodes; `./plan` refuses more than 65,535, since there are no more addresses besides the originator's.
 
     >>> most_transmissions(8, 3)
     401

@@ -45,7 +45,6 @@ missed-when h value e some-hearing chain =
 
 module _ (hears : ℕ → ℕ → Bool) (nodes : List Repeater) (settings : FreshSettings) (payload : List ℕ) (room : ℕ)
     (plan : Planned nodes settings payload room) (receptions : List Reception) (taken : TakenByAll hears nodes (fresh settings payload) receptions)
-    (only : ByNoOther hears nodes (fresh settings payload) receptions)
     (pairs : List ℕ) (says : Says pairs hears nodes) (from : ℕ) (from-at : getElem? (map address nodes) from ≡ some (settings .source)) where
   abbrev addresses : List ℕ
   addresses = map address nodes
@@ -101,9 +100,9 @@ module _ (hears : ℕ → ℕ → Bool) (nodes : List Repeater) (settings : Fres
         (λ t. absurd (omega (arith, t .0)))
         tells
 
-    not-told : Tells pairs (length addresses) from place value → isDelivered (settings .«hop_limit») value ≡ false
+    not-told : ByNoOther hears nodes (fresh settings payload) receptions → Tells pairs (length addresses) from place value → isDelivered (settings .«hop_limit») value ≡ false
         → (what : List ℕ) (count : ℕ) → ¬ Delivered nodes (fresh settings payload) receptions n what count
-    not-told tells e =
+    not-told only tells e =
         ⊎-elim
         (λ t. by-cases (decLt 0 value)
         (λ some-hearing.
@@ -118,11 +117,11 @@ module _ (hears : ℕ → ℕ → Bool) (nodes : List Repeater) (settings : Fres
             chain-is-none hears addresses (settings .source) (subst (λ (k : ℕ). Shortest hears addresses (settings .source) (address n) k) none s .chain)
 
   pub told : (before lengths : List ℕ) → length before ≡ length nodes → LengthsFound pairs from before true lengths
-      → Told nodes settings payload receptions lengths
+      → Told hears nodes settings payload receptions lengths
   told before lengths size found =
       let tells : (place : ℕ) → place < length nodes → Tells pairs (length addresses) from place (at lengths place) =
       λ place h. subst (λ (k : ℕ). Tells pairs k from place (at lengths place)) (size ∙ sym long) (found .told refl place (omega (arith, size))) in
       record {
         delivered = λ place n n-at. is-told place n n-at (at lengths place) (tells place (at-within nodes place n-at));
-        not-delivered = λ place n n-at. not-told place n n-at (at lengths place) (tells place (at-within nodes place n-at));
+        not-delivered = λ only place n n-at. not-told place n n-at (at lengths place) only (tells place (at-within nodes place n-at));
       }

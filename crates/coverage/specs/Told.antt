@@ -12,6 +12,7 @@ use Rattle.origin.specs.declared.FreshSettings.{FreshSettings}
 use Rattle.origin.specs.Origination.{fresh}
 use Rattle.flood.specs.Air.{Repeater, address}
 use Rattle.flood.specs.Flood.{Reception}
+use Rattle.coverage.specs.Hearing.{ByNoOther}
 use Rattle.coverage.specs.Delivery.{Delivered}
 
 -- the pairs of places say who hears whom among the nodes
@@ -19,9 +20,11 @@ abbrev pub Says : List ℕ → (ℕ → ℕ → Bool) → List Repeater → Type
 Says pairs hears nodes =
     (i j : ℕ) → i < length nodes → j < length nodes → isHeard pairs i j ≡ hears (at (map address nodes) i) (at (map address nodes) j)
 
--- by the lengths, a byte for each node, a node is delivered the payload, and with which path count, or is not
-pub record Told (nodes : List Repeater) (settings : FreshSettings) (payload : List ℕ) (receptions : List Reception) (lengths : List ℕ) : Type 0 where
+-- by the lengths, a byte for each node, a node is delivered the payload, and with which path count, or is not, where no node takes what it does not hear
+pub record Told (hears : ℕ → ℕ → Bool) (nodes : List Repeater) (settings : FreshSettings) (payload : List ℕ) (receptions : List Reception)
+    (lengths : List ℕ) : Type 0 where
   pub delivered : (place : ℕ) (n : Repeater) → getElem? nodes place ≡ some n → isDelivered (settings .«hop_limit») (at lengths place) ≡ true
       → Delivered nodes (fresh settings payload) receptions n payload (at lengths place - 1)
-  pub not-delivered : (place : ℕ) (n : Repeater) → getElem? nodes place ≡ some n → isDelivered (settings .«hop_limit») (at lengths place) ≡ false
+  pub not-delivered : ByNoOther hears nodes (fresh settings payload) receptions → (place : ℕ) (n : Repeater)
+      → getElem? nodes place ≡ some n → isDelivered (settings .«hop_limit») (at lengths place) ≡ false
       → (what : List ℕ) (count : ℕ) → ¬ Delivered nodes (fresh settings payload) receptions n what count

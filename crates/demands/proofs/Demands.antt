@@ -1,14 +1,17 @@
 -- The three demands, each from its parts.
 use Prim.Native.Nat.{ℕ, _≤_, _<_}
 use native.Mathlib.Omega.{arith}
-use mathlib.Core.Bool.{Bool, true, false, cond, _||_}
+use mathlib.Core.Bool.{Bool, true, false, not, cond, _||_}
 use mathlib.Core.List.{List, [], _∷_, _++_, map}
-use mathlib.Core.Logic.{_⊎_}
+use mathlib.Core.Logic.{_≢_, _⊎_}
 use mathlib.Core.Path.{_≡_, refl, ap, sym, _∙_}
-use lib.Dec.{ltb}
+use lib.Dec.{eqb, ltb}
 use lib.ListN.{length, take, drop}
-use borrow.Author.Tests.{ne-eqb, le-ltb}
+use borrow.Author.Tests.{ne-eqb, eqb-false, le-ltb}
 use Rattle.octets.specs.Octets.{AllBytes, over}
+use Rattle.octets.proofs.Tests.{both}
+use Rattle.pdu.specs.declared.Destination.{Destination}
+use Rattle.pdu.specs.declared.Destination.the-variants.{Everyone, Address}
 use Rattle.pdu.specs.declared.Header.{Header}
 use Rattle.pdu.specs.declared.Reading.{Reading}
 use Rattle.pdu.specs.declared.Reading.the-variants.{Pdu, Refused}
@@ -43,12 +46,14 @@ use Rattle.node.proofs.Repeating.{ready}
 use Rattle.node.proofs.Encoded.{alone-reads, alone-path, alone-payload, repeat-short}
 use Rattle.batch.proofs.Walking as walking
 use Rattle.bound.proofs.Values.{bound-3-2, bound-3-6, bound-3-7, bound-no-hops, bound-no-nodes}
-use Rattle.flood.specs.Air.{address}
-use Rattle.flood.proofs.Demand.{demand-3, demand-3-bytes}
+use Rattle.flood.specs.Air.{Repeater, address, canRepeat}
+use Rattle.flood.proofs.Counting.{demand-3, demand-3-bytes}
+use Rattle.flood.proofs.Counting as counting
 use Rattle.flood.proofs.Demand as demand
 use Rattle.flood.proofs.Exact as exact
-use Rattle.flood.proofs.Fresh.{originated-begins, fresh-source, fresh-hop}
+use Rattle.flood.proofs.Fresh.{originated-begins, fresh-source, fresh-hop, fresh-destination}
 use Rattle.flood.proofs.Sent.{sent-written, none-written}
+use Rattle.demands.proofs.Behind.{behind}
 use Rattle.demands.specs.Demands.{Demand1, Demand2, Demand3}
 
 written-as-was : (reading : Reading) (bytes output : List ℕ) → (writtenOf reading (length output) .number ≡ 0 → ⊥)
@@ -187,10 +192,29 @@ exactly =
       read-well-formed = λ bytes header small e. shown-well-formed bytes header small e;
       repeat-reads-back = λ node room received header small e z. repeat-back node room received header small e z;
       delivered-part = λ node room received. delivered-part node room received;
+      behind = behind;
       stepping-walks = λ node room batch. walking.stepping-walks node room batch;
       walk-answers = λ node room batch. walk-answers node room batch;
       walk-ends = λ node room batch short. walk-ends node room batch short;
     }
+
+-- what it is that a node can repeat
+can-means : (n : Repeater) (to : Destination) → canRepeat to n ≡ true → (n .node .settings .repeating ≡ true) × (to ≢ Address (address n))
+can-means n Everyone can = (both (n .node .settings .repeating) true can .0, λ e. let w : _≡_ {A = ℕ} 0 1 = cc in omega arith)
+can-means n (Address a) can =
+    let (on, apart) = both (n .node .settings .repeating) (not (eqb a (address n))) can in
+    (on, λ e. let same : a ≡ address n = same-address a (address n) e in eqb-false a (address n) (not-true (eqb a (address n)) apart) same)
+  where
+    same-address : (a b : ℕ) → Address a ≡ Address b → a ≡ b
+    same-address a b e = cc
+
+    not-true : (t : Bool) → not t ≡ true → t ≡ false
+    not-true false e = refl
+    not-true true e = sym e
+
+means-can : (n : Repeater) (to : Destination) → to ≢ Address (address n) → n .node .settings .repeating ≡ true → canRepeat to n ≡ true
+means-can n Everyone apart on = rw on
+means-can n (Address a) apart on = rw (on, ne-eqb a (address n) (λ e. apart (ap Address e)))
 
 pub bounded : Demand3
 bounded =
@@ -198,18 +222,29 @@ bounded =
       bounded = λ nodes all settings payload room message receptions once. demand-3 nodes all settings payload room message receptions once;
       bytes-bounded =
           λ nodes all settings payload room message receptions once. demand-3-bytes nodes all settings payload room message receptions once;
-      reached = λ nodes all settings payload room message free roomy everyone fits receptions once complete. (
-        exact.reached nodes all settings payload room message free roomy
-            (λ n m. exact.for-everyone (address n) (settings .destination) everyone) fits receptions once complete,
-        exact.reached-bytes nodes all settings payload room message free roomy
-            (λ n m. exact.for-everyone (address n) (settings .destination) everyone) fits receptions once complete,
+      nodes-asked = λ nodes differ each.
+          record { addresses-differ = differ; addresses-fit = λ n m. each n m .0; echo-on = λ n m. each n m .1 };
+      message-asked = λ settings payload room taken path source to id small.
+          record { taken = taken; with-path = path; source-fits = source; destination-fits = to; id-fits = id; payload-fits = small };
+      reached = λ nodes all settings payload room message free roomy fits receptions once complete. (
+        exact.reached nodes all settings payload room message free roomy fits receptions once complete,
+        exact.reached-bytes nodes all settings payload room message free roomy fits receptions once complete,
       );
       values = (bound-3-2, bound-3-6, bound-3-7, bound-no-hops, bound-no-nodes);
       schedule = λ nodes all settings payload room message. demand.schedule nodes all settings payload room message;
       begun-bounded = λ nodes all first begins receptions once.
-          (demand.begun-bounded nodes all first begins receptions once, demand.begun-bytes nodes all first begins receptions once);
-      originated-begins = λ settings payload room message.
-          (originated-begins settings payload room message, fresh-source settings payload room message, fresh-hop settings payload room message);
+          (counting.begun-bounded nodes all first begins receptions once, counting.begun-bytes nodes all first begins receptions once);
+      counted = λ source to nodes n m.
+          let (n-in, other, can) = counting.repeaters-are to source nodes m in
+          let (on, apart) = can-means n to can in
+          (n-in, other, apart, on);
+      counted-only = λ source to nodes n m other apart on. counting.are-repeaters to source nodes m other (means-can n to apart on);
+      originated-begins = λ settings payload room message. (
+        originated-begins settings payload room message,
+        fresh-source settings payload room message,
+        fresh-hop settings payload room message,
+        fresh-destination settings payload room message,
+      );
       sent-is-left = λ n received output sent long e. sent-written n received output long sent e;
       silent-is-left = λ n received output long e. none-written n received output long e;
     }

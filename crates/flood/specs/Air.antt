@@ -1,12 +1,13 @@
 -- Demand 3 over demand 2's rules: the nodes of a network, the PDU that begins a flood, and what goes out on the air. Assumes nothing.
 use mathlib.Core.Path.{_≡_}
-use mathlib.Core.Bool.{true, cond}
+use mathlib.Core.Bool.{Bool, true, not, cond, _&&_}
 use mathlib.Core.Option.{Option, none, some}
 use mathlib.Core.List.{List, [], _∷_, map, List·Memᴰ, List·Nodup}
 use Prim.Native.Nat.{ℕ, _<_}
 use lib.Dec.{eqb}
 use lib.ListN.{length}
 use Rattle.octets.specs.Octets.{AllBytes}
+use Rattle.pdu.specs.declared.Destination.{Destination}
 use Rattle.pdu.specs.declared.Destination.the-variants.{Address}
 use Rattle.pdu.specs.Header.{headerOf}
 use Rattle.pdu.specs.Reading.{exactlyOne}
@@ -16,10 +17,10 @@ use Rattle.origin.specs.declared.FreshSettings.{FreshSettings}
 use Rattle.origin.specs.Origination.{originationNumber}
 use Rattle.lists.specs.Lists.{listFault}
 use Rattle.decision.specs.declared.Choice.the-variants.{Neither}
-use Rattle.decision.specs.Decision.{Node}
+use Rattle.decision.specs.Decision.{Node, isForOwn}
 use Rattle.node.specs.Repeat.{repeated}
 use Rattle.node.specs.Answers.{repeatNumber}
-use Rattle.flood.specs.Flood.{Reception, flood, total}
+use Rattle.flood.specs.Flood.{Reception, flood, total, others}
 
 -- a node of a network: the node, and the bytes of its output (One PDU at one node; number 40)
 pub record Repeater : Type 0 where
@@ -48,6 +49,18 @@ onTheAir nodes first receptions = flood sends nodes (first ∷ []) receptions
 -- and how many bytes these are
 abbrev pub bytesOnTheAir : List Repeater → List ℕ → List Reception → ℕ
 bytesOnTheAir nodes first receptions = total length (onTheAir nodes first receptions)
+
+-- whether a node can repeat what is sent to that destination: its repeating is on, and it is not the destination (One PDU at one node, 6: 36 and 41)
+abbrev pub canRepeat : Destination → Repeater → Bool
+canRepeat to repeater = repeater .node .settings .repeating && not (isForOwn (address repeater) to)
+
+unfoldable pub thoseThatCan : Destination → List Repeater → List Repeater
+thoseThatCan to [] = []
+thoseThatCan to (repeater ∷ nodes) = cond (canRepeat to repeater) (repeater ∷ thoseThatCan to nodes) (thoseThatCan to nodes)
+
+-- the nodes that demand 3 counts, its N: those that can repeat the message, without the originator
+abbrev pub repeaters : ℕ → Destination → List Repeater → List Repeater
+repeaters source to nodes = thoseThatCan to (others address source nodes)
 
 -- Demand 3's nodes: different addresses, echo on; any address from 0 to 65,535 is allowed. Edition, lists, repeating and room are as they may be. The
 -- originator, the node at the source address, may be one of them (document 02, W-203).

@@ -4,18 +4,28 @@ use mathlib.Core.Bool.{cond}
 use mathlib.Core.List.{List}
 use mathlib.Core.Option.{none, some}
 use lib.Dec.{eqb}
-use Prim.Native.Nat.{ℕ}
+use Prim.Native.Nat.{ℕ, _+_, _*_, _≤_, min}
+use native.Mathlib.Omega.{arith}
+use mathlib.Core.Logic.{inr}
 use lib.ListN.{length, take, drop}
+use Rattle.pdu.specs.Sizes.{pduLimit}
+use Rattle.bound.specs.Bound.{terms}
+use Rattle.bound.proofs.Series.{terms-below}
+use Rattle.origin.specs.declared.FreshSettings.{FreshSettings}
+use Rattle.origin.specs.Origination.{fresh}
 use Rattle.node.specs.declared.Answer.{Answer}
 use Rattle.node.specs.Repeat.{repeated}
 use Rattle.node.specs.Answers.{answerOf, Hears}
-use Rattle.flood.specs.Air.{Repeater, address, sends}
-use Rattle.flood.proofs.Others.{are-others}
+use Rattle.flood.specs.Air.{Repeater, address, sends, Originated}
+use Rattle.flood.proofs.Exact.{longest}
+use Rattle.flood.proofs.Others.{are-others, others-are}
 use Rattle.chains.specs.Lengths.{isHeard}
+use Rattle.coverage.specs.Hearing.{senderOf}
 use Rattle.coverage.specs.Delivery.{Delivers}
 use Rattle.coverage.proofs.Cases as cases
 use Rattle.coverage.proofs.Covered.{reach, schedule}
 use Rattle.coverage.proofs.Told.{told}
+use Rattle.least_reach.proofs.Hops.{none-missed, all-delivered, least, least-only, unreachable, unreachable-only}
 use Rattle.least_reach.specs.LeastReach.{LeastReach}
 
 own-answer : (n : Repeater) (received output left : List ℕ) (answer : Answer) → length output ≡ n .room → Hears (n .node) received output answer left
@@ -45,13 +55,47 @@ sent : (n : Repeater) (received : List ℕ)
 unfolding sends answerOf
 sent n received = refl
 
+room-enough : (settings : FreshSettings) (payload : List ℕ) (room : ℕ) → Originated settings payload room → settings .«hop_limit» ≤ 6
+    → length (fresh settings payload) + 2 * settings .«hop_limit» ≤ pduLimit
+room-enough settings payload room message hops =
+    let h = settings .«hop_limit» in
+    let all-hops : terms h h ≡ min h h = terms-below h h (λ e. omega (arith, e, hops)) in
+    omega (arith, all-hops, longest settings payload room h (message .taken) (inr (omega arith)))
+
 pub least-reach : LeastReach
 unfolding isHeard
 least-reach =
     record {
       reach = reach;
+      room-enough = room-enough;
+      planned-asked = λ nodes settings payload room message everyone hops network each.
+          record {
+            originated = message;
+            no-destination = everyone;
+            hops = hops;
+            network = network;
+            others-open = λ n m. let (n-in, other) = others-are address (settings .source) nodes m in each n n-in other .0;
+            others-roomy = λ n m. let (n-in, other) = others-are address (settings .source) nodes m in each n n-in other .1;
+          };
+      taken-asked = λ hears nodes first receptions once all. record { once = once; by-all = all };
       schedule = schedule;
       told = told;
+      more-heard = λ hears known-hears more nodes first receptions taken.
+          record {
+            once = taken .once;
+            by-all = λ reception known. taken .by-all reception (record {
+              node = known .node;
+              node-at = known .node-at;
+              sent = known .sent;
+              sent-at = known .sent-at;
+              hears-sender = more (senderOf (known .sent)) (address (known .node)) (known .hears-sender);
+            });
+          };
+      none-missed = λ h lengths. (none-missed h lengths, all-delivered h lengths);
+      least = least;
+      least-only = least-only;
+      unreachable = unreachable;
+      unreachable-only = unreachable-only;
       pair = (refl, refl);
       answered = answered;
       answered-only = answered-only;

@@ -1,1 +1,2 @@
+pub mod Hops
 pub mod LeastReach

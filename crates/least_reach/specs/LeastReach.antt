@@ -1,28 +1,38 @@
 -- Document 02, W-208, as one record; `proofs/LeastReach.antt` gives it from its parts.
-use Prim.Native.Nat.{ℕ, _≤_}
+use Prim.Native.Nat.{ℕ, _+_, _*_, _≤_, _<_}
 use mathlib.Core.Bool.{Bool, true, false, cond}
-use mathlib.Core.List.{List, [], _∷_, map, List·Memᴰ}
+use mathlib.Core.List.{List, [], _∷_, map, List·Memᴰ, List·Nodup}
 use mathlib.Core.Logic.{_≢_}
 use mathlib.Core.Option.{none, some}
 use mathlib.Core.Path.{_≡_}
 use lib.Dec.{eqb}
 use lib.ListN.{length, take, drop, getElem?}
+use Rattle.pdu.specs.declared.Destination.the-variants.{Everyone}
+use Rattle.pdu.specs.Sizes.{pduLimit}
 use Rattle.editions.specs.Editions.{known}
 use Rattle.chains.specs.Chains.{ends}
+use Rattle.octets.specs.Octets.{at}
 use Rattle.chains.specs.Lengths.{isHeard, LengthsFound}
+use Rattle.chains.specs.Reach.{isDelivered, missed, leastHop}
+use Rattle.chains.specs.declared.Least.the-variants.{HopLimit, Unreachable}
 use Rattle.origin.specs.declared.FreshSettings.{FreshSettings}
 use Rattle.origin.specs.Origination.{fresh}
 use Rattle.node.specs.declared.Answer.{Answer}
 use Rattle.node.specs.Repeat.{repeated}
 use Rattle.node.specs.Answers.{answerOf, Hears}
 use Rattle.flood.specs.Flood.{Reception}
-use Rattle.flood.specs.Air.{Repeater, address, sends, onTheAir}
-use Rattle.coverage.specs.Hearing.{TakenByAll, ByNoOther}
+use Rattle.flood.specs.Air.{Repeater, Nodes, Open, Originated, address, sends, onTheAir}
+use Rattle.flood.specs.Complete.{HasHeard}
+use Rattle.coverage.specs.Hearing.{InHearing, TakenByAll, ByNoOther}
 use Rattle.coverage.specs.Delivery.{Planned, Delivers, Delivered}
 use Rattle.coverage.specs.Reach.{Reach}
 use Rattle.coverage.specs.Told.{Says, Told}
 use Rattle.coverage.specs.Cases.{reportAsked, reading, repeater, toldOfEach, nextInLine, lineAddresses, lineReceptions, lineAir, lineTold}
 use Rattle.coverage.specs.Cases.{twoWays, twoWaysAddresses, longerFirst}
+
+-- by the lengths, all nodes but the originator, whose length is 0, are delivered a report with that hop limit
+abbrev pub AllDelivered : ℕ → List ℕ → Type 0
+AllDelivered h lengths = (place : ℕ) → place < length lengths → 0 < at lengths place → isDelivered h (at lengths place) ≡ true
 
 pub record LeastReach : Type 0 where
   -- I. WHAT 02 ASKS
@@ -30,6 +40,19 @@ pub record LeastReach : Type 0 where
   pub reach : (hears : ℕ → ℕ → Bool) (nodes : List Repeater) (settings : FreshSettings) (payload : List ℕ) (room : ℕ)
       → Planned nodes settings payload room → (receptions : List Reception) → TakenByAll hears nodes (fresh settings payload) receptions
       → Reach hears nodes settings payload receptions
+  -- an output of 4,615 bytes is always room enough for a node
+  pub room-enough : (settings : FreshSettings) (payload : List ℕ) (room : ℕ) → Originated settings payload room → settings .«hop_limit» ≤ 6
+      → length (fresh settings payload) + 2 * settings .«hop_limit» ≤ pduLimit
+  -- nothing more than this is asked of the network and of the receptions
+  pub planned-asked : (nodes : List Repeater) (settings : FreshSettings) (payload : List ℕ) (room : ℕ) → Originated settings payload room
+      → settings .destination ≡ Everyone → settings .«hop_limit» ≤ 6 → Nodes nodes
+      → ((n : Repeater) → List·Memᴰ n nodes → address n ≢ settings .source
+      → Open (n .node) × (length (fresh settings payload) + 2 * settings .«hop_limit» ≤ n .room))
+      → Planned nodes settings payload room
+  pub taken-asked : (hears : ℕ → ℕ → Bool) (nodes : List Repeater) (first : List ℕ) (receptions : List Reception) → List·Nodup receptions
+      → ((reception : Reception) → InHearing hears nodes first receptions reception
+      → HasHeard sends nodes (first ∷ []) receptions (reception .node) (reception .transmission))
+      → TakenByAll hears nodes first receptions
   -- and such receptions exist
   pub schedule : (hears : ℕ → ℕ → Bool) (nodes : List Repeater) (settings : FreshSettings) (payload : List ℕ) (room : ℕ)
       → Planned nodes settings payload room → (receptions : List Reception) × TakenByAll hears nodes (fresh settings payload) receptions
@@ -37,10 +60,24 @@ pub record LeastReach : Type 0 where
   -- the lengths that the function `find_lengths` leaves, of pairs that say by places who hears whom, say who is delivered it, and with which path count
   pub told : (hears : ℕ → ℕ → Bool) (nodes : List Repeater) (settings : FreshSettings) (payload : List ℕ) (room : ℕ)
       → Planned nodes settings payload room
-      → (receptions : List Reception) → TakenByAll hears nodes (fresh settings payload) receptions → ByNoOther hears nodes (fresh settings payload) receptions
+      → (receptions : List Reception) → TakenByAll hears nodes (fresh settings payload) receptions
       → (pairs : List ℕ) → Says pairs hears nodes → (from : ℕ) → getElem? (map address nodes) from ≡ some (settings .source)
       → (before lengths : List ℕ) → length before ≡ length nodes → LengthsFound pairs from before true lengths
-      → Told nodes settings payload receptions lengths
+      → Told hears nodes settings payload receptions lengths
+  -- a hearing that the planner does not know of takes nothing away: what is taken by all that hear it is taken by all that are known to. So each delivery
+  -- that is told, and its path count, holds also where more is heard
+  pub more-heard : (hears known-hears : ℕ → ℕ → Bool) → ((sender node : ℕ) → known-hears sender node ≡ true → hears sender node ≡ true)
+      → (nodes : List Repeater) (first : List ℕ) (receptions : List Reception)
+      → TakenByAll hears nodes first receptions → TakenByAll known-hears nodes first receptions
+  -- no node is missed exactly where all are delivered it; the least hop limit is the one at which all are and at every smaller one some are not; and none
+  -- is told exactly where at none of 0 to 6 all are
+  pub none-missed : (h : ℕ) (lengths : List ℕ) → (missed h lengths ≡ 0 → AllDelivered h lengths) × (AllDelivered h lengths → missed h lengths ≡ 0)
+  pub least : (lengths : List ℕ) (h : ℕ) → leastHop lengths ≡ HopLimit h
+      → (h ≤ 6) × AllDelivered h lengths × ((less : ℕ) → less < h → ¬ AllDelivered less lengths)
+  pub least-only : (lengths : List ℕ) (h : ℕ) → h ≤ 6 → AllDelivered h lengths → ((less : ℕ) → less < h → ¬ AllDelivered less lengths)
+      → leastHop lengths ≡ HopLimit h
+  pub unreachable : (lengths : List ℕ) → leastHop lengths ≡ Unreachable → (h : ℕ) → h ≤ 6 → ¬ AllDelivered h lengths
+  pub unreachable-only : (lengths : List ℕ) → ((h : ℕ) → h ≤ 6 → ¬ AllDelivered h lengths) → leastHop lengths ≡ Unreachable
   -- a pair is a sender's place, and then the place of a node that hears it
   pub pair : (isHeard (1 ∷ 2 ∷ []) 1 2 ≡ true) × (isHeard (1 ∷ 2 ∷ []) 2 1 ≡ false)
   -- a node of the model delivers what its function `hear` returns: number 0, and the payload at the place that the answer names, and no other; and it sends

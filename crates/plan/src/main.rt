@@ -1,7 +1,7 @@
 // How many times one report can go out on the air at most.
 //
 // plan             prints a table for up to 12 repeating nodes
-// plan N H         answers for N repeating nodes and hop limit H; the node that originated the report does not count
+// plan N H         answers for N repeating nodes and hop limit H; the report's originator and its destination do not count
 // plan N H BYTES   gives the bytes on the air too, for a fresh PDU of that length, 7 to 4,105
 mod argument;
 mod table;
@@ -13,8 +13,8 @@ use libc::STDERR_FILENO;
 use libc::STDOUT_FILENO;
 use table::print_table;
 
-// No more nodes have different addresses.
-const ADDRESSES: u64 = 65536;
+// No more nodes have addresses that differ from each other and from the originator's.
+const NODES: u64 = 65535;
 
 // A fresh PDU with a path: the fixed part and the path count; with a destination, a PDU ID and the longest payload too.
 const SHORTEST: u64 = 7;
@@ -38,10 +38,12 @@ fn main() {
 fn answer(with_bytes: bool) {
     let first = argument_at(1);
     let Argument::Number(nodes) = first else {
-        return complain_of(b"N, the number of repeating nodes, 0 to 65536, ", first);
+        return complain_of(b"N, the number of repeating nodes, 0 to 65535, ", first);
     };
-    if ADDRESSES < nodes {
-        return complain(b"N: there are only 65536 addresses, so no more nodes of different ones");
+    if NODES < nodes {
+        return complain(
+            b"N: besides the originator's there are only 65535 addresses, so no more nodes of different ones",
+        );
     }
     let second = argument_at(2);
     let Argument::Number(hop_limit) = second else {
@@ -137,7 +139,7 @@ fn say_length(length: u64) {
 fn say_conditions(before: &[u8]) {
     say(before);
     say(
-        b"it was originated with a path, every node has echo suppression on, the originator too, and no two nodes have the same address.\n",
+        b"it was originated with a path, every node has echo suppression on, the originator too, no two nodes have the same address,\nand no node takes a transmission twice.\n",
     );
 }
 

@@ -13,9 +13,10 @@ pub(crate) fn print_table() {
 fn print_title() {
     say(b"The most times that one report can go out on the air, its first time counted,\n");
     say(b"by repeating nodes N and hop limit h. A hop limit of 7 sets no limit.\n");
-    say(b"The node that originated the report does not count, also if it repeats.\n");
+    say(b"The report's originator and its destination do not count, also if they repeat.\n");
     say(b"The report was originated with a path, every node has echo suppression on,\n");
-    say(b"the originator too, and no two nodes have the same address.\n\n");
+    say(b"the originator too, no two nodes have the same address, and no node takes a\n");
+    say(b"transmission twice.\n\n");
     say(b"  N     h=0     h=1     h=2     h=3     h=4     h=5     h=6         h=7\n");
 }
 

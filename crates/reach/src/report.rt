@@ -3,13 +3,16 @@ ghost use Prim.Native.Nat.{_≤_};
 use chains::Least;
 use chains::NO_CHAIN;
 use chains::NODE_LIMIT;
+use libc::STDERR_FILENO;
 use libc::STDOUT_FILENO;
 
 pub(crate) fn print_report(hop_limit: u8, nodes: usize, addresses: &[u16], pairs: &[u8]) {
     let mut all = [0u8; NODE_LIMIT];
     let served = at_most(nodes, NODE_LIMIT);
     let lengths: &mut [u8] = &mut all[0..served];
-    chains::find_lengths(pairs, 0, lengths);
+    if !chains::find_lengths(pairs, 0, lengths) {
+        return say_unserved();
+    }
     print_title(hop_limit, addresses);
     print_nodes(hop_limit, addresses, lengths);
     print_totals(hop_limit, lengths);
@@ -20,6 +23,14 @@ fn at_most(number: usize, limit: usize) -> usize
     ensures { λ r. ⌜ r ≤ limit ⌝ }
 {
     if number < limit { number } else { limit }
+}
+
+// The network's reader refuses such a network, with its line.
+fn say_unserved() {
+    io::write_all(
+        STDERR_FILENO,
+        b"reach: the network has no originator or more than 255 nodes\n",
+    );
 }
 
 fn print_title(hop_limit: u8, addresses: &[u16]) {
@@ -78,6 +89,7 @@ fn print_conditions() {
     say(
         b"sender and by no other, and every node has an address of its own, echo suppression and repeating on, all lists off and without fault, and room.\n",
     );
+    say(b"4615 bytes of output are always room enough.\n");
 }
 
 fn address_at(addresses: &[u16], place: usize) -> u64 {

@@ -25,7 +25,7 @@ use Rattle.ending.proofs.Exchanged.{ack-reads, ack-names}
 use Rattle.ending.proofs.Ends.{ending}
 use Rattle.ending.proofs.Settles.{settling}
 use Rattle.flood.proofs.Fresh.{originated-begins}
-use Rattle.flood.proofs.Demand.{begun-bounded}
+use Rattle.flood.proofs.Counting.{begun-bounded}
 use Rattle.checked_by_hand.specs.Examples.{nodeAt}
 use Rattle.reliable_messages.specs.ReliableMessages.{commandOf, command, withPath, of256, of257, reply, sendingMost, commandNames}
 use Rattle.reliable_messages.specs.ReliableMessages.{empty, full, twoTries, ReliableMessages}

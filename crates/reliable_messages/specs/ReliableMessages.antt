@@ -29,8 +29,8 @@ use Rattle.answering.specs.Delivered.{acknowledge, tableAcknowledged, outputAck
 use Rattle.ending.specs.First.{FirstAt, Nowhere}
 use Rattle.ending.specs.History.{RetrySettings, RetainAt, HearPdu, StepAt, Waiting, Lost, Arrived, history, start}
 use Rattle.ending.specs.Ending.{Statement, enough, Settling}
-use Rattle.flood.specs.Flood.{Reception, others, Bounded}
-use Rattle.flood.specs.Air.{Repeater, Nodes, Begins, Originated, address, pathOf, hopOf, onTheAir}
+use Rattle.flood.specs.Flood.{Reception, Bounded}
+use Rattle.flood.specs.Air.{Repeater, Nodes, Begins, Originated, address, pathOf, hopOf, onTheAir, repeaters}
 use Rattle.checked_by_hand.specs.Examples.{nodeAt}
 
 -- what retaining, a step and a PDU heard answer, and what they leave in the table and in the output
@@ -131,7 +131,7 @@ pub record ReliableMessages : Type 0 where
       → Begins (acknowledgement sending names) × (hopOf (acknowledgement sending names) ≡ sending .«hop_limit»)
       × (sourceOf (acknowledgement sending names) ≡ names .destination)
   pub counted : (nodes : List Repeater) → Nodes nodes → (first : List ℕ) → Begins first → (receptions : List Reception) → List·Nodup receptions
-      → Bounded address pathOf (others address (sourceOf first) nodes) (hopOf first) (onTheAir nodes first receptions)
+      → Bounded address pathOf (repeaters (sourceOf first) (headerOf first .destination) nodes) (hopOf first) (onTheAir nodes first receptions)
   -- II. CASE BY CASE, what the definitions of a record, of retaining, of a step and of a PDU heard say
   -- a record is free exactly where 75 or 72 would refuse its PDU; what was dropped or freed is
   pub used : (r : Retained) → isUsed r ≡ true → (r .length ≤ 256) × (unfit (pduOf r) ≡ 0)

@@ -6,7 +6,9 @@ use crate::{Limits, Refusal};
 /// The most transmissions that one fresh PDU with a path and this hop limit
 /// can cause among so many repeating nodes, its first sending counted. All have
 /// echo on and an address of their own, the node at the PDU's source address
-/// too, which is not one of them. None: 64 bits do not hold it. Refusal: 10 where
+/// too, which is not one of them, nor is the destination. No node takes a transmission twice: a radio
+/// hears each one once, and a decoder that hands a frame over twice breaks
+/// that. None: 64 bits do not hold it. Refusal: 10 where
 /// the hop limit is above 7.
 ///
 /// ```
