@@ -37,7 +37,7 @@
  *
  * Output. It changes only where a PDU, its plain payload, an exchange or what was taken from a queue is written (number 0), or, at a node, where the repeat
  * number is 0. It then begins with that, and keeps its bytes past the end of it. With every other number the output is left as it was. MANT_PDU_LIMIT
- * bytes are room for every PDU, MANT_EXCHANGE_LIMIT for every exchange, MANT_QUEUE_BYTES for all that a queue holds.
+ * bytes are room for every PDU, MANT_EXCHANGE_LIMIT for every exchange that is written, MANT_QUEUE_BYTES for all that a queue holds.
  *
  * Lent memory. What a box remembers lies in arrays of the caller's, who lends one to each call that needs it and keeps it from call to call: a table of
  * stations, a queue, a table of retained PDUs, a record of message numbers. Each is empty when it is all zeros. With a refusal nothing in it changes. Every
@@ -296,7 +296,8 @@ MantWritten mant_originate(MantFresh settings, const uint8_t *payload, size_t pa
 #define MANT_LIST_WORDS 1040
 #define MANT_BATCH_LIMIT 16384
 
-/* Which of a kind's two lists a node reads. Any other number chooses none, as 0 does. */
+/* Which of a kind's two lists a node reads. Any other number chooses none, as 0 does. The fields of MantNode have 8 bits, so C cuts a number above 255 that
+   is assigned to them: 257 arrives as 1 and chooses the first list. mant_change_over sees the whole number. */
 enum MantChoice {
     MANT_NO_LIST = 0,
     MANT_FIRST_LIST = 1,
@@ -669,7 +670,8 @@ void mant_queue_clear(uint8_t *queue, size_t queue_length);
  * Stack: mant_read_exchange 496, mant_write_exchange 168.
  */
 
-/* The most bytes that mant_write_exchange writes. */
+/* The most bytes that mant_write_exchange writes. An exchange that is read may be longer, since other elements may stand beside the PDU's two: it has up to
+   32,771 bytes. */
 #define MANT_EXCHANGE_LIMIT 4626
 
 /* Where the parts of a PDU lie in an exchange that was read. Places count from its first byte. With a number other than 0 every field after it is 0. */
@@ -726,7 +728,8 @@ MantWritten mant_write_exchange(const uint8_t *bytes, size_t bytes_length, uint8
 #define MANT_RECORDS 16
 #define MANT_RETAINED_LIMIT 256
 
-/* A record of a retained PDU, which is the first `length` bytes of `pdu`; zeros stand behind it. A record that was freed or dropped is all zeros. */
+/* A record of a retained PDU, which is the first `length` bytes of `pdu`; mant_retain puts zeros behind it. In a record of the caller's own making any bytes
+   may stand there: they stay as they are, and are not sent. A record that was freed or dropped is all zeros. */
 typedef struct MantRetained {
     uint8_t pdu[MANT_RETAINED_LIMIT];
     size_t length;
@@ -842,7 +845,7 @@ MantOutcome mant_acknowledge(MantRetained *table, size_t records, uint64_t last,
  *     counts, and an address above 65,535 is no source's. If a source gets another key, remove it from the record (mant_remove_source): under a new key its
  *     numbers may begin at 0 again. To seal, none, but the caller counts the message numbers.
  * Numbers: in sealing 1 to 6, 88, 85, 86 and 87; in opening 1 to 6, 80 to 84 and 87; mant_message_number 1 to 6, 80 and 81.
- * Stack: mant_seal 1,480, mant_open 1,504, mant_message_number 184, mant_remove_source 56.
+ * Stack: mant_seal 1,464, mant_open 1,504, mant_message_number 184, mant_remove_source 8.
  */
 
 #define MANT_SOURCE_LIMIT 64

@@ -140,7 +140,9 @@ def check_reach(words, answer):
     least = found.least_hop_limit
     printed = [f'hop limit {words[0]}, originator {lines[0][0]}', *map(said_of, found.nodes), f'{counted(len(found.out_of_reach), "node")} out of reach',
                'no hop limit from 0 to 6 reaches all' if least is None else f'the least hop limit that reaches all is {least}']
-    return printed, ' '.join(answer).split('/')[:-2]
+    said = ' '.join(answer).split('/')
+    conditions = next(i for i, line in enumerate(said) if line.startswith('This holds'))
+    return printed, said[:conditions]
 
 
 CHECKS = {name[len('check_'):]: value for name, value in list(globals().items()) if name.startswith('check_')}

@@ -8,7 +8,7 @@ NODE = re.compile(r'node (\d+): (?:(the originator)|chain of (\d+) hearings?, (?
 def is_whole(answer):
     """Whether a text is all that the program prints for a network."""
     lines = answer.split('\n')
-    return TITLE.fullmatch(lines[0]) is not None and len(lines) > 5 and all(NODE.fullmatch(line) for line in lines[1:-5]) and lines[-1] == ''
+    return TITLE.fullmatch(lines[0]) is not None and len(lines) > 6 and all(NODE.fullmatch(line) for line in lines[1:-6]) and lines[-1] == ''
 
 
 def lengths_of(answer):

@@ -20,14 +20,17 @@ use Rattle.editions.specs.declared.EditionReading.the-variants as edition-readi
 use Rattle.editions.specs.Editions.{wireOf}
 use Rattle.origin.specs.declared.FreshSettings.{FreshSettings}
 use Rattle.origin.specs.Origination.{originationNumber, originatedOutput}
-use Rattle.decision.specs.Decision.{Node}
+use Rattle.lists.specs.Lists.{listsIn}
+use Rattle.decision.specs.Decision.{Node, nodeOf}
 use Rattle.node.specs.Repeat.{repeated}
-use Rattle.node.specs.Answers.{nodeFault, nodeOrReadingFault, deliveryNumber, repeatNumber, answerOf, outputAfter}
+use Rattle.node.specs.Answers.{nodeFault, nodeOrReadingFault, deliveryNumber, repeatNumber, heardFrom, answerOf, outputAfter}
 use Rattle.node.specs.declared.Answer.{Answer}
 use Rattle.view.specs.View.{summaryOf}
-use Rattle.text.specs.Text.{text}
-use Rattle.lines.specs.Lines.{pduLine}
-use Rattle.boundary.specs.Boundary.{senderFromC, headerInC, answerInC, answerFromC}
+use Rattle.text.specs.Text.{text, decimal}
+use Rattle.lines.specs.Lines.{shown, senderShown, pduLine}
+use Rattle.boundary.specs.declared.a_node.MantAnswer.{MantAnswer}
+use Rattle.boundary.specs.declared.a_node.MantNode.{MantNode}
+use Rattle.boundary.specs.Boundary.{senderFromC, headerInC, nodeFromC, answerInC, answerFromC, HearsInC}
 use Rattle.checked_by_hand.specs.Examples.{nodeAt, example, exampleRepeated}
 
 -- For the worked cases: a PDU with that path bit, that source and no address in its path, which is then the count byte alone
@@ -67,9 +70,16 @@ pub record LastSender : Type 0 where
       → answerOf node room received .«last_sender» ≡ lastSender (headerOf received) received
   pub not-carried : (node : Node) (room : ℕ) (received : List ℕ) → (nodeOrReadingFault node received ≡ 0 → ⊥)
       → answerOf node room received .«last_sender» ≡ Unknown
-  -- a PDU line of `relay`: the sixth field is the address in decimal, 0 too, or `-`
-  pub line-known : pduLine 1 0 0 37 [] (Known 0) ≡ text "1 0 0 37 - 0\n"
-  pub line-unknown : pduLine 1 0 1 1 [] Unknown ≡ text "1 0 1 1 - -\n"
+  -- a PDU line of `relay`: behind five fields the last sender, in decimal where it is known, and `-` exactly where it is unknown
+  pub sixth-field : (number offset delivery repeat : ℕ) (repeated : List ℕ) (sender : Sender)
+      → let five = decimal number ++ text " " ++ decimal offset ++ text " " ++ decimal delivery ++ text " " ++ decimal repeat ++ text " " ++ shown repeated in
+      pduLine number offset delivery repeat repeated sender ≡ five ++ text " " ++ senderShown sender ++ text "\n"
+  pub in-decimal : (address : ℕ) → senderShown (Known address) ≡ decimal address
+  pub dash : (sender : Sender) → (sender ≡ Unknown → senderShown sender ≡ text "-") × (senderShown sender ≡ text "-" → sender ≡ Unknown)
+  -- so of what a node heard, exactly where it was not read, or has no path bit
+  pub dash-heard : (node : Node) (received : List ℕ)
+      → let unknown = (nodeOrReadingFault node received ≡ 0 → ⊥) ⊎ (headerOf received .«path_bit» ≡ false) in
+      (senderShown (heardFrom node received) ≡ text "-" → unknown) × (unknown → senderShown (heardFrom node received) ≡ text "-")
   -- of a repeat it is the node that repeated it, with the path bit; without, it stays unknown
   pub of-a-repeat : (node : Node) (room : ℕ) (received rest : List ℕ) → AllBytes received → repeatNumber node room received ≡ 0
       → headerOf received .«path_bit» ≡ true
@@ -93,7 +103,14 @@ pub record LastSender : Type 0 where
       (header .«has_last_sender» ≡ shown .«path_bit»)
       × (senderFromC (header .«has_last_sender») (header .«last_sender») ≡ lastSender (wireOf shown) bytes)
   pub answer-tells : (answer : Answer) → answerFromC (answerInC answer) .«last_sender» ≡ answer .«last_sender»
+  -- and so does what C's node answers to what it hears
+  pub heard-in-c : (node : MantNode) (lists received output left : List ℕ) (answer : MantAnswer)
+      → HearsInC (nodeOf (nodeFromC node) (listsIn lists)) received output answer left
+      → senderFromC (answer .«has_last_sender») (answer .«last_sender») ≡ heardFrom (nodeOf (nodeFromC node) (listsIn lists)) received
   -- IV. WORKED CASES
+  -- two lines: address 0, and a PDU that was not read
+  pub line-known : pduLine 1 0 0 37 [] (Known 0) ≡ text "1 0 0 37 - 0\n"
+  pub line-unknown : pduLine 1 0 1 1 [] Unknown ≡ text "1 0 1 1 - -\n"
   -- the example of document 002 at node 2000, and its repeat, there dropped by 30, and at node 5
   pub example-heard : (heardAt 2000 100 example ≡ Known 1000) × (heardAt 2000 100 exampleRepeated ≡ Known 2000)
       × (heardAt 5 100 exampleRepeated ≡ Known 2000)

@@ -1,24 +1,24 @@
 -- Document 02, W-202, as one record; `proofs/SerialExchange.antt` gives it from its parts. Reading never looks at what lies outside the input: the
 -- promise of `read_exchange` is `exchangeOf` of the input's bytes and of nothing else, and here `first-fault` has every element that it comes to begin
 -- within them, and `parts` what it shows lie within them.
-use Prim.Native.Nat.{ℕ, _+_, _≤_}
-use mathlib.Core.Bool.{not}
+use Prim.Native.Nat.{ℕ, _+_, _≤_, _<_}
+use mathlib.Core.Bool.{true, not}
 use mathlib.Core.List.{List, [], _∷_, _++_}
 use mathlib.Core.Path.{_≡_}
 use lib.Dec.{ltb}
 use lib.ListN.{length, take, drop}
 use Rattle.octets.specs.Numbers.{_gives_, _orElse_}
-use Rattle.octets.specs.Octets.{AllBytes, over}
+use Rattle.octets.specs.Octets.{AllBytes, wordBytes, over}
 use Rattle.pdu.specs.declared.Header.{Header}
 use Rattle.pdu.specs.declared.Reading.the-variants.{Pdu}
 use Rattle.pdu.specs.Header.{headerOf}
 use Rattle.pdu.specs.Sizes.{headerLength, pduLength}
 use Rattle.pdu.specs.Reading.{readOf, readingNumber}
 use Rattle.pdu.specs.Parts.{payloadIn}
-use Rattle.elements.specs.Elements.{levelLimit, runFault}
+use Rattle.elements.specs.Elements.{numberAt, numberSize, typeAt, elementEnd, levelLimit, runFault}
 use Rattle.elements.specs.Order.{reached, firstOwn, Ordered}
 use Rattle.joined.specs.Joined.{isSplit}
-use Rattle.exchange.specs.Exchange.{isExchange, headerPart, payloadPart, refusedBy, exchangeOf}
+use Rattle.exchange.specs.Exchange.{held, isExchange, headerPart, payloadPart, refusedBy, exchangeOf}
 use Rattle.exchange.specs.Encoding.{numberBytes, exchangeBytes, encoding, writtenExchange, exchangeOutput, exchangeLimit}
 
 -- For the worked cases: the example of document 003, section 10.1, and its PDU
@@ -39,6 +39,18 @@ headerFirst = (0x84 ∷ 0x00 ∷ 0x06 ∷ exampleHeader) ++ (0x84 ∷ 0x01 ∷ 0
 
 pub record SerialExchange : Type 0 where
   -- I. WHAT 02 ASKS
+  -- a type or a length is one byte up to 127, else two with the top bit set, and two-byte forms of small numbers are accepted: each is read as its number,
+  -- whatever stands before and behind it
+  pub one-byte : (before behind : List ℕ) (number : ℕ) → number < 128 → let bytes = before ++ (number ∷ []) ++ behind in
+      (numberAt bytes (length before) ≡ number) × (numberSize bytes (length before) ≡ 1)
+  pub two-bytes : (before behind : List ℕ) (number : ℕ) → number < 32768 → let bytes = before ++ wordBytes (32768 + number) ++ behind in
+      (numberAt bytes (length before) ≡ number) × (numberSize bytes (length before) ≡ 2)
+  -- and the shorter is written
+  pub shorter : (number : ℕ) → (number < 128 → numberBytes number ≡ number ∷ []) × (128 ≤ number → numberBytes number ≡ wordBytes (32768 + number))
+  -- an exchange is exactly one element of type 20 that ends where the bytes end and holds the types 1024 and 1025 once each
+  pub exchange-is : (bytes : List ℕ)
+      → let exchange = (typeAt bytes 0 ≡ 20) × (elementEnd bytes 0 ≡ length bytes) × (length (held 1024 bytes) ≡ 1) × (length (held 1025 bytes) ≡ 1) in
+      (isExchange bytes ≡ true → exchange) × (exchange → isExchange bytes ≡ true)
   -- the numbers in their order, when reading and when writing
   pub reading-order : (bytes : List ℕ) → exchangeOf bytes .number
       ≡ (runFault levelLimit bytes 0 (length bytes)

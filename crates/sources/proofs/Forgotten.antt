@@ -8,28 +8,28 @@ use lib.Dec.{eqb}
 use lib.ListN.{length, drop, length-append, length-drop}
 use borrow.Author.Tests.{ltb-true, ltb-false, eqb-true, ne-eqb}
 use Rattle.octets.specs.Octets.{over}
-use Rattle.sources.specs.Sources.{Accepted, capacity, entriesFrom, recordIn, placeOf, isHeld, lastNumber, withoutSource, wordsOf, memoryWithout}
+use Rattle.sources.specs.Sources.{Accepted, capacity, entriesFrom, recordIn, placeOf, isHeld, lastNumber, withoutSource, entryWords, memoryWithout}
 use Rattle.sources.proofs.Laws.{length-record}
 use Rattle.sources.proofs.Noting.{nextNumber, next-is, same-next}
 use Rattle.sources.proofs.Removing.{length-words, no-more, none-left-out}
 
-entries-words : (left : List Accepted) (rest : List ℕ) → entriesFrom (length left) (wordsOf left ++ rest) ≡ left
-unfolding entriesFrom wordsOf
+entries-words : (left : List Accepted) (rest : List ℕ) → entriesFrom (length left) (entryWords left ++ rest) ≡ left
+unfolding entriesFrom entryWords
 entries-words [] rest = refl
 entries-words (x ∷ later) rest = ap (λ (l : List Accepted). x ∷ l) (entries-words later rest)
 
 -- a memory with entries written over it shows these
 record-over : (left : List Accepted) (memory : List ℕ) → length left ≤ capacity memory → 2 * length left < length memory
-    → recordIn (over (length left ∷ wordsOf left) memory) ≡ left
+    → recordIn (over (length left ∷ entryWords left) memory) ≡ left
 unfolding recordIn over
 record-over left memory few fits =
-    let rest = drop (suc (length (wordsOf left))) memory in
-    let after = length left ∷ (wordsOf left ++ rest) in
+    let rest = drop (suc (length (entryWords left))) memory in
+    let after = length left ∷ (entryWords left ++ rest) in
     let same : length after ≡ length memory =
-    omega (arith, length-append (wordsOf left) rest, length-drop (suc (length (wordsOf left))) memory, length-words left) in
+    omega (arith, length-append (entryWords left) rest, length-drop (suc (length (entryWords left))) memory, length-words left) in
     let room : capacity after ≡ capacity memory = ap (λ (n : ℕ). min ((n - 1) / 2) 64) same in
     let all : min (length left) (capacity after) ≡ length left = omega (arith, room) in
-    ap (λ (n : ℕ). entriesFrom n (wordsOf left ++ rest)) all ∙ entries-words left rest
+    ap (λ (n : ℕ). entriesFrom n (entryWords left ++ rest)) all ∙ entries-words left rest
 
 pub record-without : (source : ℕ) (memory : List ℕ) → recordIn (memoryWithout source memory) ≡ withoutSource source (recordIn memory)
 unfolding memoryWithout
@@ -37,7 +37,7 @@ record-without source memory = go (isHeld source (recordIn memory)) refl
   where
     go : (held : Bool) → isHeld source (recordIn memory) ≡ held
         → let left = withoutSource source (recordIn memory) in
-        recordIn (cond held (over (length left ∷ wordsOf left) memory) memory) ≡ left
+        recordIn (cond held (over (length left ∷ entryWords left) memory) memory) ≡ left
     go true e =
         let left = withoutSource source (recordIn memory) in
         let counted = length-record memory in

@@ -9,16 +9,16 @@ use lib.ListN.{length, getD, take, drop, set, length-append, length-take, length
 use lib.Seq.{take-suc, drop-cons, take-all, set-at, getD-append-add, getD-drop}
 use borrow.Author.Tests.{eq-eqb, ne-eqb, le-ltb, lt-ltb}
 use Rattle.octets.specs.Octets.{at, over}
-use Rattle.sources.specs.Sources.{Accepted, recordIn, placeOf, isHeld, withoutSource, wordsOf, memoryWithout}
+use Rattle.sources.specs.Sources.{Accepted, recordIn, placeOf, isHeld, withoutSource, entryWords, memoryWithout}
 use Rattle.sources.proofs.Laws.{none, length-record, entry-at}
 
-pub length-words : (held : List Accepted) → length (wordsOf held) ≡ 2 * length held
-unfolding wordsOf
+pub length-words : (held : List Accepted) → length (entryWords held) ≡ 2 * length held
+unfolding entryWords
 length-words [] = refl
 length-words (x ∷ later) = omega (arith, length-words later)
 
-words-append : (held more : List Accepted) → wordsOf (held ++ more) ≡ wordsOf held ++ wordsOf more
-unfolding wordsOf
+words-append : (held more : List Accepted) → entryWords (held ++ more) ≡ entryWords held ++ entryWords more
+unfolding entryWords
 words-append [] more = refl
 words-append (x ∷ later) more = ap (λ (l : List ℕ). x .source ∷ x .number ∷ l) (words-append later more)
 
@@ -50,19 +50,19 @@ without-one source x = refl
 
 -- the memory with entries at its start
 unfoldable pub laid : List Accepted → List ℕ → List ℕ
-laid kept memory = (at memory 0 ∷ wordsOf kept) ++ drop (2 * length kept + 1) memory
+laid kept memory = (at memory 0 ∷ entryWords kept) ++ drop (2 * length kept + 1) memory
 
-length-front : (kept : List Accepted) (first : ℕ) → length (first ∷ wordsOf kept) ≡ 2 * length kept + 1
+length-front : (kept : List Accepted) (first : ℕ) → length (first ∷ entryWords kept) ≡ 2 * length kept + 1
 length-front kept first = omega (arith, length-words kept)
 
 pub length-laid : (kept : List Accepted) (memory : List ℕ) → 2 * length kept < length memory → length (laid kept memory) ≡ length memory
 unfolding laid
 length-laid kept memory h =
-    length-append (at memory 0 ∷ wordsOf kept) (drop (2 * length kept + 1) memory)
+    length-append (at memory 0 ∷ entryWords kept) (drop (2 * length kept + 1) memory)
     ∙ omega (arith, length-front kept (at memory 0), length-drop (2 * length kept + 1) memory)
 
 pub laid-none : (memory : List ℕ) → 0 < length memory → memory ≡ laid [] memory
-unfolding laid wordsOf
+unfolding laid entryWords
 laid-none [] h = absurd (omega arith)
 laid-none (first ∷ words) h = refl
 
@@ -70,7 +70,7 @@ laid-none (first ∷ words) h = refl
 behind : (kept : List Accepted) (memory : List ℕ) (k : ℕ) → at (laid kept memory) (2 * length kept + 1 + k) ≡ at memory (2 * length kept + 1 + k)
 unfolding laid
 behind kept memory k =
-    let front = at memory 0 ∷ wordsOf kept in
+    let front = at memory 0 ∷ entryWords kept in
     let rest = drop (2 * length kept + 1) memory in
     ap (λ (n : ℕ). at (front ++ rest) (n + k)) (sym (length-front kept (at memory 0)))
     ∙ getD-append-add front rest k 0 ∙ getD-drop (2 * length kept + 1) memory k 0
@@ -83,10 +83,10 @@ laid-behind kept memory place k h l =
 -- an entry more
 laid-more : (kept : List Accepted) (memory : List ℕ) (x : Accepted) → 2 * length kept + 2 < length memory
     → set (set (laid kept memory) (2 * length kept + 1) (x .source)) (2 * length kept + 2) (x .number) ≡ laid (kept ++ (x ∷ [])) memory
-unfolding laid wordsOf
+unfolding laid entryWords
 laid-more kept memory x h =
     let n = 2 * length kept + 1 in
-    let front = at memory 0 ∷ wordsOf kept in
+    let front = at memory 0 ∷ entryWords kept in
     let rest = drop (suc (suc n)) memory in
     let one : drop n memory ≡ at memory n ∷ at memory (suc n) ∷ rest =
     drop-cons memory n 0 (omega arith) ∙ ap (λ (l : List ℕ). at memory n ∷ l) (drop-cons memory (suc n) 0 (omega arith)) in
@@ -199,10 +199,10 @@ module _ (source place : ℕ) (memory : List ℕ) where
   kept-all kept end is =
       let left = withoutSource source (recordIn memory) in
       let e : before ≡ left = ap (withoutSource source) (take-all place (recordIn memory) end) in
-      let size : 2 * length left + 1 ≡ suc (length (wordsOf left)) = omega (arith, length-words left) in
+      let size : 2 * length left + 1 ≡ suc (length (entryWords left)) = omega (arith, length-words left) in
       rw is
       (ap₂ (λ (l : List ℕ) (n : ℕ). set l 0 n) (kept .is ∙ ap (λ (k : List Accepted). laid k memory) e) (kept .counted ∙ ap length e)
-      ∙ ap (λ (k : ℕ). (length left ∷ wordsOf left) ++ drop k memory) size)
+      ∙ ap (λ (k : ℕ). (length left ∷ entryWords left) ++ drop k memory) size)
 
 -- an entry passed over, and one stored
 module _ (address source kept : ℕ) (memory stored : List ℕ) where

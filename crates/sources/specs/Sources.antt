@@ -69,12 +69,12 @@ unfoldable pub withoutSource : ℕ → List Accepted → List Accepted
 withoutSource source [] = []
 withoutSource source (entry ∷ later) = cond (eqb (entry .source) source) (withoutSource source later) (entry ∷ withoutSource source later)
 
-unfoldable pub wordsOf : List Accepted → List ℕ
-wordsOf [] = []
-wordsOf (entry ∷ later) = entry .source ∷ entry .number ∷ wordsOf later
+unfoldable pub entryWords : List Accepted → List ℕ
+entryWords [] = []
+entryWords (entry ∷ later) = entry .source ∷ entry .number ∷ entryWords later
 
 -- its memory, where the source is held: how many are left and their words; every word behind them stays
 unfoldable pub memoryWithout : ℕ → List ℕ → List ℕ
 memoryWithout source memory =
     let left = withoutSource source (recordIn memory) in
-    cond (isHeld source (recordIn memory)) (over (length left ∷ wordsOf left) memory) memory
+    cond (isHeld source (recordIn memory)) (over (length left ∷ entryWords left) memory) memory

@@ -1,8 +1,13 @@
 -- W-206 from its parts.
+use Prim.Native.Nat.{ℕ, _+_, _≤_, _<_}
 use native.Mathlib.Omega.{arith}
-use mathlib.Core.List.{[], _∷_, _++_, flatten}
+use mathlib.Core.Bool.{Bool, true, false}
+use mathlib.Core.List.{List, [], _∷_, _++_, flatten}
+use mathlib.Core.Logic.{_⊎_, inl, inr}
 use mathlib.Core.Path.{_≡_, refl, ap}
-use lib.ListN.{replicate}
+use lib.Dec.{ltb, leb}
+use lib.ListN.{length, replicate}
+use borrow.Author.Tests.{ltb-true, ltb-false, leb-true, leb-false}
 use Rattle.octets.specs.Numbers.{_gives_, _orElse_}
 use Rattle.octets.specs.Octets.{over}
 use Rattle.pdu.specs.Header.{headerOf}
@@ -57,6 +62,30 @@ module _ where
   unfolding heldIn pdusIn readOf headerOf
   held-by-hand = refl
 
+-- 60 in memory for 2,048 bytes
+module _ (pdu memory : List ℕ) (one : exactlyOne pdu ≡ true) (long : 2052 ≤ length memory) where
+  abbrev bytes : ℕ
+  bytes = length (flatten (heldIn memory)) + length pdu
+
+  abbrev Full : Type 0
+  Full = (32 ≤ length (heldIn memory)) ⊎ (2048 < bytes)
+
+  sixty-only : addNumber pdu memory ≡ 60 → Full
+  sixty-only given = go (leb 32 (length (heldIn memory))) refl (ltb 2048 bytes) refl
+    where
+      go : (many : Bool) → leb 32 (length (heldIn memory)) ≡ many → (over-full : Bool) → ltb 2048 bytes ≡ over-full → Full
+      go true m over-full o = inl (leb-true 32 (length (heldIn memory)) m)
+      go false m true o = inr (ltb-true 2048 bytes o)
+      go false m false o =
+          let few = leb-false 32 (length (heldIn memory)) m in
+          let short = ltb-false 2048 bytes o in
+          let none : addNumber pdu memory ≡ 0 = added-held pdu memory one few (omega arith) .0 in
+          absurd (omega arith)
+
+  sixty-there : Full → addNumber pdu memory ≡ 60
+  sixty-there (inl many) = full pdu memory one (full-pdus pdu memory many) .0
+  sixty-there (inr much) = full pdu memory one (full-bytes pdu memory (omega arith)) .0
+
 pub transmit-queue : TransmitQueue
 unfolding batchOf
 transmit-queue =
@@ -69,6 +98,7 @@ transmit-queue =
       full-of-pdus = λ pdu memory one h. full pdu memory one (full-pdus pdu memory h);
       full-of-bytes = λ pdu memory one h. full pdu memory one (full-bytes pdu memory h);
       added = added-held;
+      sixty-exactly = λ pdu memory one long. (sixty-only pdu memory one long, sixty-there pdu memory one long);
       none-held = none-held;
       too-long = oldest-too-long;
       taken = oldest-fits;

@@ -3,6 +3,7 @@
 use Prim.Native.Nat.{ℕ, _+_, _≤_, _<_}
 use mathlib.Core.Bool.{true, false}
 use mathlib.Core.List.{List, [], _∷_, _++_, flatten}
+use mathlib.Core.Logic.{_⊎_}
 use mathlib.Core.Path.{_≡_}
 use lib.ListN.{length, getD, take, drop, replicate}
 use Rattle.octets.specs.Octets.{wordAt}
@@ -59,6 +60,10 @@ pub record TransmitQueue : Type 0 where
   pub added : (pdu memory : List ℕ) → exactlyOne pdu ≡ true → length (heldIn memory) < 32
       → length (flatten (heldIn memory)) + length pdu ≤ capacity memory
       → (addNumber pdu memory ≡ 0) × (heldIn (memoryAfterAdd pdu memory) ≡ heldIn memory ++ pdu ∷ [])
+  -- so in memory for 2,048 bytes, in 02's words: 60 exactly if 32 are held or the bytes held and the new ones exceed 2,048
+  pub sixty-exactly : (pdu memory : List ℕ) → exactlyOne pdu ≡ true → 2052 ≤ length memory
+      → let full = (32 ≤ length (heldIn memory)) ⊎ (2048 < length (flatten (heldIn memory)) + length pdu) in
+      (addNumber pdu memory ≡ 60 → full) × (full → addNumber pdu memory ≡ 60)
   -- taking with none held: 0, and nothing changes, whatever the room
   pub none-held : (memory output : List ℕ) → heldIn memory ≡ []
       → (batchOf (length output) (heldIn memory) ≡ batch 0 0 0)

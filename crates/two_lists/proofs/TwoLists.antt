@@ -86,7 +86,12 @@ two-lists =
       job-lists = λ bytes job. refl;
       job-choices = λ bytes job.
           let flag : ℕ → Bool = λ bit. eqb (job .flags / bit % 2) 1 in (
-            first-if (flag 4), first-if (flag 8), first-if (flag 16), first-if (flag 32), refl, refl,
+            first-if (flag 4),
+            first-if (flag 8),
+            first-if (flag 16),
+            first-if (flag 32),
+            refl,
+            refl,
           );
       choices = λ first second. (refl, refl, refl);
       stopping = λ list address. (refl, refl, refl, refl);
