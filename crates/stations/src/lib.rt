@@ -1,8 +1,8 @@
 // The stations that a box has heard: a table in memory that the caller lends, asked by address and by place.
 ghost use mathlib.Core.Path.{_≡_};
-ghost use mathlib.Core.Bool.{false};
+ghost use mathlib.Core.Bool.{false, cond};
 ghost use mathlib.Core.List.{[]};
-ghost use Prim.Native.Nat.{_+_, _-_, _*_, _<_, _≤_};
+ghost use Prim.Native.Nat.{_+_, _-_, _*_, _/_, _<_, _≤_};
 ghost use lib.ListN.{length, drop};
 ghost use Rattle.stations.specs.Table.{capacity, tableIn, stationFrom, addresses, nextPlace, placeOf, isAt};
 ghost use Rattle.stations.specs.Asking.{sought, foundIf, stationOf, foundAt};
@@ -84,19 +84,53 @@ fn next_place(table: &[u16], address: u16, end: usize, place: usize, step: usize
     place
 }
 
+fn either(test: bool, first: usize, second: usize) -> usize
+    ensures { λ r. ⌜ r ≡ cond test first second ⌝ }
+{
+    if test { first } else { second }
+}
+
+// Two steps, the second half as long. Both addresses that the second may look at are read with the first's, so that it does not wait for the first.
+fn next_two(table: &[u16], address: u16, end: usize, place: usize, step: usize) -> usize
+    requires { ⌜ (end ≡ length (tableIn (now table))) × (end ≤ 128) × (4 * end ≤ length (now table) - 1)
+        × (place ≤ end) × (1 < step) × (step ≤ 64) ⌝ }
+    ensures { λ r. ⌜ (r ≡ nextPlace address (addresses (tableIn (now (table .entry))))
+        (nextPlace address (addresses (tableIn (now (table .entry)))) place step) (step / 2)) × (r ≤ end) ⌝ }
+{
+    let half = step / 2;
+    let near = place + half;
+    let middle = place + step;
+    let far = middle + half;
+    if far <= end {
+        let over_near = table[4 * near - 3] < address;
+        let over_middle = table[4 * middle - 3] < address;
+        let over_far = table[4 * far - 3] < address;
+        return either(
+            over_middle,
+            either(over_far, far, middle),
+            either(over_near, near, place),
+        );
+    }
+    let next = next_place(table, address, end, place, step);
+    next_place(table, address, end, next, half)
+}
+
 fn place_of(table: &[u16], address: u16) -> usize
     ensures { λ r. ⌜ r ≡ placeOf address (addresses (tableIn (now (table .entry)))) ⌝ }
 {
-    let end = held(table);
+    let end = held(&table[..]);
+    if next_place(&table[..], address, end, 0, 128) == 128 {
+        return 128;
+    }
     let mut place: usize = 0;
-    let mut step: usize = 128;
-    let mut left: usize = 8;
+    let mut step: usize = 64;
+    let mut left: usize = 3;
     while left > 0 {
-        place = next_place(table, address, end, place, step);
-        step /= 2;
+        place = next_two(&table[..], address, end, place, step);
+        step /= 4;
         left -= 1;
     }
-    place
+    next_place(&table[..], address, end, place, 1)
 }
 
 fn is_at(table: &[u16], address: u16, place: usize) -> bool
