@@ -153,31 +153,28 @@ module _ (block : List ℕ) where
     unfolding listAt
     list-length = rw (← is, long, gave) (simp (length-take, length-drop))
 
-    value-at : (i : ℕ) → start ≤ i → i < start + size → getD (listAt block k) (i - start) 0 ≡ getD block i 0
+    value-at : (i : ℕ) → i < size → getD (listAt block k) i 0 ≡ getD block (start + i) 0
     unfolding listAt
-    value-at i from to =
-        let below : i - start < at block k = omega (arith, long, gave) in
-        let place : start + (i - start) ≡ i = omega arith in
-        rw (← is, getD-take (at block k) (drop start block) (i - start) 0 below, getD-drop start block (i - start) 0, place)
+    value-at i to =
+        let below : i < at block k = omega (arith, long, gave) in
+        rw (← is, getD-take (at block k) (drop start block) i 0 below, getD-drop start block i 0)
 
-    pub block-right : (i j : ℕ) → start ≤ i → i + 1 < start + size → j ≡ i + 2 → getD block i 0 ≤ getD block (i + 1) 0
-        → rangeFaultFrom (listAt block k) (i - start) ≡ rangeFaultFrom (listAt block k) (j - start)
-    block-right i j from to e h =
-        let next : (i + 1) - start ≡ (i - start) + 1 = omega arith in
-        let low = value-at i from (omega arith) in
-        let high : getD (listAt block k) ((i - start) + 1) 0 ≡ getD block (i + 1) 0 = rw (← next) (value-at (i + 1) (omega arith) to) in
-        range-right (listAt block k) (i - start) (j - start) (omega (arith, list-length)) (omega arith) (omega (arith, low, high, h))
+    module _ (i : ℕ) (inside : 2 * i + 1 < size) where
+      low-at : getD (listAt block k) (2 * i) 0 ≡ getD block (start + 2 * i) 0
+      low-at = value-at (2 * i) (omega arith)
 
-    pub block-wrong : (i : ℕ) → start ≤ i → i + 1 < start + size → getD block (i + 1) 0 < getD block i 0
-        → rangeFaultFrom (listAt block k) (i - start) ≡ 20
-    block-wrong i from to h =
-        let next : (i + 1) - start ≡ (i - start) + 1 = omega arith in
-        let low = value-at i from (omega arith) in
-        let high : getD (listAt block k) ((i - start) + 1) 0 ≡ getD block (i + 1) 0 = rw (← next) (value-at (i + 1) (omega arith) to) in
-        range-wrong (listAt block k) (i - start) (omega (arith, list-length)) (omega (arith, low, high, h))
+      high-at : getD (listAt block k) (2 * i + 1) 0 ≡ getD block (start + 2 * i + 1) 0
+      high-at =
+          let next : start + (2 * i + 1) ≡ start + 2 * i + 1 = omega arith in
+          rw (← next) (value-at (2 * i + 1) inside)
 
-    pub block-start : rangeFaultFrom (listAt block k) 0 ≡ rangeFaultFrom (listAt block k) (start - start)
-    block-start = let none : start - start ≡ 0 = omega arith in rw none
+      pub block-right : getD block (start + 2 * i) 0 ≤ getD block (start + 2 * i + 1) 0
+          → rangeFaultFrom (listAt block k) (2 * i) ≡ rangeFaultFrom (listAt block k) (2 * (i + 1))
+      block-right h =
+          range-right (listAt block k) (2 * i) (2 * (i + 1)) (omega (arith, list-length)) (omega arith) (omega (arith, low-at, high-at, h))
+
+      pub block-wrong : getD block (start + 2 * i + 1) 0 < getD block (start + 2 * i) 0 → rangeFaultFrom (listAt block k) (2 * i) ≡ 20
+      block-wrong h = range-wrong (listAt block k) (2 * i) (omega (arith, list-length)) (omega (arith, low-at, high-at, h))
 
   pub nothing-left : (k start : ℕ) → k ≤ 8 → start ≡ startOf block k → length block ≤ start
       → toldFrom (inOrder (listsIn block)) k ≡ record { number = 0; list = 8 }

@@ -73,14 +73,12 @@ pub fn fault(block: &[u16]) -> ListFault
             fault = ListFault { number: 21, list };
             break 'lists;
         }
-        let end = start + length;
-        let mut i = start;
-        while i < end {
-            if block[i] > block[i + 1] {
+        let ranges = length / 2;
+        for i in 0..ranges {
+            if block[start + 2 * i] > block[start + 2 * i + 1] {
                 fault = ListFault { number: 20, list };
                 break 'lists;
             }
-            i += 2;
         }
         start += given;
     }
@@ -118,8 +116,9 @@ fn nth(block: &[u16], i: usize) -> &[u16]
 pub fn holds(list: &[u16], address: u16) -> bool
     ensures { λ r. ⌜ r ≡ holds (now (list .entry)) address ⌝ }
 {
+    let end = list.len() / 2 * 2;
     let mut i: usize = 0;
-    while i + 1 < list.len() {
+    while i < end {
         if list[i] <= address && address <= list[i + 1] {
             return true;
         }

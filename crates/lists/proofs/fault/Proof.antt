@@ -1,22 +1,21 @@
-use Prim.Native.Nat.{_+_, _*_, _≤_, _-_, _%_}
+use Prim.Native.Nat.{_+_, _*_, _≤_, _-_}
 use mathlib.Core.Path.{_≡_, refl, _∙_, sym, ap₂}
 use denote.Ref.{now}
 use Rattle.lists.specs.Lists.{faultOf, inOrder, faultTold, listsIn, listAt, startOf}
 use Rattle.lists.proofs.Laws.{rangeFaultFrom, toldFrom, too-long, odd-number, only-ranges, ranges-end}
 use Rattle.lists.proofs.Laws.{lists-start, list-right, list-wrong, lists-end, nth-list, nothing-left}
-use Rattle.lists.proofs.Laws.{first-start, start-next, list-length, block-right, block-wrong, block-start}
+use Rattle.lists.proofs.Laws.{first-start, start-next, list-length, block-right, block-wrong}
 use native.Mathlib.Omega.{arith}
 use borrow.Author.Needs.{needs}
 use Rattle.lists.proofs.fault.Statement.{statement}
 use Rattle.lists.proofs.fault.Tie as tie
 
 abbrev Inv-loop : tie.InvT-loop
-Inv-loop block size fault₀ start k list given length end i₀ fault i =
-    (start ≤ i) × (i ≤ end) × ((i - start) % 2 ≡ 0) × (fault ≡ record { number = 0; list = 8 })
-    × (faultOf (listAt block k) ≡ rangeFaultFrom (listAt block k) (i - start))
+Inv-loop block size fault₀ start k list given length ranges i₀ fault i =
+    (i ≤ ranges) × (fault ≡ record { number = 0; list = 8 }) × (faultOf (listAt block k) ≡ rangeFaultFrom (listAt block k) (2 * i))
 
 abbrev μ-loop : tie.MeasureT-loop
-μ-loop block size fault₀ start k list given length end i₀ fault i = end - i
+μ-loop block size fault₀ start k list given length ranges i₀ fault i = ranges - i
 
 abbrev Inv-lists : tie.InvT-lists
 Inv-lists block size fault₀ start₀ k₀ fault start k =
@@ -48,9 +47,6 @@ sub-lesser c = search needs
 lesser-requires : tie.Need-lesser-requires Inv-loop μ-loop Inv-lists μ-lists
 lesser-requires c κs = search needs
 
-add-end : tie.Need-add-end Inv-loop μ-loop Inv-lists μ-lists
-add-end c = search needs
-
 loop-holds : tie.Need-loop-holds Inv-loop μ-loop Inv-lists μ-lists
 loop-holds c =
     let l = c .before .before in
@@ -61,24 +57,33 @@ loop-holds c =
     let list = listAt block k in
     let long = list-length block k (s .lists .start) _ _ (s .lists .inv .2) (w .word-value .ensures .0) (l .lesser .ensures) in (
       omega arith,
-      omega arith,
-      omega arith,
       s .lists .inv .1,
-      only-ranges list (omega (arith, long)) (λ e. omega (arith, long))
-          ∙ block-start block k (s .lists .start) _ _ (s .lists .inv .2) (w .word-value .ensures .0) (l .lesser .ensures),
+      only-ranges list (omega (arith, long)) (λ e. omega (arith, long)),
     )
 
 mul-if4 : tie.Need-mul-if4 Inv-loop μ-loop Inv-lists μ-lists
 mul-if4 c = search needs
-
-shared-slice-read-if4 : tie.Need-shared-slice-read-if4 Inv-loop μ-loop Inv-lists μ-lists
-shared-slice-read-if4 c = search needs
 
 add-if4 : tie.Need-add-if4 Inv-loop μ-loop Inv-lists μ-lists
 add-if4 c = search needs
 
 mul-if4-2 : tie.Need-mul-if4-2 Inv-loop μ-loop Inv-lists μ-lists
 mul-if4-2 c = search needs
+
+shared-slice-read-if4 : tie.Need-shared-slice-read-if4 Inv-loop μ-loop Inv-lists μ-lists
+shared-slice-read-if4 c = search needs
+
+mul-if4-3 : tie.Need-mul-if4-3 Inv-loop μ-loop Inv-lists μ-lists
+mul-if4-3 c = search needs
+
+add-if4-2 : tie.Need-add-if4-2 Inv-loop μ-loop Inv-lists μ-lists
+add-if4-2 c = search needs
+
+add-if4-3 : tie.Need-add-if4-3 Inv-loop μ-loop Inv-lists μ-lists
+add-if4-3 c = search needs
+
+mul-if4-4 : tie.Need-mul-if4-4 Inv-loop μ-loop Inv-lists μ-lists
+mul-if4-4 c = search needs
 
 shared-slice-read-if4-2 : tie.Need-shared-slice-read-if4-2 Inv-loop μ-loop Inv-lists μ-lists
 shared-slice-read-if4-2 c = search needs
@@ -99,12 +104,9 @@ loop-again c =
     let list = listAt block k in
     let long = list-length block k (s .lists .start) _ _ (s .lists .inv .2) (w .word-value .ensures .0) (l .lesser .ensures) in (
       omega arith,
-      omega arith,
-      omega arith,
-      c .before .before .before .before .loop .inv .3,
-      c .before .before .before .before .loop .inv .4
-          ∙ block-right block k (s .lists .start) _ _ (s .lists .inv .2) (w .word-value .ensures .0) (l .lesser .ensures) _ _ (omega arith) (omega arith)
-          (omega arith) (omega arith),
+      c .before .before .before .before .loop .inv .1,
+      c .before .before .before .before .loop .inv .2
+          ∙ block-right block k (s .lists .start) _ _ (s .lists .inv .2) (w .word-value .ensures .0) (l .lesser .ensures) _ (omega arith) (omega arith),
     )
 
 add-start : tie.Need-add-start Inv-loop μ-loop Inv-lists μ-lists
@@ -126,12 +128,12 @@ lists-again c =
     let list = listAt block k in
     let long = list-length block k (s .lists .start) _ _ (s .lists .inv .2) (w .word-value .ensures .0) (l .lesser .ensures) in (
       omega arith,
-      c .before .loop .inv .3,
+      c .before .loop .inv .1,
       ap₂ _+_ (s .lists .inv .2) (w .word-value .ensures .0) ∙ sym (start-next _ _),
       omega (arith, w .word-value .ensures .1),
       s .lists .inv .4
           ∙ list-right _ k list (omega arith) (sym (nth-list block k (omega arith)))
-          (c .before .loop .inv .4 ∙ ranges-end list _ (omega (arith, long))),
+          (c .before .loop .inv .2 ∙ ranges-end list _ (omega (arith, long))),
       omega arith,
     )
 
@@ -177,8 +179,8 @@ returns-5 c =
     let long = list-length block k (s .lists .start) _ _ (s .lists .inv .2) (w .word-value .ensures .0) (l .lesser .ensures) in
     sym (s .lists .inv .4
     ∙ list-wrong _ k 20 list (omega arith) (sym (nth-list block k (omega arith)))
-    (c .before .before .before .before .loop .inv .4
-    ∙ block-wrong block k (s .lists .start) _ _ (s .lists .inv .2) (w .word-value .ensures .0) (l .lesser .ensures) _ (omega arith) (omega arith)
+    (c .before .before .before .before .loop .inv .2
+    ∙ block-wrong block k (s .lists .start) _ _ (s .lists .inv .2) (w .word-value .ensures .0) (l .lesser .ensures) _ (omega arith)
     (omega arith)) (omega arith))
 
 pub fault-spec : {M : Type 1} → statement M
@@ -196,12 +198,15 @@ fault-spec =
     word-value-requires
     sub-lesser
     lesser-requires
-    add-end
     loop-holds
     mul-if4
-    shared-slice-read-if4
     add-if4
     mul-if4-2
+    shared-slice-read-if4
+    mul-if4-3
+    add-if4-2
+    add-if4-3
+    mul-if4-4
     shared-slice-read-if4-2
     add-i
     loop-less
