@@ -288,7 +288,7 @@ MantWritten mant_originate(MantFresh settings, const uint8_t *payload, size_t pa
  *     eight empty lists. The calls that hear check all eight lists each time, whatever is chosen. Only laying changes a block.
  * Numbers: for delivery and repeating alike 17, 20 to 22, 1 to 6, 30, 42, 31 to 34 and 40; for delivery alone 35 and 39; for repeating alone 36 to 38 and
  *     41; for a batch above the size limit 54.
- * Stack: mant_change_over 8, mant_list_holds 8, mant_list_fault 8, mant_lay_lists 168, mant_hear 272, mant_step 336.
+ * Stack: mant_change_over 8, mant_list_holds 8, mant_list_fault 64, mant_lay_lists 168, mant_hear 288, mant_step 336.
  */
 
 /* Values in a list, words in a block that lists are laid into, bytes in a batch. */
@@ -507,7 +507,7 @@ MantStep mant_step(MantNode node, const uint16_t *lists, size_t lists_length, co
  *     there may not be found.
  * Numbers: 55, 56.
  * Stack: mant_stations_capacity 8, mant_stations_held 8, mant_station_at 8, mant_station_of 56, mant_remove_station 56, mant_count_heard 104,
- *     mant_count_answer 104, mant_hear_and_count 352.
+ *     mant_count_answer 104, mant_hear_and_count 368.
  */
 
 #define MANT_STATION_LIMIT 128
