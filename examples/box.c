@@ -126,7 +126,8 @@ static size_t hear(const uint8_t *pdu, size_t length)
         enqueue("repeat", output, answer.repeated_length);
     }
     if (done("delivery", answer.delivery) && deliver(pdu, answer)) {
-        MantOutcome outcome = mant_acknowledge(alarms, MANT_RECORDS, last_time, pdu, answer.taken, answer, sending, output, sizeof output);
+        MantOutcome outcome = mant_acknowledge(alarms, MANT_RECORDS, last_time, node.own, pdu, answer.taken, answer, sending, output,
+                                               sizeof output);
         if (note(outcome) && outcome.deed == MANT_DEED_ACKNOWLEDGED) {
             enqueue("acknowledgement", output, outcome.length);
         }

@@ -59,19 +59,19 @@ static size_t step(uint64_t time, uint8_t *output)
 /* A site hears a PDU; gives the bytes of the acknowledgement to be sent, if any. A gate would act on what is delivered to it. */
 static size_t hear(const char *name, Site *site, const uint8_t *pdu, size_t length, uint8_t *output)
 {
-    MantAnswer answer = mant_hear(site->node, NULL, 0, pdu, length, NULL, 0);
-    MantOutcome outcome = mant_acknowledge(site->table, MANT_RECORDS, site->last, pdu, length, answer, sending, output, MANT_RETAINED_LIMIT);
+    MantHeardReliably heard = mant_hear_reliably(site->node, NULL, 0, site->table, MANT_RECORDS, site->last, pdu, length, sending, output,
+                                                 MANT_RETAINED_LIMIT);
 
-    printf("%s, payload bytes delivered: %zu\n", name, answer.delivered_length);
-    print_outcome("its table", outcome);
-    return outcome.length;
+    printf("%s, payload bytes delivered: %zu\n", name, heard.answer.delivered_length);
+    print_outcome("its table", heard.outcome);
+    return heard.outcome.length;
 }
 
 int main(void)
 {
     uint8_t command[MANT_RETAINED_LIMIT], acknowledgement[MANT_RETAINED_LIMIT], none[MANT_RETAINED_LIMIT];
 
-    base.node.repeating = gate.node.repeating = false; /* so mant_hear needs no output */
+    base.node.repeating = gate.node.repeating = false;
     give(7, 100, command); /* sent, and lost on its way */
     step(129, command);
     size_t length = step(130, command);

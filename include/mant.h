@@ -75,7 +75,7 @@
 extern "C" {
 #endif
 
-/* Those that begin with JOB are given by the program relay only, and RESERVED_ABOVE_3 by no call declared here. */
+/* Those that begin with JOB are given by the program relay only. */
 enum MantNumber {
     MANT_DONE = 0,                          /* done */
     MANT_TOO_SHORT = 1,                     /* too short: every PDU has 6 bytes or more */
@@ -89,7 +89,6 @@ enum MantNumber {
     MANT_PAYLOAD_TOO_LONG = 12,             /* the payload has more than 4,095 bytes */
     MANT_RELIABLE_WITHOUT_DESTINATION = 13, /* reliable service needs a destination */
     MANT_OUTPUT_TOO_SHORT = 14,             /* the output has no room for the PDU, or for its exchange */
-    MANT_RESERVED_ABOVE_3 = 15,             /* reserved bits above 3: a number of this library's own, for a header put together by hand */
     MANT_NO_ENCRYPTED_FLAG = 16,            /* encryption is asked for, and edition 1.1 has no encrypted flag */
     MANT_UNKNOWN_EDITION = 17,              /* the edition is neither 11, which is 1.1, nor 12, which is 1.2 */
     MANT_LOW_ABOVE_HIGH = 20,               /* a list has a range whose low is above its high */
@@ -234,7 +233,7 @@ MantWritten mant_write_again(uint64_t edition, const uint8_t *bytes, size_t byte
  * A fresh PDU, as a gauge or a base sends it: from settings and a payload.
  * Memory: none.
  * Numbers: 17, 10 to 13, 16, 14.
- * Stack: mant_originate 72.
+ * Stack: mant_originate 80.
  */
 
 /* What is asked of a fresh PDU. Edition, hop limit and port are wider than they need be, so that 263 arrives as 263 and is refused. An edition that
@@ -288,7 +287,7 @@ MantWritten mant_originate(MantFresh settings, const uint8_t *payload, size_t pa
  *     eight empty lists. The calls that hear check all eight lists each time, whatever is chosen. Only laying changes a block.
  * Numbers: for delivery and repeating alike 17, 20 to 22, 1 to 6, 30, 42, 31 to 34 and 40; for delivery alone 35 and 39; for repeating alone 36 to 38 and
  *     41; for a batch above the size limit 54.
- * Stack: mant_change_over 8, mant_list_holds 8, mant_list_fault 64, mant_lay_lists 168, mant_hear 288, mant_step 336.
+ * Stack: mant_change_over 8, mant_list_holds 8, mant_list_fault 64, mant_lay_lists 168, mant_hear 288, mant_step 352.
  */
 
 /* Values in a list, words in a block that lists are laid into, bytes in a batch. */
@@ -660,19 +659,39 @@ void mant_queue_clear(uint8_t *queue, size_t queue_length);
 
 /* ---- The serial exchange ----
  *
- * What a decoder and an encoder that are two devices send each other (document 02, W-202; document 003, section 3, for the elements): one
- * element of type 20 that is all of the bytes, and in it an element of type 1024, the PDU's header, and one of type 1025, its payload, one of each, in
- * either order; elements of other types may stand there too. A type or a length below 128 is one byte, or two that say the same; from 128 on it is two,
- * with 128 added to the first of them. Elements of types 10, 11 and 20 hold elements, four levels down at most, of which the exchange is the first. What
- * frames it on the line is the driver's.
+ * What a decoder and an encoder that are two devices send each other (document 02, W-202; document 003, section 3, for the elements). An exchange is one
+ * element of type 20 that is all of the bytes. It holds one element of type 1024, the PDU's header, and one of type 1025, its payload, in either order.
+ * Elements of other types may stand beside them. A type or a length below 128 is one byte, or two that say the same. From 128 on it is two, with 128 added to
+ * the first of them. Elements of types 10, 11 and 20 hold elements, four levels down at most, of which the exchange is the first.
+ * What frames it on the line is the driver's. That is the prefix and the total length, and also the elements that a decoder sends before the one of type 20:
+ * a version, an address and an agency (document 003, section 10.1). With these in front the bytes are no exchange, and mant_read_exchange returns 59. A
+ * driver finds the element of type 20 with mant_element_at and reads that element alone, as the example does.
  * Memory: none.
- * Numbers: in reading 57 to 59, 1 to 6 and 63; in writing 1 to 6 and 14.
- * Stack: mant_read_exchange 496, mant_write_exchange 168.
+ * Numbers: in reading 57 to 59, 1 to 6 and 63; in writing 1 to 6 and 14; in mant_element_at 57.
+ * Stack: mant_element_at 8, mant_read_exchange 496, mant_write_exchange 168.
  */
 
 /* The most bytes that mant_write_exchange writes. An exchange that is read may be longer, since other elements may stand beside the PDU's two: it has up to
    32,771 bytes. */
 #define MANT_EXCHANGE_LIMIT 4626
+
+/* The type of the element that is an exchange. */
+#define MANT_EXCHANGE_TYPE 20
+
+/* The element that begins at a place of a run. Places count from the first byte of the run. With number 57 every field after it is 0. */
+typedef struct MantElement {
+    uint8_t number;           /* 0, or 57 */
+    uint16_t type_number;
+    size_t value_place;       /* with an empty value, where it would begin; that may be the end of the run */
+    size_t value_length;
+    size_t end;               /* where the next element begins, or the run ends */
+} MantElement;
+MANT_SIZE(MantElement, 32);
+
+/* The element that begins at a place of the run that the bytes are. The number is 57 if the element does not end within them, and also at the end of the run
+   and behind it, where none begins. Otherwise end is at least place + 2, so that a walk from 0, from end to end, stops. What the element holds is not looked
+   at. Its value is a run of its own if its type is 10, 11 or 20. */
+MantElement mant_element_at(const uint8_t *bytes, size_t bytes_length, size_t place);
 
 /* Where the parts of a PDU lie in an exchange that was read. Places count from its first byte. With a number other than 0 every field after it is 0. */
 typedef struct MantExchange {
@@ -695,33 +714,45 @@ MantExchange mant_read_exchange(const uint8_t *bytes, size_t bytes_length);
    at. */
 MantWritten mant_write_exchange(const uint8_t *bytes, size_t bytes_length, uint8_t *output, size_t output_length);
 
-/* Example: a PDU goes over the line and is put together again.
+/* Example: what a decoder sends behind prefix and total length in document 003, section 10.1. The driver finds the exchange among the elements. Its PDU is
+   put together and written again.
 
-       const uint8_t pdu[] = {0x02, 0x00, 0x10, 0x01, 0x03, 0xE8, 0x00, 0x2A};
-       uint8_t line[MANT_EXCHANGE_LIMIT], joined[MANT_PDU_LIMIT];
-       MantWritten written = mant_write_exchange(pdu, sizeof pdu, line, sizeof line);
-       assert(written.number == MANT_DONE && written.length == 16);
-       MantExchange parts = mant_read_exchange(line, written.length);
+       const uint8_t run[] = {0x75, 0x01, 0x01, 0x18, 0x02, 0x1F, 0x40, 0x77, 0x05, 0x53, 0x41, 0x43, 0x43, 0x4F, 0x14, 0x24, 0x84, 0x00,
+                              0x06, 0x00, 0x00, 0x70, 0x0D, 0x11, 0x33, 0x84, 0x01, 0x0D, 0xA4, 0x08, 0x3F, 0x03, 0xA3, 0x08, 0x3B, 0x03,
+                              0xA5, 0x28, 0x0A, 0x04, 0x99, 0x84, 0x02, 0x04, 0x4D, 0x1C, 0x4A, 0x10, 0x84, 0x03, 0x01, 0x31};
+       assert(mant_read_exchange(run, sizeof run).number == MANT_NOT_AN_EXCHANGE);
+       size_t place = 0;
+       MantElement found = mant_element_at(run, sizeof run, place);
+       while (found.number == MANT_DONE && found.type_number != MANT_EXCHANGE_TYPE) {
+           place = found.end;
+           found = mant_element_at(run, sizeof run, place);
+       }
+       assert(found.number == MANT_DONE && place == 14); // 57 instead where the run has none, or an element before it is cut
+       const uint8_t *exchange = run + place;
+       MantExchange parts = mant_read_exchange(exchange, found.end - place);
        assert(parts.number == MANT_DONE);
-       memcpy(joined, line + parts.header_place, parts.header_length);
-       memcpy(joined + parts.header_length, line + parts.payload_place, parts.payload_length);
-       assert(parts.header_length + parts.payload_length == sizeof pdu && memcmp(joined, pdu, sizeof pdu) == 0); */
+       uint8_t joined[MANT_PDU_LIMIT], line[MANT_EXCHANGE_LIMIT];
+       memcpy(joined, exchange + parts.header_place, parts.header_length);
+       memcpy(joined + parts.header_length, exchange + parts.payload_place, parts.payload_length);
+       MantWritten written = mant_write_exchange(joined, parts.header_length + parts.payload_length, line, sizeof line);
+       assert(written.number == MANT_DONE && written.length == 27); */
 
 /* ---- Reliable messages ----
  *
- * PDUs of protocol 1 that wait for their acknowledgement (document 02, W-210; document 000, section 3.3): retained when they are sent, sent again where it
- * is late, reported failed where it never comes, freed where it does. What such a PDU asks of the box that it was sent to is written here too. That box
- * acknowledges each copy that reaches it, and each is delivered to it: no call remembers what was delivered, so a command that must not be obeyed twice is
- * known to the box by its source and ID, or is sealed. Who sends therefore gives each command the next ID, and keeps the count over a restart: with an ID
- * used before it would be taken for a copy.
- * Memory: a table that the caller lends: MANT_RECORDS records, 4,480 bytes. Beside it the caller keeps the last accepted time, which each call answers and
- *     the next is given; 0 stands for no time accepted yet. Times are whole seconds of a clock that does not go back. If it was set back all the same (73), go
- *     on with 0 for the last time and set sent_at of each record to the time now: each is then late after a whole delay, and its count stays. A record is in
- *     use where its length is MANT_RETAINED_LIMIT at most and its PDU exactly one of protocol 1 with ACK clear and no path address; every other is free, one
- *     of all zeros too, so that the records may hold anything before the first call. The first is always the one at the lowest place. Where a call changes
- *     the table it changes one record; with a refusal none, nor the last time.
+ * PDUs of protocol 1 that wait for their acknowledgement (document 02, W-210; document 000, section 3.3). A PDU is retained when it is sent, and sent again
+ * if its acknowledgement is late. It is freed when that comes, and reported failed if it never does. What such a PDU asks of the box that it was sent to is
+ * written here too. That box acknowledges and delivers each copy that reaches it, since no call remembers what was delivered. If a command must not be obeyed
+ * twice, the box knows it by its source and ID, or it is sealed. So the sender gives each command the next ID, and keeps the count over a restart: with an ID
+ * used before, a command would be taken for a copy.
+ * Memory: a table that the caller lends: MANT_RECORDS records, 4,480 bytes. Beside it the caller keeps the last accepted time, which each call returns and
+ *     the next is given; 0 stands for no time accepted yet. Times are whole seconds of a clock that does not go back. If it was set back all the same (73),
+ *     go on with 0 for the last time, and set sent_at of each record to the time now. Each is then late after a whole delay, and its count stays. A record is
+ *     in use if its length is MANT_RETAINED_LIMIT at most and its PDU exactly one of protocol 1 with ACK clear and no path address. Every other is free, so a
+ *     table of zeros is free. Whatever the records hold, each call is defined. The first is always the one at the lowest place. A call changes one record at
+ *     most; with a refusal it changes none, nor the last time. With another number of records than MANT_RECORDS no record is read: sizeof table in place of
+ *     MANT_RECORDS is refused with 74.
  * Numbers: 10, 11, 70 to 75, 77.
- * Stack: mant_retain 672, mant_retry 688, mant_acknowledge 576.
+ * Stack: mant_retain 696, mant_retry 712, mant_hear_reliably 680, mant_acknowledge 632.
  */
 
 /* How many records a table of retained PDUs has, and how many bytes the longest PDU that it retains. */
@@ -775,28 +806,43 @@ typedef struct MantSending {
 } MantSending;
 MANT_SIZE(MantSending, 24);
 
-/* Retains a PDU that is sent at this time, in the first free record, with count 0; nothing is written. Answers 74 where there are not MANT_RECORDS
-   records, 73 where the time is earlier than the last accepted one, 75 where the bytes are not exactly one PDU of protocol 1 with ACK clear and no path
-   address, 72 where it has more than MANT_RETAINED_LIMIT bytes, 71 where one of the same source, destination and ID is retained, 70 where no record is
-   free, the first that applies. */
+/* Retains a PDU that is sent at this time, in the first free record, with count 0. Nothing is written. Refusals, the first that applies: 74 if there are not
+   MANT_RECORDS records. 73 if the time is earlier than the last accepted one. 75 if the bytes are not exactly one PDU of protocol 1 with ACK clear and no
+   path address. 72 if it has more than MANT_RETAINED_LIMIT bytes. 71 if one of the same source, destination and ID is retained. 70 if no record is free. */
 MantOutcome mant_retain(MantRetained *table, size_t records, uint64_t last, uint64_t time, const uint8_t *pdu, size_t pdu_length);
 
-/* One step: takes the first record in use whose time lies the delay or more before this time; one that lies after it is not taken. Where its PDU was
-   sent again as often as `tries` says, or more often, it is dropped and reported failed, and no room is asked for. Else its PDU is written to the output,
-   its time is set and its count one higher. Answers 74, 73, and then 77 where the PDU to be sent has no room in the output, also where a later one would
-   fit. Where none is due the time is accepted all the same. Go on at each moment while the deed is not 0: with room for MANT_RETAINED_LIMIT bytes
-   that ends after at most MANT_RECORDS steps, with delay 0 after at most MANT_RECORDS * (tries + 1). */
+/* One step: takes the first record in use whose time lies the delay or more before this time. One whose time lies after it is not taken. If its PDU was sent
+   again as often as `tries` says, or more often, it is dropped and reported failed, and no room is asked for. Otherwise its PDU is written to the output,
+   its time is set and its count one higher. Refusals: 74, 73, and then 77 if the PDU to be sent has no room in the output, also if a later one would fit. If
+   none is due, the time is accepted all the same. Go on at each moment while the deed is not 0. With room for MANT_RETAINED_LIMIT bytes that ends after at
+   most MANT_RECORDS steps, with delay 0 after at most MANT_RECORDS * (tries + 1). */
 MantOutcome mant_retry(MantRetained *table, size_t records, uint64_t last, uint64_t time, uint64_t delay, uint64_t tries, uint8_t *output,
                        size_t output_length);
 
-/* What the PDU at the start of the received bytes does once a node has answered for it, by mant_hear or a step. Where it was delivered (delivery number 0)
-   and has protocol 1: with ACK set it frees the first record with its ID and its addresses exchanged, or nothing where there is none; with ACK clear
-   its acknowledgement is written to the output. No other PDU does anything. Where an acknowledgement is due it answers 10 where the hop limit is above
-   7, 11 where the port is above 15; then, for any PDU, 74; then 77 where the acknowledgement, 9 bytes or with a path 10, has no room. What was delivered
-   stays delivered with each of them. It takes no time, and `last` comes back as it was. Hand on only what the node answered for these bytes: of another
-   answer what they hold counts, missing bytes as 0, and a MantAnswer of all zeros says delivered. */
-MantOutcome mant_acknowledge(MantRetained *table, size_t records, uint64_t last, const uint8_t *received, size_t received_length, MantAnswer answer,
-                             MantSending sending, uint8_t *output, size_t output_length);
+/* What mant_hear_reliably returns: the node's answer, and what was done with the table and in the output. */
+typedef struct MantHeardReliably {
+    MantAnswer answer;
+    MantOutcome outcome;
+} MantHeardReliably;
+MANT_SIZE(MantHeardReliably, 80);
+
+/* A node hears the PDU at the start of the received bytes, as by mant_hear, and the table with it. The answer is the one of mant_hear, whatever the table
+   holds, so a payload is delivered beside every outcome. A PDU of protocol 1 that the node delivers does more. With ACK set it frees the first record with
+   its ID and its addresses exchanged, or nothing if there is none. With ACK clear its acknowledgement is written to the output. No other PDU is acknowledged
+   or frees a record. The output has the repeated PDU (answer.repeated_length) or the acknowledgement (outcome.length), never both: a PDU that is
+   acknowledged is for this node, and is not repeated. If an acknowledgement is due, the outcome is 10 if the hop limit is above 7, then 11 if the port is
+   above 15. For any PDU it is then 74 if there are not MANT_RECORDS records. Last it is 77 if the acknowledgement, 9 bytes or with a path 10, has no room.
+   With each of them the table stays, and what the node repeats is still in the output. The call takes no time, and `last` comes back as it was. Over a
+   batch, call it with the bytes from each PDU to the batch's end. The next PDU begins answer.taken bytes on, and 0 ends the walk. */
+MantHeardReliably mant_hear_reliably(MantNode node, const uint16_t *lists, size_t lists_length, MantRetained *table, size_t records, uint64_t last,
+                                     const uint8_t *received, size_t received_length, MantSending sending, uint8_t *output, size_t output_length);
+
+/* The second half of mant_hear_reliably, for a PDU that another call heard (mant_hear_and_count, mant_step) with this answer, at the node with this own
+   address. It goes by the number for delivery in the answer and by the bytes. If they cannot be read, are for another address, or have the added header set,
+   it acknowledges and frees nothing, whatever the answer says. So no acknowledgement is ever written in another node's name. The bytes do not show what
+   lists and echo said: hand on only what the node answered for these bytes. */
+MantOutcome mant_acknowledge(MantRetained *table, size_t records, uint64_t last, uint16_t own, const uint8_t *received, size_t received_length,
+                             MantAnswer answer, MantSending sending, uint8_t *output, size_t output_length);
 
 /* Example: base 1000 commands gate 1600, is not answered for 30 seconds, sends again, and hears the acknowledgement.
 
@@ -812,26 +858,26 @@ MantOutcome mant_acknowledge(MantRetained *table, size_t records, uint64_t last,
        outcome = mant_retry(table, MANT_RECORDS, outcome.last, 130, 30, 2, sent, sizeof sent);
        assert(outcome.deed == MANT_DEED_SENT_AGAIN && outcome.length == length && outcome.last == 130);
        uint64_t last = outcome.last;
-       MantAnswer answer = mant_hear(gate, NULL, 0, sent, length, NULL, 0);
-       outcome = mant_acknowledge(at_gate, MANT_RECORDS, 0, sent, length, answer, sending, reply, sizeof reply);
-       assert(outcome.deed == MANT_DEED_ACKNOWLEDGED);
-       answer = mant_hear(base, NULL, 0, reply, outcome.length, NULL, 0);
-       outcome = mant_acknowledge(table, MANT_RECORDS, last, reply, outcome.length, answer, sending, sent, sizeof sent);
-       assert(outcome.deed == MANT_DEED_FREED && outcome.names.pdu_id == 7); */
+       MantHeardReliably heard = mant_hear_reliably(gate, NULL, 0, at_gate, MANT_RECORDS, 0, sent, length, sending, reply, sizeof reply);
+       assert(heard.answer.delivery == MANT_DONE && heard.outcome.deed == MANT_DEED_ACKNOWLEDGED);
+       heard = mant_hear_reliably(base, NULL, 0, table, MANT_RECORDS, last, reply, heard.outcome.length, sending, sent, sizeof sent);
+       assert(heard.outcome.deed == MANT_DEED_FREED && heard.outcome.names.pdu_id == 7); */
 
 /* ---- Sealing and opening ----
  *
  * Payloads enciphered under a key (document 02, W-212; document 000, section 3.5). Sealing enciphers the payload of a PDU, and with it a hash of header,
- * message number and payload. Opening returns the payload once: a PDU that was changed by someone who does not know its payload is refused with 83, and one
- * whose number is not greater than the last accepted from its source with 82. Repeaters need no key. The message number lies in clear. Once a later number is
- * accepted from a source an earlier one never opens, so a sender has one sealed message under way to a box, or seals what was lost anew under a new number.
- * 82 is found before the hash is looked at: it proves nothing about who sent the PDU, nor that it was opened before; acknowledge then only the very message
- * that was carried out last (examples/box.c).
- * What sealing does not protect (docs/requests/W-212.md):
+ * message number and payload. Opening returns the payload once: a PDU whose number is not greater than the last accepted from its source is refused with 82.
+ * One whose hash differs is refused with 83. Repeaters need no key. The message number lies in clear. Once a later number is accepted from a source, an
+ * earlier one never opens. So a sender has one sealed message under way to a box, or seals what was lost anew under a new number. 82 is found before the hash
+ * is looked at. It proves nothing about who sent the PDU, nor that it was opened before. Acknowledge then only the very message that was carried out last
+ * (examples/box.c).
+ * What sealing does not protect (docs/SEALING.md):
  *     - Known plain text. The hash has no key of its own. Whoever knows the payload of one sealed PDU can make others with its source and number, up to its
- *       length, for any destination and port; they open wherever that number was not accepted yet. Do not seal what can be guessed, or use a key for each gate.
+ *       length, for any destination and port. They open wherever neither that number nor a later one was accepted. Do not seal what can be guessed, or use a
+ *       key for each gate.
  *     - The hash has 32 bits: of random PDUs one in 4,294,967,296 opens.
  *     - Hop limit, path and so the last sender can be changed by anyone; the whole header and the message number can be read by anyone.
+ *     - A PDU that was kept back opens later, unless a later number was accepted. A source that the record does not hold opens with any number.
  *     - Acknowledgements are not sealed: anyone can make one.
  *     - Whoever holds the key can seal for every source. Use a key for each gate.
  *     - The time of a table look-up depends on the key, on a processor with a cache.
@@ -845,7 +891,7 @@ MantOutcome mant_acknowledge(MantRetained *table, size_t records, uint64_t last,
  *     counts, and an address above 65,535 is no source's. If a source gets another key, remove it from the record (mant_remove_source): under a new key its
  *     numbers may begin at 0 again. To seal, none, but the caller counts the message numbers.
  * Numbers: in sealing 1 to 6, 88, 85, 86 and 87; in opening 1 to 6, 80 to 84 and 87; mant_message_number 1 to 6, 80 and 81.
- * Stack: mant_seal 1,464, mant_open 1,504, mant_message_number 184, mant_remove_source 8.
+ * Stack: mant_seal 1,480, mant_open 1,504, mant_message_number 184, mant_remove_source 8.
  */
 
 #define MANT_SOURCE_LIMIT 64
@@ -974,7 +1020,6 @@ static inline const char *mant_meaning(uint8_t number)
     case MANT_PAYLOAD_TOO_LONG: return "the payload has more than 4,095 bytes";
     case MANT_RELIABLE_WITHOUT_DESTINATION: return "reliable service needs a destination";
     case MANT_OUTPUT_TOO_SHORT: return "the output has no room for the PDU, or for its exchange";
-    case MANT_RESERVED_ABOVE_3: return "reserved bits above 3: a number of this library's own, for a header put together by hand";
     case MANT_NO_ENCRYPTED_FLAG: return "encryption is asked for, and edition 1.1 has no encrypted flag";
     case MANT_UNKNOWN_EDITION: return "the edition is neither 11, which is 1.1, nor 12, which is 1.2";
     case MANT_LOW_ABOVE_HIGH: return "a list has a range whose low is above its high";

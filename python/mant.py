@@ -12,8 +12,8 @@ in MANT_LIB. Bytes go in as anything like bytes, and come out as bytes.
 (<Number.FOR_ANOTHER: 39>, <Number.DONE: 0>, '0300000b03e806400107d07001081212032413220276')
 
 It can read a PDU (`read`, `path`), make one (`originate`), be a node (`hear`, `walk`, `change_over`, `list_fault`, `list_holds`), plan
-(`most_transmissions`, `most_bytes`, `reach`), exchange with a decoder (`read_exchange`, `write_exchange`), seal a payload (`seal`) and open it once, against
-a `Record` (`mant.open`, not below, since `from mant import *` leaves Python's own `open` in its place; see `help(mant.open)`).
+(`most_transmissions`, `most_bytes`, `reach`), exchange with a decoder (`elements`, `read_exchange`, `write_exchange`), seal a payload (`seal`) and open it
+once, against a `Record` (`mant.open`, not below, since `from mant import *` leaves Python's own `open` in its place; see `help(mant.open)`).
 
 >>> import mant
 >>> key, record = b'sixteen  letters', mant.Record()
@@ -45,17 +45,18 @@ import mant_given as given
 from mant_c import LibraryMissing, library
 from mant_numbers import Number, Refused
 from mant_reach import ProgramMissing, Reach, Reached, reach
-from mant_types import (ADDRESS, BYTE, EDITION_1_1, EDITION_1_2, EXCHANGE_LIMIT, FIRST_LIST, NO_LIST, SECOND_LIST, SOURCE_WORDS, WORD_64, Answer, Exchange,
-                        Header, Limits, ListFault, Lists, Node, Record, Step, flag, whole)
+from mant_types import (ADDRESS, BYTE, EDITION_1_1, EDITION_1_2, EXCHANGE_LIMIT, EXCHANGE_TYPE, FIRST_LIST, NO_LIST, SECOND_LIST, SOURCE_WORDS, WORD_64,
+                        Answer, Element, Exchange, Header, Limits, ListFault, Lists, Node, Record, Step, flag, whole)
 
 # `open` is left out, so that `from mant import *` does not take the place of Python's own
-__all__ = ['Answer', 'EDITION_1_1', 'EDITION_1_2', 'Exchange', 'FIRST_LIST', 'Header', 'LibraryMissing', 'Limits', 'ListFault', 'Lists', 'NO_LIST', 'Node',
-           'Number', 'ProgramMissing', 'Reach', 'Reached', 'Record', 'Refused', 'SECOND_LIST', 'Step', 'change_over', 'hear', 'limits', 'list_fault',
-           'list_holds', 'message_number', 'most_bytes', 'most_transmissions', 'originate', 'path', 'reach', 'read', 'read_exchange', 'remove_source', 'seal',
-           'walk', 'write_exchange']
+__all__ = ['Answer', 'EDITION_1_1', 'EDITION_1_2', 'EXCHANGE_TYPE', 'Element', 'Exchange', 'FIRST_LIST', 'Header', 'LibraryMissing', 'Limits', 'ListFault',
+           'Lists', 'NO_LIST', 'Node', 'Number', 'ProgramMissing', 'Reach', 'Reached', 'Record', 'Refused', 'SECOND_LIST', 'Step', 'change_over', 'elements',
+           'hear', 'limits', 'list_fault', 'list_holds', 'message_number', 'most_bytes', 'most_transmissions', 'originate', 'path', 'reach', 'read',
+           'read_exchange', 'remove_source', 'seal', 'walk', 'write_exchange']
 
 # known by this module's name, whichever file they stand in
-for _known in (Answer, Exchange, Header, LibraryMissing, Limits, ListFault, Lists, Node, Number, ProgramMissing, Reach, Reached, Record, Refused, Step, reach):
+for _known in (Answer, Element, Exchange, Header, LibraryMissing, Limits, ListFault, Lists, Node, Number, ProgramMissing, Reach, Reached, Record, Refused, Step,
+               reach):
     _known.__module__ = 'mant'
 
 
@@ -228,6 +229,22 @@ def most_bytes(nodes, hop_limit, size):
     10276
     """
     return _bound(library().mant_most_bytes(whole('nodes', nodes, WORD_64), whole('hop_limit', hop_limit, WORD_64), whole('size', size, WORD_64)))
+
+
+def elements(run) -> Iterator[Element]:
+    """Each element of the run that the bytes are, in order. A decoder sends others before the exchange. An element that does not end within the bytes raises
+    Refused with 57.
+
+    >>> run = bytes.fromhex('750101') + write_exchange(bytes.fromhex('0000000203E8AABB'))
+    >>> [read_exchange(run[element.place:element.end]).payload for element in elements(run) if element.type_number == EXCHANGE_TYPE]
+    [b'\\xaa\\xbb']
+    """
+    run, place = given.content('run', run), 0
+    while place < len(run):
+        found = library().mant_element_at(run, len(run), place)
+        given.checked(found.number)
+        yield Element(found.type_number, run[found.value_place:found.value_place + found.value_length], place, found.end)
+        place = found.end
 
 
 def read_exchange(exchange):

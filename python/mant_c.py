@@ -36,6 +36,7 @@ Answer = struct(
     repeated_length=c_size_t, taken=c_size_t)
 Cursor = struct('MantCursor', place=c_size_t, ended=c_bool)
 Step = struct('MantStep', kind=c_uint8, answer=Answer, next=Cursor)
+Element = struct('MantElement', number=c_uint8, type_number=c_uint16, value_place=c_size_t, value_length=c_size_t, end=c_size_t)
 Exchange = struct(
     'MantExchange', number=c_uint8, header_place=c_size_t, header_length=c_size_t, payload_place=c_size_t, payload_length=c_size_t)
 Key = struct('MantKey', bytes=c_uint8 * 16)
@@ -57,6 +58,7 @@ FUNCTIONS = {
     'mant_change_over': (Node, Node, c_uint64),
     'mant_hear': (Answer, Node, *SLICE, *SLICE, *SLICE),
     'mant_step': (Step, Node, *SLICE, *SLICE, Cursor, *SLICE),
+    'mant_element_at': (Element, *SLICE, c_size_t),
     'mant_read_exchange': (Exchange, *SLICE),
     'mant_write_exchange': (Written, *SLICE, *SLICE),
     'mant_seal': (Written, Key, c_uint64, *SLICE, *SLICE),

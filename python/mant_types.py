@@ -12,7 +12,7 @@ from mant_numbers import Number
 EDITION_1_1, EDITION_1_2 = 11, 12
 NO_LIST, FIRST_LIST, SECOND_LIST = 0, 1, 2
 CHOICES = ('source_pass', 'source_reject', 'destination_pass', 'destination_reject')
-EXCHANGE_LIMIT, LIST_WORDS, SOURCE_WORDS = 4626, 1040, 129  # those of C without MANT_
+EXCHANGE_LIMIT, EXCHANGE_TYPE, LIST_WORDS, SOURCE_WORDS = 4626, 20, 1040, 129  # those of C without MANT_
 BYTE, ADDRESS, WORD_32, WORD_64 = 2**8 - 1, 2**16 - 1, 2**32 - 1, 2**64 - 1  # the most that a C type holds
 
 
@@ -150,6 +150,15 @@ class Step:
     """One PDU of a batch: where it begins, and the node's answer."""
     offset: int
     answer: Answer
+
+
+@dataclass(frozen=True)
+class Element:
+    """An element of a run: its type, its value, and the places in the run where it begins and ends."""
+    type_number: int
+    value: bytes
+    place: int
+    end: int
 
 
 @dataclass(frozen=True)

@@ -172,6 +172,13 @@ def exchanging():
     pdu = EXCHANGE[5:11] + EXCHANGE[14:27]
     same('an exchange', mant.read_exchange(EXCHANGE), mant.Exchange(EXCHANGE[5:11], EXCHANGE[14:27], 5, 14))
     same('written', mant.write_exchange(pdu + b'after'), b'\x14\x19' + EXCHANGE[2:27])
+    run = bytes.fromhex('750101 18021F40 77055341 43434F') + EXCHANGE
+    same('in front', number_of(mant.read_exchange, run), 59)
+    found = list(mant.elements(run))
+    same('elements', [(element.type_number, element.place, element.end) for element in found], [(117, 0, 3), (24, 3, 7), (119, 7, 14), (20, 14, 52)])
+    same('their values', [element.value for element in found], [b'\x01', b'\x1F\x40', b'SACCO', EXCHANGE[2:]])
+    same('of none', list(mant.elements(b'')), [])
+    same('of one that is cut', number_of(lambda cut: list(mant.elements(cut)), run[:-1]), 57)
     longest = bytes([0x0B, 0, 0x0F, 0xFF, 0, 0, 0, 0, 0, 255]) + bytes(4605)
     same('the longest', len(mant.write_exchange(longest)), 4626)
     for number, text in ((57, '14030502010000'), (58, '0A080A060A040A020100'), (59, ''), (2, '140C840006400000000000840100'),

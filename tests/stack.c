@@ -25,6 +25,7 @@
 #define TABLE records, MANT_RECORDS, 160
 
 static const MantNode node = MANT_NODE(2000);
+static const MantNode gate = MANT_NODE(1600);
 static const MantNode listing = {EDITION, 2000, true, true, MANT_FIRST_LIST, MANT_NO_LIST, MANT_SECOND_LIST, MANT_NO_LIST};
 static const MantFresh fresh = {.edition = EDITION, .source = 1000, .has_destination = true, .destination = 1600, .hop_limit = 1, .with_path = true,
                                 .reliable = true};
@@ -87,14 +88,19 @@ CALL(station_of_call, mant_station_of(table, MANT_STATION_WORDS, 1000).station.r
 CALL(remove_station_call, mant_remove_station(table, MANT_STATION_WORDS, 1000) == 0)
 CALL(write_exchange_call, mant_write_exchange(pdu, sizeof pdu, exchange, sizeof exchange).length == MANT_EXCHANGE_LIMIT - 2)
 CALL(read_exchange_call, mant_read_exchange(exchange, MANT_EXCHANGE_LIMIT - 2).payload_length == MANT_PAYLOAD_LIMIT)
+CALL(element_at_call, mant_element_at(exchange, MANT_EXCHANGE_LIMIT - 2, 0).end == MANT_EXCHANGE_LIMIT - 2)
+CALL(element_cut_call, mant_element_at(exchange, 1, 0).number == MANT_ELEMENT_CUT)
 CALL(read_deep_exchange_call, mant_read_exchange(deep, sizeof deep).number == MANT_ELEMENT_TOO_DEEP)
 CALL(retain_call, mant_retain(records, MANT_RECORDS, 0, 100, command, sizeof command).place == MANT_RECORDS - 1)
 CALL(retain_full_call, mant_retain(records, MANT_RECORDS, 100, 100, short_command, sizeof short_command).number == MANT_RECORDS_IN_USE)
 CALL(retry_idle_call, mant_retry(records, MANT_RECORDS, 100, 129, 30, 1, output, sizeof output).deed == MANT_DEED_NONE)
 CALL(retry_call, mant_retry(records, MANT_RECORDS, 129, 130, 30, 1, output, sizeof output).deed == MANT_DEED_SENT_AGAIN)
 CALL(retry_failed_call, mant_retry(records, MANT_RECORDS, 130, 160, 30, 0, output, sizeof output).deed == MANT_DEED_FAILED)
-CALL(acknowledge_call, mant_acknowledge(TABLE, short_command, sizeof short_command, delivered, sending, output, 10).length == 10)
-CALL(acknowledge_freed_call, mant_acknowledge(TABLE, acknowledgement, sizeof acknowledgement, delivered, sending, output, 0).deed == MANT_DEED_FREED)
+CALL(acknowledge_call, mant_acknowledge(TABLE, 1600, short_command, sizeof short_command, delivered, sending, output, 10).length == 10)
+CALL(acknowledge_freed_call, mant_acknowledge(TABLE, 1000, acknowledgement, sizeof acknowledgement, delivered, sending, output, 0).deed == MANT_DEED_FREED)
+CALL(hear_reliably_call, mant_hear_reliably(node, NO_LISTS, TABLE, pdu, sizeof pdu, sending, output, sizeof output).answer.repeat == 0)
+CALL(hear_reliably_listed_call, mant_hear_reliably(listing, LISTS, TABLE, pdu, sizeof pdu, sending, output, sizeof output).answer.repeat == 0)
+CALL(hear_reliably_answered_call, mant_hear_reliably(gate, NO_LISTS, TABLE, short_command, sizeof short_command, sending, output, 10).outcome.length == 10)
 CALL(queue_full_call, mant_queue_add(QUEUE, pdu, PDU_LENGTH) == MANT_QUEUE_FULL)
 CALL(queue_add_call, mant_queue_add(QUEUE, shortest, sizeof shortest) == 0)
 CALL(queue_level_call, mant_queue_level(QUEUE).pdus == 2)
@@ -135,9 +141,11 @@ static const struct {
     {"mant_remove_station", {remove_station_call}},
     {"mant_write_exchange", {write_exchange_call}},
     {"mant_read_exchange", {read_exchange_call, read_deep_exchange_call}},
+    {"mant_element_at", {element_at_call, element_cut_call}},
     {"mant_retain", {retain_call, retain_full_call}},
     {"mant_retry", {retry_idle_call, retry_call, retry_failed_call}},
     {"mant_acknowledge", {acknowledge_call, acknowledge_freed_call}},
+    {"mant_hear_reliably", {hear_reliably_call, hear_reliably_listed_call, hear_reliably_answered_call}},
     {"mant_queue_add", {queue_full_call, queue_add_call, queue_add_call}},
     {"mant_queue_level", {queue_level_call}},
     {"mant_queue_take", {queue_too_long_call, queue_take_call}},
@@ -151,12 +159,13 @@ static const struct {
     {"mant_limits", {limits_call}},
 };
 
-/* Limits of their own; those that retain and send again have a record on the stack, those that seal and open the round keys. */
+/* Limits of their own; those that retain, send again or free have a record on the stack, those that seal and open the round keys. */
 static const struct {
     const char *name;
     size_t bytes;
 } limits[] = {
-    {"mant_hear", 416}, {"mant_retain", 768}, {"mant_retry", 768}, {"mant_seal", 1536}, {"mant_open", 1536},
+    {"mant_hear", 416}, {"mant_retain", 768}, {"mant_retry", 768}, {"mant_hear_reliably", 768}, {"mant_acknowledge", 768},
+    {"mant_seal", 1536}, {"mant_open", 1536},
 };
 
 static size_t limit_of(const char *name)

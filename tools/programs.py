@@ -266,7 +266,10 @@ def rests_beside(crate, programs):
 
 
 def shape_of(line):
-    """Whether what the prover says is that a proof does not fit the function's code: the need's own form, or in a walk by hand the code that it walks over."""
+    """Whether what the prover says is that a proof does not fit the function's code: the need's own form, or in a walk by hand the code that it walks over. Not
+    where it says that two statements of numbers differ."""
+    if re.search(r'the two types are `Prim\.Native\.Nat\.[^`]*` \(expected\) and `Prim\.Native\.Nat\.', line):
+        return None
     return re.search(r'has no field|that can be named from here|expected type `tie\.Need|`[^`]*\b(?:package\.mir|prog\.Wp\.spotOf)\b', line)
 
 

@@ -149,11 +149,11 @@ static Outcome acknowledged(Names names, uint64_t last, Sending sending, uint8_t
     return (Outcome){.deed = 5, .last = last, .names = names, .length = length};
 }
 
-Outcome plain_acknowledge(Retained *table, size_t records, uint64_t last, const uint8_t *received, size_t length, Answer answer, Sending sending,
-                          uint8_t *output, size_t output_length)
+Outcome plain_acknowledge(Retained *table, size_t records, uint64_t last, uint16_t own, const uint8_t *received, size_t length, Answer answer,
+                          Sending sending, uint8_t *output, size_t output_length)
 {
     Header header = plain_read(12, received, length);
-    bool counts = answer.delivery == 0 && answer.taken != 0 && header.number == 0 && header.protocol == 1;
+    bool counts = answer.delivery == 0 && header.number == 0 && header.protocol == 1 && header.destination == own && !header.added_header;
     Names names;
     size_t place;
 

@@ -14,6 +14,12 @@ const SENDING: Sending = Sending {
     with_path: true,
 };
 
+/// The node that commands go out from, and acknowledgements come to.
+const OWN: u16 = 1000;
+
+/// The node that commands are for.
+const GATE: u16 = 1600;
+
 /// A node's answer for a PDU that it delivered.
 const DELIVERED: Answer = Answer {
     delivery: 0,
@@ -81,16 +87,18 @@ impl Tables {
         self.check(outcome, wanted, retry)
     }
 
-    /// Each hears a PDU that was delivered.
-    fn heard(&mut self, pdu: &[u8]) -> Outcome {
+    /// Each hears a PDU that was delivered at this address.
+    fn heard(&mut self, own: u16, pdu: &[u8]) -> Outcome {
         let (mut one, mut other) = ([1; 10], [1; 10]);
         let last = self.reference.last();
         let table = &mut self.library;
-        let outcome = raw::acknowledge(table, last, pdu, DELIVERED, SENDING, &mut one);
+        let heard = (pdu, DELIVERED);
+        let outcome = raw::acknowledge(table, last, own, heard, SENDING, &mut one);
         let table = &mut self.plain;
-        let wanted = plain::acknowledge(table, last, pdu, DELIVERED, SENDING, &mut other);
+        let wanted = plain::acknowledge(table, last, own, heard, SENDING, &mut other);
         assert_eq!(one, other);
-        let heard = |table: &mut Table| table.heard(pdu, 0, &in_reference(SENDING), &mut other);
+        let sending = in_reference(SENDING);
+        let heard = |table: &mut Table| table.heard(own, pdu, 0, &sending, &mut other);
         self.check(outcome, wanted, heard)
     }
 
@@ -133,20 +141,20 @@ pub fn retaining_and_freeing(length: usize) -> [Measured; 4] {
             &mut |input: &[u8], output: &mut [u8]| {
                 black_box(raw::retain(&mut library, 1_000, 1_000, input));
                 let table = &mut library;
-                black_box(raw::acknowledge(
-                    table, 1_000, &answer, DELIVERED, SENDING, output,
-                ));
+                let heard = (&answer[..], DELIVERED);
+                black_box(raw::acknowledge(table, 1_000, OWN, heard, SENDING, output));
             },
             &mut |input: &[u8], output: &mut [u8]| {
                 let _ = black_box(reference.retain(1_000, input));
                 let sending = in_reference(SENDING);
-                let _ = black_box(reference.heard(&answer, 0, &sending, output));
+                let _ = black_box(reference.heard(OWN, &answer, 0, &sending, output));
             },
             &mut |input: &[u8], output: &mut [u8]| {
                 black_box(plain::retain(&mut plain, 1_000, 1_000, input));
                 let table = &mut plain;
+                let heard = (&answer[..], DELIVERED);
                 black_box(plain::acknowledge(
-                    table, 1_000, &answer, DELIVERED, SENDING, output,
+                    table, 1_000, OWN, heard, SENDING, output,
                 ));
             },
             &mut |input: &[u8], output: &mut [u8]| copy(input, output, length),
@@ -196,9 +204,9 @@ pub fn check_plain() {
             let outcome = tables.retry(1_030, 30, 1, length);
             assert_eq!((outcome.deed, outcome.place), (2, place));
         }
-        assert_eq!(tables.heard(&acknowledgement(5)).place, 5);
-        assert_eq!(tables.heard(&acknowledgement(5)).deed, 0);
-        assert_eq!(tables.heard(&command(5, length)).length, 10);
+        assert_eq!(tables.heard(OWN, &acknowledgement(5)).place, 5);
+        assert_eq!(tables.heard(OWN, &acknowledgement(5)).deed, 0);
+        assert_eq!(tables.heard(GATE, &command(5, length)).length, 10);
         assert_eq!(tables.retry(1_060, 30, 1, 0).deed, 3);
         assert_eq!(tables.retain(1_060, &command(99, length)).place, 0);
     }

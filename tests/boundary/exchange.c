@@ -35,6 +35,39 @@ static void reading_exchanges(void)
     CHECK(is_refused(mant_read_exchange(split, 14), 63) && is_refused(mant_read_exchange(more, 15), 63));
 }
 
+static bool is_element(MantElement found, uint16_t type_number, size_t value_place, size_t value_length, size_t end)
+{
+    return found.number == 0 && found.type_number == type_number && found.value_place == value_place && found.value_length == value_length
+           && found.end == end;
+}
+
+static bool is_cut(MantElement found)
+{
+    return found.number == MANT_ELEMENT_CUT && found.type_number == 0 && found.value_place == 0 && found.value_length == 0 && found.end == 0;
+}
+
+/* Version, address and agency, which document 003 has before the exchange: elements of a run that is not an exchange. */
+static void walking(void)
+{
+    static uint8_t run[14 + sizeof exchange] = {0x75, 1, 1, 0x18, 2, 0x1F, 0x40, 0x77, 5, 'S', 'A', 'C', 'C', 'O'};
+    static uint8_t longest[4 + 32767] = {0xFF, 0xFF, 0xFF, 0xFF};
+    const uint8_t forms[10] = {0x80, 20, 0, 5, 0x80, 1, 9, 0x84, 0, 0x80};
+    memcpy(run + 14, exchange, sizeof exchange);
+    CHECK(is_refused(mant_read_exchange(run, sizeof run), 59));
+    CHECK(is_element(mant_element_at(run, sizeof run, 0), 117, 2, 1, 3) && is_element(mant_element_at(run, sizeof run, 3), 24, 5, 2, 7));
+    CHECK(is_element(mant_element_at(run, sizeof run, 7), 119, 9, 5, 14));
+    MantElement found = mant_element_at(run, sizeof run, 14);
+    CHECK(is_element(found, MANT_EXCHANGE_TYPE, 16, 36, sizeof run));
+    CHECK(is_exchange(mant_read_exchange(run + 14, found.end - 14), 5, 6, 14, 13));
+    CHECK(is_element(mant_element_at(run + 16, 36, 0), 1024, 3, 6, 9) && is_element(mant_element_at(run + 16, 36, 9), 1025, 12, 13, 25));
+    CHECK(is_cut(mant_element_at(run, 51, 14)) && is_cut(mant_element_at(run, 15, 14)) && is_cut(mant_element_at(run, sizeof run, sizeof run)));
+    CHECK(is_cut(mant_element_at(run, sizeof run, SIZE_MAX)) && is_cut(mant_element_at(NULL, 0, 0)) && is_cut(mant_element_at(NULL, 0, SIZE_MAX)));
+    CHECK(is_element(mant_element_at(forms, 10, 0), 20, 3, 0, 3) && is_element(mant_element_at(forms, 10, 3), 5, 6, 1, 7));
+    CHECK(is_cut(mant_element_at(forms, 10, 7)) && is_cut(mant_element_at(forms, 9, 7)) && is_cut(mant_element_at(forms, 8, 7)));
+    CHECK(is_element(mant_element_at(longest, sizeof longest, 0), 32767, 4, 32767, sizeof longest));
+    CHECK(is_cut(mant_element_at(longest, sizeof longest - 1, 0)));
+}
+
 static void writing_exchanges(void)
 {
     static uint8_t longest[MANT_PDU_LIMIT + 1] = {0x0B, 0, 0x0F, 0xFF, 0, 0, 0, 0, 0, 255};
@@ -62,5 +95,6 @@ static void writing_exchanges(void)
 void the_serial_exchange(void)
 {
     reading_exchanges();
+    walking();
     writing_exchanges();
 }

@@ -1,4 +1,7 @@
+#define _DEFAULT_SOURCE /* mmap */
 #include "boundary.h"
+#include <sys/mman.h>
+#include <unistd.h>
 
 /* A command from 1000 to 1600 with ID 7, and its acknowledgement. */
 static const uint8_t command[10] = {0x09, 0, 0x30, 0x01, 0x03, 0xE8, 0x06, 0x40, 7, 99};
@@ -24,10 +27,10 @@ static void no_records(void)
     const MantSending wrong = {.hop_limit = 8, .port = 16}, wrong_port = {.hop_limit = 7, .port = UINT64_C(0x100000000)};
     CHECK(is_outcome(mant_retain(NULL, 0, 9, 3, NULL, 0), 74, 0, 9, 0, 0));
     CHECK(is_outcome(mant_retry(NULL, 0, 9, 3, 0, 0, NULL, 0), MANT_NOT_16_RECORDS, 0, 9, 0, 0));
-    CHECK(is_outcome(mant_acknowledge(NULL, 0, 9, NULL, 0, delivered, wrong, NULL, 0), 74, 0, 9, 0, 0));
-    CHECK(is_outcome(mant_acknowledge(NULL, 0, 9, command, 10, delivered, wrong, NULL, 0), MANT_HOP_LIMIT_ABOVE_7, 0, 9, 0, 0));
-    CHECK(is_outcome(mant_acknowledge(NULL, 0, 9, command, 10, delivered, wrong_port, NULL, 0), MANT_PORT_ABOVE_15, 0, 9, 0, 0));
-    CHECK(is_outcome(mant_acknowledge(NULL, 0, 9, command, 10, delivered, sending, NULL, 0), 74, 0, 9, 0, 0));
+    CHECK(is_outcome(mant_acknowledge(NULL, 0, 9, 1600, NULL, 0, delivered, wrong, NULL, 0), 74, 0, 9, 0, 0));
+    CHECK(is_outcome(mant_acknowledge(NULL, 0, 9, 1600, command, 10, delivered, wrong, NULL, 0), MANT_HOP_LIMIT_ABOVE_7, 0, 9, 0, 0));
+    CHECK(is_outcome(mant_acknowledge(NULL, 0, 9, 1600, command, 10, delivered, wrong_port, NULL, 0), MANT_PORT_ABOVE_15, 0, 9, 0, 0));
+    CHECK(is_outcome(mant_acknowledge(NULL, 0, 9, 1600, command, 10, delivered, sending, NULL, 0), 74, 0, 9, 0, 0));
 }
 
 /* Records of any bytes, of which the one at place 3 has a length above 256 and is free; the others hold the command. */
@@ -99,20 +102,84 @@ static void a_clock_set_back(void)
     CHECK(mant_retain(table, 16, 80, 80, command, 10).number == 71);
 }
 
-/* An answer that no node gave: one of zeros says delivered, and bytes that are not there count as 0. And a command is delivered as often as it is heard. */
+/* With another number of records than 16 none is read: here they end at a page that may not be read, or begin there. */
+static void records_that_are_not_there(void)
+{
+    const size_t page = (size_t)sysconf(_SC_PAGESIZE), room = (16 * sizeof(MantRetained) + page - 1) / page * page;
+    const MantAnswer delivered = {.taken = 10};
+    const MantNode at_gate = MANT_NODE(1600);
+    uint8_t output[11];
+    uint8_t *memory = mmap(NULL, room + page, PROT_READ | PROT_WRITE, MAP_PRIVATE | MAP_ANONYMOUS, -1, 0);
+    CHECK(memory != MAP_FAILED && mprotect(memory + room, page, PROT_NONE) == 0);
+    MantRetained *sixteen = (MantRetained *)(void *)(memory + room - 16 * sizeof(MantRetained)), *none = (MantRetained *)(void *)(memory + room);
+    const size_t counts[] = {17, sizeof(MantRetained[16]), 15, 1, SIZE_MAX / sizeof(MantRetained)};
+    for (size_t i = 0; i < sizeof counts / sizeof counts[0]; i++) {
+        MantRetained *records = i < 2 ? sixteen : none;
+        CHECK(is_outcome(mant_retain(records, counts[i], 9, 9, command, 10), MANT_NOT_16_RECORDS, 0, 9, 0, 0));
+        CHECK(is_outcome(mant_retry(records, counts[i], 9, 9, 0, 1, output, 11), 74, 0, 9, 0, 0));
+        CHECK(is_outcome(mant_acknowledge(records, counts[i], 9, 1000, acknowledgement, 9, delivered, sending, output, 11), 74, 0, 9, 0, 0));
+        CHECK(is_outcome(mant_acknowledge(records, counts[i], 9, 1600, command, 10, delivered, (MantSending){.hop_limit = 8}, output, 11), 10, 0, 9, 0, 0));
+        CHECK(is_outcome(mant_hear_reliably(at_gate, NO_LISTS, records, counts[i], 9, command, 10, sending, output, 11).outcome, 74, 0, 9, 0, 0));
+    }
+    CHECK(mant_retain(sixteen, 16, 9, 9, command, 10).deed == MANT_DEED_RETAINED);
+    CHECK(munmap(memory, room + page) == 0);
+}
+
+/* An answer that no node gave for these bytes: one of zeros says delivered. Nothing is acknowledged in another's name, nor for bytes that are no PDU or have an
+   added header. And a command is delivered as often as it is heard. */
 static void what_a_box_looks_after(void)
 {
     const MantNode at_gate = MANT_NODE(1600);
+    const uint8_t one[1] = {0x08};
     MantRetained table[MANT_RECORDS] = {0};
     uint16_t stations[MANT_STATION_WORDS] = {0};
-    uint8_t output[9];
-    MantOutcome outcome = mant_acknowledge(table, 16, 5, command, 8, (MantAnswer){0}, sending, output, 9);
-    CHECK(outcome.deed == MANT_DEED_ACKNOWLEDGED && outcome.names.source == 1000 && outcome.names.destination == 1600 && outcome.names.pdu_id == 0);
+    uint8_t added[10], output[9] = {0}, untouched[9] = {0};
+    memcpy(added, command, 10);
+    added[2] |= 0x80;
+    CHECK(is_outcome(mant_acknowledge(table, 16, 5, 1600, command, 8, (MantAnswer){0}, sending, output, 9), 0, 0, 5, 0, 0));
+    CHECK(is_outcome(mant_acknowledge(table, 16, 5, 0, one, 1, (MantAnswer){0}, sending, output, 9), 0, 0, 5, 0, 0));
+    CHECK(is_outcome(mant_acknowledge(table, 16, 5, 1600, NULL, 0, (MantAnswer){0}, sending, output, 9), 0, 0, 5, 0, 0));
+    CHECK(is_outcome(mant_acknowledge(table, 16, 5, 2000, command, 10, (MantAnswer){0}, sending, output, 9), 0, 0, 5, 0, 0));
+    CHECK(is_outcome(mant_acknowledge(table, 16, 5, 1600, added, 10, (MantAnswer){0}, sending, output, 9), 0, 0, 5, 0, 0));
+    CHECK(memcmp(output, untouched, 9) == 0);
     CHECK(mant_count_answer(stations, MANT_STATION_WORDS, NULL, 0, (MantAnswer){.taken = 1}) == 0);
     CHECK(mant_station_of(stations, MANT_STATION_WORDS, 0).station.reads == 1);
     for (unsigned i = 0; i < 2; i++) {
         CHECK(mant_hear(at_gate, NO_LISTS, command, 10, NULL, 0).delivery == 0);
     }
+}
+
+/* In one call: at the gate the command is delivered and acknowledged; elsewhere it is repeated and not acknowledged, and with a list at fault neither. The
+   acknowledgement frees the record at the base; once more, with a payload, it is ignored, and its payload delivered. */
+static void hearing_reliably(void)
+{
+    const uint8_t longer[11] = {0x09, 0x51, 0x30, 2, 0x06, 0x40, 0x03, 0xE8, 7, 0xAB, 0xCD};
+    const MantNode at_gate = MANT_NODE(1600), at_base = MANT_NODE(1000), between = MANT_NODE(2000);
+    const uint16_t odd[9] = {1, 0, 0, 0, 0, 0, 0, 0, 5};
+    MantRetained table[MANT_RECORDS] = {0};
+    uint8_t output[12], untouched[12];
+    memset(output, 77, sizeof output);
+    memset(untouched, 77, sizeof untouched);
+    CHECK(mant_retain(table, 16, 0, 5, command, 10).place == 0);
+    MantHeardReliably h = mant_hear_reliably(at_gate, NO_LISTS, table, 16, 5, command, 10, sending, output, 8);
+    CHECK(h.answer.delivery == 0 && h.answer.delivered_length == 1 && is_outcome(h.outcome, MANT_SENDING_TOO_LONG, 0, 5, 0, 0));
+    h = mant_hear_reliably(at_gate, odd, 9, table, 16, 5, command, 10, sending, output, 12);
+    CHECK(h.answer.delivery == MANT_LIST_ODD && is_outcome(h.outcome, 0, 0, 5, 0, 0));
+    CHECK(memcmp(output, untouched, 12) == 0);
+    h = mant_hear_reliably(at_gate, NO_LISTS, table, 16, 5, command, 10, sending, output, 12);
+    CHECK(h.answer.delivery == 0 && h.answer.repeat == MANT_FOR_THIS_NODE && h.answer.delivered_place == 9 && h.answer.delivered_length == 1);
+    CHECK(is_outcome(h.outcome, 0, MANT_DEED_ACKNOWLEDGED, 5, 0, 9) && memcmp(output, acknowledgement, 9) == 0 && output[9] == 77);
+    h = mant_hear_reliably(between, NO_LISTS, table, 16, 5, command, 10, sending, output, 12);
+    CHECK(h.answer.delivery == 39 && h.answer.repeat == 0 && h.answer.repeated_length == 10 && is_outcome(h.outcome, 0, 0, 5, 0, 0));
+    CHECK(output[2] == 0x20 && memcmp(output + 3, command + 3, 7) == 0 && output[10] == 77 && is_retained(table, 5, 0));
+    memset(output, 77, sizeof output);
+    h = mant_hear_reliably(between, NO_LISTS, table, 15, 5, command, 10, sending, output, 12);
+    CHECK(h.answer.repeat == 0 && h.answer.repeated_length == 10 && is_outcome(h.outcome, 74, 0, 5, 0, 0));
+    CHECK(output[2] == 0x20 && memcmp(output + 3, command + 3, 7) == 0 && output[10] == 77 && is_retained(table, 5, 0));
+    h = mant_hear_reliably(at_base, NO_LISTS, table, 16, 5, acknowledgement, 9, (MantSending){.hop_limit = 8}, NULL, 0);
+    CHECK(h.answer.delivery == 0 && is_outcome(h.outcome, 0, MANT_DEED_FREED, 5, 0, 0) && memcmp(table, &zeros, sizeof zeros) == 0);
+    h = mant_hear_reliably(at_base, NO_LISTS, table, 16, 5, longer, 11, sending, NULL, 0);
+    CHECK(h.answer.delivery == 0 && h.answer.delivered_place == 9 && h.answer.delivered_length == 2 && is_outcome(h.outcome, 0, 0, 5, 0, 0));
 }
 
 /* A command at the gate is acknowledged; the acknowledgement at the base frees the record, the second of two. */
@@ -129,18 +196,18 @@ static void acknowledging(void)
     memset(untouched, 77, sizeof untouched);
     CHECK(mant_retain(table, 16, 0, 5, other, 10).place == 0 && mant_retain(table, 16, 5, 5, command, 10).place == 1);
     MantAnswer a = mant_hear(at_gate, NO_LISTS, command, 10, NULL, 0);
-    CHECK(is_outcome(mant_acknowledge(table, 16, 5, command, 10, a, sending, output, 8), MANT_SENDING_TOO_LONG, 0, 5, 0, 0));
-    CHECK(is_outcome(mant_acknowledge(table, 16, 5, command, 10, a, with_path, output, 9), 77, 0, 5, 0, 0) && memcmp(output, untouched, 11) == 0);
-    CHECK(is_outcome(mant_acknowledge(table, 16, 5, command, 10, a, with_path, output, 10), 0, 5, 5, 0, 10) && memcmp(output, pathed, 10) == 0);
-    CHECK(is_outcome(mant_acknowledge(table, 16, 5, command, 10, a, sending, output, 11), 0, MANT_DEED_ACKNOWLEDGED, 5, 0, 9));
+    CHECK(is_outcome(mant_acknowledge(table, 16, 5, 1600, command, 10, a, sending, output, 8), MANT_SENDING_TOO_LONG, 0, 5, 0, 0));
+    CHECK(is_outcome(mant_acknowledge(table, 16, 5, 1600, command, 10, a, with_path, output, 9), 77, 0, 5, 0, 0) && memcmp(output, untouched, 11) == 0);
+    CHECK(is_outcome(mant_acknowledge(table, 16, 5, 1600, command, 10, a, with_path, output, 10), 0, 5, 5, 0, 10) && memcmp(output, pathed, 10) == 0);
+    CHECK(is_outcome(mant_acknowledge(table, 16, 5, 1600, command, 10, a, sending, output, 11), 0, MANT_DEED_ACKNOWLEDGED, 5, 0, 9));
     CHECK(memcmp(output, acknowledgement, 9) == 0 && output[10] == 77 && is_retained(table + 1, 5, 0));
     a = mant_hear(node, NO_LISTS, acknowledgement, 9, output, sizeof output);
-    CHECK(a.delivery == 39 && is_outcome(mant_acknowledge(table, 16, 5, acknowledgement, 9, a, sending, output, 0), 0, 0, 5, 0, 0));
+    CHECK(a.delivery == 39 && is_outcome(mant_acknowledge(table, 16, 5, 1000, acknowledgement, 9, a, sending, output, 0), 0, 0, 5, 0, 0));
     a = mant_hear(at_base, NO_LISTS, acknowledgement, 9, NULL, 0);
     CHECK(a.delivery == 0 && is_retained(table + 1, 5, 0));
-    CHECK(is_outcome(mant_acknowledge(table, 16, 5, acknowledgement, 9, a, (MantSending){.hop_limit = 8}, NULL, 0), 0, MANT_DEED_FREED, 5, 1, 0));
+    CHECK(is_outcome(mant_acknowledge(table, 16, 5, 1000, acknowledgement, 9, a, (MantSending){.hop_limit = 8}, NULL, 0), 0, MANT_DEED_FREED, 5, 1, 0));
     CHECK(memcmp(table + 1, &zeros, sizeof zeros) == 0 && table[0].length == 10);
-    CHECK(is_outcome(mant_acknowledge(table, 16, 5, acknowledgement, 9, a, sending, NULL, 0), 0, 0, 5, 0, 0) && table[0].length == 10);
+    CHECK(is_outcome(mant_acknowledge(table, 16, 5, 1000, acknowledgement, 9, a, sending, NULL, 0), 0, 0, 5, 0, 0) && table[0].length == 10);
 }
 
 void reliable_messages(void)
@@ -149,6 +216,8 @@ void reliable_messages(void)
     retaining();
     retrying();
     a_clock_set_back();
+    records_that_are_not_there();
     what_a_box_looks_after();
+    hearing_reliably();
     acknowledging();
 }

@@ -9,8 +9,8 @@ extern "C" {
         table: *mut Retained, records: usize, last: u64, time: u64, delay: u64, tries: u64, output: *mut u8, output_length: usize,
     ) -> Outcome;
     fn plain_acknowledge(
-        table: *mut Retained, records: usize, last: u64, received: *const u8, length: usize, answer: Answer, sending: Sending,
-        output: *mut u8, output_length: usize,
+        table: *mut Retained, records: usize, last: u64, own: u16, received: *const u8, length: usize, answer: Answer,
+        sending: Sending, output: *mut u8, output_length: usize,
     ) -> Outcome;
 }
 
@@ -51,8 +51,8 @@ pub fn retry(
 pub fn acknowledge(
     table: &mut [Retained],
     last: u64,
-    received: &[u8],
-    answer: Answer,
+    own: u16,
+    (received, answer): (&[u8], Answer),
     sending: Sending,
     output: &mut [u8],
 ) -> Outcome {
@@ -62,6 +62,7 @@ pub fn acknowledge(
             table.as_mut_ptr(),
             table.len(),
             last,
+            own,
             received.as_ptr(),
             received.len(),
             answer,

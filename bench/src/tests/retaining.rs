@@ -48,10 +48,16 @@ fn retained(
         }
         ReliableDeed::Hear(settings, bytes, sending, room) => {
             let answer = reference::hear(&settings, &Lists::EMPTY, &bytes, &mut [0; 5_000]);
-            heard((plain, table), (&bytes, answer.delivery), &sending, room)
+            let own = settings.own_address;
+            heard(
+                (plain, table),
+                (own, &bytes, answer.delivery),
+                &sending,
+                room,
+            )
         }
-        ReliableDeed::Answer(bytes, delivery, sending, room) => {
-            heard((plain, table), (&bytes, delivery), &sending, room)
+        ReliableDeed::Answer(own, bytes, delivery, sending, room) => {
+            heard((plain, table), (own, &bytes, delivery), &sending, room)
         }
     }
 }
@@ -59,7 +65,7 @@ fn retained(
 /// A PDU that was answered with this delivery number.
 fn heard(
     (plain, table): (&mut [raw::Retained], &mut Table),
-    (bytes, delivery): (&[u8], u8),
+    (own, bytes, delivery): (u16, &[u8], u8),
     sending: &Sending,
     room: usize,
 ) -> (raw::Outcome, Result<Done, u8>) {
@@ -70,8 +76,9 @@ fn heard(
         ..raw::Answer::default()
     };
     let (last, settings) = (table.last(), differential::sending(sending));
-    let outcome = plain::acknowledge(plain, last, bytes, answer, settings, &mut one);
-    let wanted = table.heard(bytes, delivery, sending, &mut other);
+    let heard = (bytes, answer);
+    let outcome = plain::acknowledge(plain, last, own, heard, settings, &mut one);
+    let wanted = table.heard(own, bytes, delivery, sending, &mut other);
     assert_eq!(one, other);
     (outcome, wanted)
 }

@@ -1,25 +1,17 @@
--- Only for the functions that `mant_acknowledge` is put together from: what a PDU heard asks of the table, and what is made of its effect.
+-- Only for the functions that a PDU heard goes through: what it asks of the table.
 use Prim.Native.Nat.{ℕ}
 use mathlib.Core.Bool.{Bool, cond, _&&_}
 use mathlib.Core.List.{List}
-use lib.Dec.{eqb, ltb, leb}
+use lib.Dec.{eqb, ltb}
 use Rattle.octets.specs.Numbers.{_gives_, _orElse_}
-use Rattle.pdu.specs.declared.Header.{Header}
-use Rattle.pdu.specs.Header.{headerOf}
 use Rattle.pdu.specs.Sizes.{pduLength}
-use Rattle.writing.specs.Writing.{headerOutput}
 use Rattle.answering.specs.declared.Sending.{Sending}
 use Rattle.deciding.specs.declared.Ask.{Ask}
-use Rattle.deciding.specs.declared.Effect.{Effect}
-use Rattle.deciding.specs.declared.Kind.{Kind}
-use Rattle.deciding.specs.declared.Kind.the-variants.{Free, Nothing}
-use Rattle.retained.specs.declared.Outcome.{Outcome}
+use Rattle.deciding.specs.declared.Kind.the-variants.{Free, Answer, Nothing}
+use Rattle.retained.specs.declared.Names.{Names}
 use Rattle.retained.specs.Records.{namesOf, exchanged}
-use Rattle.retained.specs.Table.{did}
-use Rattle.answering.specs.Delivered.{isAcknowledgement, isAnswered, ackHeader, answered}
-
-abbrev pub kindFor : ℕ → Header → Kind
-kindFor delivery header = cond (isAcknowledgement delivery header) Free Nothing
+use Rattle.retained.specs.Table.{tableSize}
+use Rattle.answering.specs.Delivered.{isAnswered, isAcknowledgement, ackHeader}
 
 abbrev pub earlyNumber : Bool → Sending → ℕ
 earlyNumber due sending = (due && ltb 7 (sending .«hop_limit»)) gives 10 orElse (due && ltb 15 (sending .port)) gives 11
@@ -27,28 +19,26 @@ earlyNumber due sending = (due && ltb 7 (sending .«hop_limit»)) gives 10 orEls
 abbrev pub lateNumber : Bool → ℕ → ℕ → ℕ
 lateNumber due room length = (due && ltb room length) gives 77
 
-unfoldable pub askAcknowledge : ℕ → ℕ → Sending → ℕ → List ℕ → Ask
-askAcknowledge last delivery sending room received =
+-- of a PDU with these names that is answered, or not, and frees a record, or not
+abbrev pub askFor : Bool → Bool → ℕ → Sending → ℕ → Names → Ask
+askFor due frees last sending room names =
     record {
-      kind = kindFor delivery (headerOf received);
-      early = earlyNumber (isAnswered delivery (headerOf received)) sending;
-      late = lateNumber (isAnswered delivery (headerOf received)) room (pduLength (ackHeader sending (namesOf received)));
+      kind = cond due Answer (cond frees Free Nothing);
+      early = earlyNumber due sending;
+      late = lateNumber due room (pduLength (ackHeader sending names));
       last = last;
       time = last;
       delay = 0;
       tries = 0;
       room = 0;
-      names = exchanged (namesOf received);
+      names = cond due names (exchanged names);
+      length = pduLength (ackHeader sending names);
     }
 
-abbrev pub responds : Effect → ℕ → Sending → Header → Bool
-responds e delivery sending header = eqb (e .outcome .number) 0 && (isAnswered delivery header && (leb (sending .«hop_limit») 7 && leb (sending .port) 15))
+unfoldable pub askAcknowledge : ℕ → ℕ → ℕ → Sending → ℕ → List ℕ → Ask
+askAcknowledge last own delivery sending room received =
+    askFor (isAnswered own delivery received) (isAcknowledgement own delivery received) last sending room (namesOf received)
 
-unfoldable pub response : Effect → ℕ → Sending → List ℕ → Outcome
-response e delivery sending received =
-    cond (responds e delivery sending (headerOf received)) (did answered (e .outcome .last) 0 (namesOf received)
-    (pduLength (ackHeader sending (namesOf received)))) (e .outcome)
-
-unfoldable pub responded : Effect → ℕ → Sending → List ℕ → List ℕ → List ℕ
-responded e delivery sending received output = cond (responds e delivery sending (headerOf received))
-    (headerOutput (ackHeader sending (namesOf received)) output) output
+-- the acknowledgement is written
+abbrev pub isWritten : ℕ → Bool → ℕ → ℕ → Bool
+isWritten records due early late = due && (eqb early 0 && (eqb records tableSize && eqb late 0))

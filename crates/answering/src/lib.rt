@@ -1,19 +1,19 @@
 // What a delivered PDU asks of the table, and the acknowledgement that answers it.
 use deciding::Ask;
-use deciding::Effect;
 use deciding::Kind;
 use pdu::Destination;
 use pdu::Header;
 use retained::Names;
-use retained::Outcome;
 ghost use mathlib.Core.Path.{_≡_};
-ghost use mathlib.Core.Bool.{_&&_};
+ghost use mathlib.Core.Bool.{cond, _&&_};
 ghost use Prim.Native.Nat.{_≤_};
-ghost use lib.Dec.{eqb, leb};
 ghost use lib.ListN.{length};
 ghost use Rattle.pdu.specs.Sizes.{pduLength};
-ghost use Rattle.answering.specs.Delivered.{isAnswered, ackHeader};
-ghost use Rattle.answering.specs.Responding.{kindFor, earlyNumber, lateNumber, askAcknowledge, responds, response, responded};
+ghost use Rattle.decision.specs.Decision.{isForOwn};
+ghost use Rattle.deciding.specs.declared.Kind.the-variants.{Free, Answer, Nothing};
+ghost use Rattle.retained.specs.Records.{exchanged};
+ghost use Rattle.answering.specs.Delivered.{isForThis, isDeliveredHere, ackHeader, outputAcknowledged};
+ghost use Rattle.answering.specs.Responding.{earlyNumber, lateNumber, askFor, askAcknowledge, isWritten};
 
 // What an acknowledgement is sent with. Hop limit and port are wider than their bits, so that a number too large arrives whole and is refused.
 #[repr(C)]
@@ -24,28 +24,66 @@ pub struct Sending {
     pub with_path: bool,
 }
 
-fn is_answered(delivery: u8, header: Header) -> bool
-    ensures { λ r. ⌜ r ≡ isAnswered delivery header ⌝ }
+fn is_for_own(own: u16, destination: Destination) -> bool
+    ensures { λ r. ⌜ r ≡ isForOwn own destination ⌝ }
 {
-    if delivery == 0 {
-        if header.protocol == 1 {
-            return !header.ack;
-        }
+    match destination {
+        Destination::Everyone => false,
+        Destination::Address(address) => address == own,
+    }
+}
+
+fn is_for_this(own: u16, header: Header) -> bool
+    ensures { λ r. ⌜ r ≡ isForThis own header ⌝ }
+{
+    if header.protocol != 1 {
+        return false;
+    }
+    let destination = header.destination;
+    if is_for_own(own, destination) {
+        return !header.added_header;
     }
     false
 }
 
-fn kind_for(delivery: u8, header: Header) -> Kind
-    ensures { λ r. ⌜ r ≡ kindFor delivery header ⌝ }
+// Whether a PDU of protocol 1 was delivered at the node with this own address, by the number that the node gave and by the bytes.
+fn is_delivered(own: u16, delivery: u8, received: &[u8]) -> bool
+    ensures { λ r. ⌜ r ≡ isDeliveredHere own delivery (now (received .entry)) ⌝ }
 {
-    if delivery == 0 {
-        if header.protocol == 1 {
-            if header.ack {
-                return Kind::Free;
-            }
-        }
+    if delivery != 0 {
+        return false;
+    }
+    if pdu::fault(received) != 0 {
+        return false;
+    }
+    is_for_this(own, pdu::header_of(received))
+}
+
+fn both(a: bool, b: bool) -> bool
+    ensures { λ r. ⌜ r ≡ (a && b) ⌝ }
+{
+    if a { b } else { false }
+}
+
+fn kind_for(due: bool, frees: bool) -> Kind
+    ensures { λ r. ⌜ r ≡ cond due Answer (cond frees Free Nothing) ⌝ }
+{
+    if due {
+        return Kind::Answer;
+    }
+    if frees {
+        return Kind::Free;
     }
     Kind::Nothing
+}
+
+fn names_for(due: bool, names: Names) -> Names
+    ensures { λ r. ⌜ r ≡ cond due names (exchanged names) ⌝ }
+{
+    if due {
+        return names;
+    }
+    retained::exchange(names)
 }
 
 fn early_number(due: bool, sending: Sending) -> u8
@@ -80,23 +118,14 @@ fn ack_length(sending: Sending, names: Names) -> usize
     if sending.with_path { 10 } else { 9 }
 }
 
-// What a PDU that a node heard asks of the table: to free the record that it acknowledges, or nothing. Document 02, W-210.
-pub fn ask_acknowledge(
-    last: u64,
-    delivery: u8,
-    sending: Sending,
-    room: usize,
-    received: &[u8],
-) -> Ask
-    ensures { λ r. ⌜ r ≡ askAcknowledge last delivery sending room (now (received .entry)) ⌝ }
+fn ask_for(due: bool, frees: bool, last: u64, sending: Sending, room: usize, names: Names) -> Ask
+    ensures { λ r. ⌜ r ≡ askFor due frees last sending room names ⌝ }
 {
-    let header = pdu::header_of(received);
-    let due = is_answered(delivery, header);
-    let kind = kind_for(delivery, header);
-    let known = retained::names_of(received);
-    let names = retained::exchange(known);
+    let length = ack_length(sending, names);
+    let kind = kind_for(due, frees);
     let early = early_number(due, sending);
-    let late = late_number(due, room, ack_length(sending, known));
+    let late = late_number(due, room, length);
+    let names = names_for(due, names);
     Ask {
         kind,
         early,
@@ -107,6 +136,7 @@ pub fn ask_acknowledge(
         tries: 0,
         room: 0,
         names,
+        length,
     }
 }
 
@@ -132,45 +162,50 @@ fn ack_header(sending: Sending, names: Names) -> Header
     }
 }
 
-fn responds(number: u8, due: bool, sending: Sending) -> bool
-    ensures { λ r. ⌜ r ≡ (eqb number 0 && (due && (leb (sending .«hop_limit») 7 && leb (sending .port) 15))) ⌝ }
+fn is_written(records: usize, due: bool, early: u8, late: u8) -> bool
+    ensures { λ r. ⌜ r ≡ isWritten records due early late ⌝ }
 {
-    if number != 0 {
-        return false;
-    }
     if !due {
         return false;
     }
-    if 7 < sending.hop_limit {
+    if early != 0 {
         return false;
     }
-    sending.port <= 15
+    if records != 16 {
+        return false;
+    }
+    late == 0
 }
 
-// Writes the acknowledgement where one is due and nothing was refused, and answers what was done. Document 02, W-210.
+// What a PDU that a node heard asks of a table of so many records: that the record which it acknowledges is freed, that it is said to be answered, or nothing.
+// Its acknowledgement is written where one is due and nothing is refused, at the start of the output. Document 02, W-210.
 pub fn respond(
     output: &mut [u8],
+    records: usize,
+    last: u64,
+    own: u16,
+    received: &[u8],
     delivery: u8,
     sending: Sending,
-    received: &[u8],
-    e: Effect,
-) -> Outcome
-    ensures { λ r. ⌜ (r ≡ response e delivery sending (now (received .entry)))
-        × (now (output .exit) ≡ responded e delivery sending (now (received .entry)) (now (output .entry))) ⌝ }
+) -> Ask
+    ensures { λ r. ⌜ (r ≡ askAcknowledge last own delivery sending (length (now (output .entry))) (now (received .entry)))
+        × (now (output .exit) ≡ outputAcknowledged records own delivery sending (now (received .entry)) (now (output .entry))) ⌝ }
 {
-    let outcome = e.outcome;
-    let due = is_answered(delivery, pdu::header_of(received));
-    if responds(outcome.number, due, sending) {
-        let names = retained::names_of(received);
+    let here = is_delivered(own, delivery, received);
+    let header = pdu::header_of(received);
+    let names = retained::names_of(received);
+    let due = both(here, !header.ack);
+    let ask = ask_for(
+        due,
+        both(here, header.ack),
+        last,
+        sending,
+        output.len(),
+        names,
+    );
+    if is_written(records, due, ask.early, ask.late) {
         writing::put_header(output, ack_header(sending, names));
-        return Outcome {
-            number: 0,
-            deed: 5,
-            last: outcome.last,
-            place: 0,
-            names,
-            length: ack_length(sending, names),
-        };
+        return ask;
     }
-    outcome
+    ask
 }

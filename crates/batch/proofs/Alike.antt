@@ -10,13 +10,14 @@ use Rattle.editions.specs.Editions.{known}
 use Rattle.decision.specs.Decision.{Node}
 use Rattle.node.specs.Answers.{nodeFault, taken}
 use Rattle.node.proofs.Alike.{Alike, alike-unread, alike-taken, alike-answer, alike-output}
-use Rattle.node.proofs.Editions.{withEdition, edition-alike}
+use Rattle.node.specs.Editions.{withEdition}
+use Rattle.node.proofs.Editions.{edition-alike}
 use Rattle.node.proofs.Choices.{SameChosen, chosen-alike}
 use Rattle.batch.specs.declared.Cursor.{Cursor}
 use Rattle.batch.specs.Walk.{batchLimit, isTooLong, stepOf, stepOutput, walkFrom, walk}
 
 module _ (a b : Node) (alike : Alike a b) where
-  long : (batch : List ℕ) → isTooLong (a .settings) batch ≡ isTooLong (b .settings) batch
+  long : (batch : List ℕ) → isTooLong (a .settings .edition) batch ≡ isTooLong (b .settings .edition) batch
   long batch = ap (λ (named : Bool). named && ltb batchLimit (length batch)) (alike .edition)
 
   pub alike-step : (room : ℕ) (batch : List ℕ) (cursor : Cursor) → stepOf a room batch cursor ≡ stepOf b room batch cursor

@@ -19,17 +19,18 @@ use Rattle.batch.proofs.Stepping.{not-too-long}
 use Rattle.batch.proofs.Walking.{walk-more}
 
 -- an edition that is not known is never told 54
-pub unknown-not-long : (node : Node) (batch : List ℕ) → known (node .settings .edition) ≡ false → isTooLong (node .settings) batch ≡ false
+pub unknown-not-long : (node : Node) (batch : List ℕ) → known (node .settings .edition) ≡ false → isTooLong (node .settings .edition) batch ≡ false
 unknown-not-long node batch e = ap (λ (named : Bool). named && ltb batchLimit (length batch)) e
 
 -- a step at a cursor that is done, with a fault or without one
-pub done-step : (node : Node) (room : ℕ) (batch : List ℕ) (cursor : Cursor) (output : List ℕ) → isTooLong (node .settings) batch ≡ false
+pub done-step : (node : Node) (room : ℕ) (batch : List ℕ) (cursor : Cursor) (output : List ℕ) → isTooLong (node .settings .edition) batch ≡ false
     → isDone batch cursor ≡ true
     → (stepOf node room batch cursor ≡ Ended) × (stepOutput node batch cursor output ≡ output)
 unfolding stepOf stepOutput
 done-step node room batch cursor output short done = rw (short, done) (refl, refl)
 
-module _ (node : Node) (n : ℕ) (some : n ≡ 0 → ⊥) (fault : nodeFault node ≡ n) (batch : List ℕ) (short : isTooLong (node .settings) batch ≡ false) where
+module _ (node : Node) (n : ℕ) (some : n ≡ 0 → ⊥) (fault : nodeFault node ≡ n) (batch : List ℕ)
+    (short : isTooLong (node .settings .edition) batch ≡ false) where
   pub fault-step : (room : ℕ) (cursor : Cursor) → isDone batch cursor ≡ false
       → stepOf node room batch cursor ≡ Answered (twice n 0 Unknown) (record { place = cursor .place; ended = true })
   unfolding stepOf
@@ -41,7 +42,7 @@ module _ (node : Node) (n : ℕ) (some : n ≡ 0 → ⊥) (fault : nodeFault nod
 
   pub fault-step-output : (cursor : Cursor) (output : List ℕ) → stepOutput node batch cursor output ≡ output
   unfolding stepOutput
-  fault-step-output cursor output = go (isTooLong (node .settings) batch || isDone batch cursor)
+  fault-step-output cursor output = go (isTooLong (node .settings .edition) batch || isDone batch cursor)
     where
       go : (t : Bool) → cond t output (outputAfter node (drop (cursor .place) batch) output) ≡ output
       go true = refl
@@ -49,7 +50,7 @@ module _ (node : Node) (n : ℕ) (some : n ≡ 0 → ⊥) (fault : nodeFault nod
 
 -- a walk: the one answer, at the first byte; an empty batch has none
 module _ (node : Node) (n : ℕ) (some : n ≡ 0 → ⊥) (fault : nodeFault node ≡ n) (room byte : ℕ) (bytes : List ℕ)
-    (short : isTooLong (node .settings) (byte ∷ bytes) ≡ false) where
+    (short : isTooLong (node .settings .edition) (byte ∷ bytes) ≡ false) where
   pub fault-walk : walk node room (byte ∷ bytes) ≡ record { number = 0; offsets = 0 ∷ []; answers = twice n 0 Unknown ∷ []; end = 0 }
   unfolding walk
   fault-walk =

@@ -51,16 +51,16 @@ taken-within node bytes = go (eqb (nodeOrReadingFault node bytes) 0) refl
     go false e = record { within = rw e (omega arith); ended = rw e }
 
 -- a batch within the size limit is not too long, under any edition
-pub not-too-long : (node : Node) (batch : List ℕ) → length batch ≤ batchLimit → isTooLong (node .settings) batch ≡ false
+pub not-too-long : (node : Node) (batch : List ℕ) → length batch ≤ batchLimit → isTooLong (node .settings .edition) batch ≡ false
 not-too-long node batch short = rw (le-ltb batchLimit (length batch) short) (and-false (known (node .settings .edition)))
 
 -- a step's outcome, from the tests that led there
 module _ (node : Node) (batch output : List ℕ) (cursor : Cursor) where
-  pub too-long : isTooLong (node .settings) batch ≡ true → Steps node batch cursor output TooLong output
+  pub too-long : isTooLong (node .settings .edition) batch ≡ true → Steps node batch cursor output TooLong output
   unfolding stepOf stepOutput
   too-long h = rw h (refl, refl)
 
-  module _ (short : isTooLong (node .settings) batch ≡ false) where
+  module _ (short : isTooLong (node .settings .edition) batch ≡ false) where
     done : isDone batch cursor ≡ true → Steps node batch cursor output Ended output
     unfolding stepOf stepOutput
     done e = rw (short, e) (refl, refl)

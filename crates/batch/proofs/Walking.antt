@@ -54,7 +54,7 @@ module _ (node : Node) (room : ℕ) (batch : List ℕ) where
   not-taken offset e =
       omega (arith, eqb-true (taken node (drop offset batch)) 0 (taken-within node (drop offset batch) .ended ∙ ap not e))
 
-  module _ (short : isTooLong (node .settings) batch ≡ false) where
+  module _ (short : isTooLong (node .settings .edition) batch ≡ false) where
     step-ended : (cursor : Cursor) → isDone batch cursor ≡ true → stepOf node room batch cursor ≡ Ended
     unfolding stepOf
     step-ended cursor e = rw (short, e)
@@ -157,16 +157,16 @@ module _ (node : Node) (room : ℕ) (batch : List ℕ) where
       at-end false e below = rw (walk-more n offset e) (after (eqb (nodeOrReadingFault node (drop offset batch)) 0) refl below)
 
   -- stepping from the start, with as many steps as the batch has bytes, gives exactly the walk
-  refused : isTooLong (node .settings) batch ≡ true → (n : ℕ) → 0 < n → steps node room batch n (running 0) ≡ endingAt 54 0
+  refused : isTooLong (node .settings .edition) batch ≡ true → (n : ℕ) → 0 < n → steps node room batch n (running 0) ≡ endingAt 54 0
   unfolding steps stepOf
   refused e zero p = absurd (omega arith)
   refused e (suc n) p = simp e
 
   pub stepping-walks : steps node room batch (length batch) (running 0) ≡ walk node room batch
   unfolding walk
-  stepping-walks = go (isTooLong (node .settings) batch) refl
+  stepping-walks = go (isTooLong (node .settings .edition) batch) refl
     where
-      go : (t : Bool) → isTooLong (node .settings) batch ≡ t
+      go : (t : Bool) → isTooLong (node .settings .edition) batch ≡ t
           → steps node room batch (length batch) (running 0) ≡ cond t (endingAt 54 0) (walkFrom (length batch) node room batch 0)
       go true e =
           let long = both (known (node .settings .edition)) (ltb batchLimit (length batch)) e .1 in

@@ -7,7 +7,6 @@ use lib.Dec.{eqb, ltb, leb}
 use lib.ListN.{length, drop}
 use Rattle.editions.specs.Editions.{known}
 use Rattle.node.specs.declared.Answer.{Answer}
-use Rattle.decision.specs.declared.Settings.{Settings}
 use Rattle.decision.specs.Decision.{Node}
 use Rattle.node.specs.Answers.{nodeOrReadingFault, taken, answerOf, outputAfter}
 use Rattle.batch.specs.declared.Cursor.{Cursor}
@@ -21,8 +20,8 @@ abbrev pub batchLimit : ℕ
 batchLimit = 16384
 
 -- a batch over the size limit is answered 54 alone; 17 comes before it (W-209)
-abbrev pub isTooLong : Settings → List ℕ → Bool
-isTooLong settings batch = known (settings .edition) && ltb batchLimit (length batch)
+abbrev pub isTooLong : ℕ → List ℕ → Bool
+isTooLong edition batch = known edition && ltb batchLimit (length batch)
 
 -- no bytes are left at the cursor, or the walk has ended
 abbrev pub isDone : List ℕ → Cursor → Bool
@@ -36,14 +35,14 @@ nextCursor node batch place =
 -- one step of the walk
 unfoldable pub stepOf : Node → ℕ → List ℕ → Cursor → Stepped
 stepOf node room batch cursor =
-    cond (isTooLong (node .settings) batch) TooLong
+    cond (isTooLong (node .settings .edition) batch) TooLong
     (cond (isDone batch cursor) Ended
     (Answered (answerOf node room (drop (cursor .place) batch)) (nextCursor node batch (cursor .place))))
 
 -- what the step leaves in the output: what the node leaves there
 unfoldable pub stepOutput : Node → List ℕ → Cursor → List ℕ → List ℕ
 stepOutput node batch cursor output =
-    cond (isTooLong (node .settings) batch || isDone batch cursor) output (outputAfter node (drop (cursor .place) batch) output)
+    cond (isTooLong (node .settings .edition) batch || isDone batch cursor) output (outputAfter node (drop (cursor .place) batch) output)
 
 -- what a step answers and leaves in the output
 abbrev pub Steps : Node → List ℕ → Cursor → List ℕ → Stepped → List ℕ → Type 0
@@ -84,7 +83,7 @@ walkFrom (suc turns) node room batch offset =
 
 -- the walk of a batch; a PDU takes at least 6 bytes, so there are no more answers than bytes
 unfoldable pub walk : Node → ℕ → List ℕ → Walk
-walk node room batch = cond (isTooLong (node .settings) batch) (endingAt 54 0) (walkFrom (length batch) node room batch 0)
+walk node room batch = cond (isTooLong (node .settings .edition) batch) (endingAt 54 0) (walkFrom (length batch) node room batch 0)
 
 -- a walk from one step's answer on: the rest of it is what the next cursor gives
 abbrev pub continued : Stepped → ℕ → (Cursor → Walk) → Walk

@@ -56,7 +56,7 @@ pub fn step(
     ensures { λ r. ⌜ Steps (nodeOf settings (listsIn (now (lists .entry)))) (now (batch .entry)) cursor (now (output .entry)) r (now (output .exit)) ⌝ }
 {
     let place = cursor.place;
-    if is_too_long(settings, &batch[..]) {
+    if is_too_long(settings.edition, &batch[..]) {
         return Stepped::TooLong;
     }
     if cursor.ended {
@@ -73,10 +73,11 @@ pub fn step(
     Stepped::Answered(answer, next)
 }
 
-fn is_too_long(settings: Settings, batch: &[u8]) -> bool
-    ensures { λ r. ⌜ r ≡ isTooLong settings (now (batch .entry)) ⌝ }
+// Whether a batch is refused with 54: it is over the size limit, and the edition is known, since 17 comes before. Document 01, "A batch"; document 02, W-209.
+pub fn is_too_long(edition: u64, batch: &[u8]) -> bool
+    ensures { λ r. ⌜ r ≡ isTooLong edition (now (batch .entry)) ⌝ }
 {
-    if editions::is_known(settings.edition) {
+    if editions::is_known(edition) {
         Cursor::BATCH_LIMIT < batch.len()
     } else {
         false

@@ -30,17 +30,24 @@ use Rattle.origin.specs.declared.FreshSettings.{FreshSettings}
 use Rattle.node.specs.declared.Answer.{Answer}
 use Rattle.node.specs.Answers.{answerOf, twice, outputAfter}
 use Rattle.batch.specs.declared.Cursor.{Cursor}
+use Rattle.batch.specs.declared.Numbers.{Numbers}
+use Rattle.batch.specs.declared.Numbers.the-variants.{Two, Alone, NoAnswer}
 use Rattle.batch.specs.declared.Stepped.{Stepped}
 use Rattle.batch.specs.declared.Stepped.the-variants.{TooLong, Ended, Answered}
-use Rattle.batch.specs.Walk.{batchLimit, stepOf, stepOutput}
+use Rattle.batch.specs.Walk.{batchLimit, stepOf, stepOutput, numbersOf}
 use Rattle.listening.specs.Listening.{answerNumber, memoryAfterAnswer}
+use Rattle.retained.specs.declared.Retained.{Retained}
+use Rattle.answering.specs.declared.Sending.{Sending}
+use Rattle.answering.specs.Hearing.{outcomeHeard, tableHeard, outputHeard}
 use Rattle.bound.specs.declared.Bound.{Bound}
 use Rattle.bound.specs.declared.Bound.the-variants.{Exactly, TooLarge, HopRefused}
+use Rattle.bound.specs.Answer.{boundNumber}
 use Rattle.boundary.specs.declared.reading.MantHeader.{MantHeader}
 use Rattle.boundary.specs.declared.originating.MantFresh.{MantFresh}
 use Rattle.boundary.specs.declared.a_node.MantNode.{MantNode}
 use Rattle.boundary.specs.declared.a_node.MantAnswer.{MantAnswer}
 use Rattle.boundary.specs.declared.a_node.MantListened.{MantListened}
+use Rattle.boundary.specs.declared.a_node.MantHeardReliably.{MantHeardReliably}
 use Rattle.boundary.specs.declared.a_walk.MantStep.{MantStep}
 use Rattle.boundary.specs.declared.planning.MantBound.{MantBound}
 use Rattle.boundary.specs.declared.planning.MantLimits.{MantLimits}
@@ -204,15 +211,28 @@ ListensInC node received output memory listened left after =
     × (listened .«table_number» ≡ answerNumber (answerOf node (length output) received) received memory)
     × (after ≡ memoryAfterAnswer (answerOf node (length output) received) received memory)
 
--- a walk that ends has no answer and so no number; C's two fields for numbers are there all the same, and hold 255, which 01 gives to nothing
-abbrev pub noNumber : ℕ
-noNumber = 255
+-- and where it frees a retained PDU or is acknowledged (document 02, W-210)
+abbrev pub HearsReliablyInC : Node → List Retained → ℕ → Sending → List ℕ → List ℕ → MantHeardReliably → List Retained → List ℕ → Type 0
+HearsReliablyInC node table last sending received output heard after left =
+    (heard .answer ≡ answerInC (answerOf node (length output) received))
+    × (heard .outcome ≡ outcomeHeard node table last sending (length output) received)
+    × (after ≡ tableHeard node table sending (length output) received)
+    × (left ≡ outputHeard node (length table) sending received output)
 
--- a step ("A batch"): kind 0 with an answer; 1 where the walk ends with no answer; 2 with 54 alone. After 1 and 2 the cursor stays and has ended
+-- what C's two fields for numbers hold after a step without a PDU's answer: the number that it gives alone, or 255, which 01 gives to nothing. A PDU's two
+-- numbers are its answer's, and are not asked for here
+abbrev pub aloneInC : Numbers → ℕ
+aloneInC (Alone number) = number
+aloneInC NoAnswer = 255
+aloneInC (Two delivery repeat) = 255
+
+-- a step ("A batch"): kind 0 with a PDU's answer; 1 where the walk ends with no answer; 2 with a number alone. After 1 and 2 the cursor stays and has ended
 abbrev pub stepInC : Cursor → Stepped → MantStep
 stepInC cursor (Answered answer next) = record { kind = 0; answer = answerInC answer; next = next }
-stepInC cursor Ended = record { kind = 1; answer = answerInC (twice noNumber 0 Unknown); next = record { place = cursor .place; ended = true } }
-stepInC cursor TooLong = record { kind = 2; answer = answerInC (twice 54 0 Unknown); next = record { place = cursor .place; ended = true } }
+stepInC cursor Ended =
+    record { kind = 1; answer = answerInC (twice (aloneInC (numbersOf Ended)) 0 Unknown); next = record { place = cursor .place; ended = true } }
+stepInC cursor TooLong =
+    record { kind = 2; answer = answerInC (twice (aloneInC (numbersOf TooLong)) 0 Unknown); next = record { place = cursor .place; ended = true } }
 
 -- what a step answers and leaves in the output
 abbrev pub StepsInC : Node → List ℕ → Cursor → List ℕ → MantStep → List ℕ → Type 0
@@ -221,9 +241,9 @@ StepsInC node batch cursor output step left =
 
 -- a bound: the value, that it is too large, or number 10 ("Numbers answered"); the value is 0 where there is none
 abbrev pub boundInC : Bound → MantBound
-boundInC (Exactly value) = record { number = 0; «too_large» = false; value = value }
-boundInC TooLarge = record { number = 0; «too_large» = true; value = 0 }
-boundInC HopRefused = record { number = 10; «too_large» = false; value = 0 }
+boundInC (Exactly value) = record { number = boundNumber (Exactly value); «too_large» = false; value = value }
+boundInC TooLarge = record { number = boundNumber TooLarge; «too_large» = true; value = 0 }
+boundInC HopRefused = record { number = boundNumber HopRefused; «too_large» = false; value = 0 }
 
 -- "Sizes"; a list of 64 ranges has 128 values ("Numbers answered", 22)
 abbrev pub limitsInC : MantLimits

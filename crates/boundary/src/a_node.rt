@@ -3,6 +3,7 @@ use decision::Choice;
 use decision::Settings;
 use node::Answer;
 use pdu::Sender;
+use retained::Outcome;
 ghost use mathlib.Core.Path.{_≡_};
 ghost use Rattle.boundary.specs.Boundary.{choiceFromC, nodeFromC, hasSender, senderAddress, senderFromC, answerInC, answerFromC};
 
@@ -40,6 +41,13 @@ pub struct MantAnswer {
 pub struct MantListened {
     pub answer: MantAnswer,
     pub table_number: u8,
+}
+
+// The node's answer for a PDU, and what was done by it in a table of retained PDUs and in the output.
+#[repr(C)]
+pub struct MantHeardReliably {
+    pub answer: MantAnswer,
+    pub outcome: Outcome,
 }
 
 fn choice_from_c(number: u8) -> Choice

@@ -6,6 +6,7 @@ pub mod planning;
 pub mod reading;
 
 pub use a_node::MantAnswer;
+pub use a_node::MantHeardReliably;
 pub use a_node::MantListened;
 pub use a_node::MantNode;
 pub use a_node::answer_from_c;

@@ -4,4 +4,5 @@ pub mod Rounds
 pub mod Noting
 pub mod Finding
 pub mod Reaching
+pub mod Hops
 pub mod Outcomes

@@ -116,7 +116,8 @@ pub fn is_delivered(hop_limit: u8, length: u8) -> bool
     length - 1 <= hop_limit
 }
 
-// How many nodes other than the originator are not delivered a report with that hop limit. Document 02, W-208.
+// How many nodes other than the originator are not delivered a report with that hop limit. Meant for hop limits from 0 to 6; any is answered. Document 02,
+// W-208.
 pub fn missed(hop_limit: u8, lengths: &[u8]) -> usize
     ensures { λ r. ⌜ r ≡ missed «hop_limit» (now (lengths .entry)) ⌝ }
 {

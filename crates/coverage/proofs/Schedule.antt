@@ -203,3 +203,19 @@ taken-exists hears nodes all first begins =
     flood-bounded (onHearing hears nodes) address (sourceOf first) (Sound first) pathOf hopOf nodes first heard (rounds (length nodes) most)
     (rounds-once (length nodes) most) .few in
     (heardOnly hears nodes first most, rounds-taken hears nodes first most few, rounds-only hears nodes first most few)
+
+-- what is taken by all that hear it is taken by all of fewer
+pub more-heard : (hears known-hears : ℕ → ℕ → Bool) → ((sender node : ℕ) → known-hears sender node ≡ true → hears sender node ≡ true)
+    → (nodes : List Repeater) (first : List ℕ) (receptions : List Reception)
+    → TakenByAll hears nodes first receptions → TakenByAll known-hears nodes first receptions
+more-heard hears known-hears more nodes first receptions taken =
+    record {
+      once = taken .once;
+      by-all = λ reception known. taken .by-all reception (record {
+        node = known .node;
+        node-at = known .node-at;
+        sent = known .sent;
+        sent-at = known .sent-at;
+        hears-sender = more (senderOf (known .sent)) (address (known .node)) (known .hears-sender);
+      });
+    }

@@ -100,7 +100,8 @@ module _ (hears : ℕ → ℕ → Bool) (nodes : List Repeater) (settings : Fres
         (λ t. absurd (omega (arith, t .0)))
         tells
 
-    not-told : ByNoOther hears nodes (fresh settings payload) receptions → Tells pairs (length addresses) from place value → isDelivered (settings .«hop_limit») value ≡ false
+    not-told : ByNoOther hears nodes (fresh settings payload) receptions → Tells pairs (length addresses) from place value
+        → isDelivered (settings .«hop_limit») value ≡ false
         → (what : List ℕ) (count : ℕ) → ¬ Delivered nodes (fresh settings payload) receptions n what count
     not-told only tells e =
         ⊎-elim

@@ -1,6 +1,6 @@
 -- The one search and decision, asked to retain or to step, with what is done then, is what the table's definitions say.
 use native.Mathlib.Omega.{arith}
-use mathlib.Core.Path.{_≡_, refl, sym, _∙_, ap}
+use mathlib.Core.Path.{_≡_, refl, sym, _∙_, ap, ap₂}
 use Prim.Native.Nat.{ℕ, _+_, _≤_}
 use mathlib.Core.Bool.{Bool, true, false, not, cond, _&&_}
 use mathlib.Core.List.{List}
@@ -8,7 +8,7 @@ use lib.Dec.{eqb, ltb}
 use lib.ListN.{length, set, length-take}
 use lib.Seq.{set-out}
 use native.Mathlib.Nat.{le-refl, le-trans}
-use borrow.Author.Tests.{ltb-false, eqb-true}
+use borrow.Author.Tests.{ltb-false, eqb-true, eqb-false}
 use Rattle.octets.specs.Numbers.{_gives_, _orElse_}
 use Rattle.octets.specs.Octets.{over}
 use Rattle.octets.proofs.Numbering.{orElse-zero, gives-zero}
@@ -16,20 +16,75 @@ use Rattle.octets.proofs.Placing.{placed-start}
 use Rattle.retained.specs.declared.Retained.{Retained}
 use Rattle.retained.specs.declared.Seek.{Seek}
 use Rattle.retained.specs.declared.Outcome.{Outcome}
+use Rattle.deciding.specs.declared.Kind.{Kind}
+use Rattle.deciding.specs.declared.Kind.the-variants.{Retain, Step, Free, Answer, Nothing}
 use Rattle.deciding.specs.declared.Ask.{Ask}
 use Rattle.deciding.specs.declared.Effect.{Effect}
 use Rattle.retained.specs.Records.{isDue, pduOf, namesOf, retainedRecord, sentRecord, freedRecord}
-use Rattle.retained.specs.Table.{has, recordAt, due, isSpent, numberAlone, did, sent, failed}
+use Rattle.retained.specs.Table.{tableSize, has, recordAt, due, isSpent, numberAlone, did, sent, failed}
 use Rattle.retained.specs.Table.{retainNumber, retain, tableRetained, stepNumber, retryStep, tableStepped, outputStepped}
-use Rattle.retained.specs.Searching.{scanOf, seekBegun}
+use Rattle.retained.specs.Searching.{scanOf, seekBegun, foundIn}
 use Rattle.retained.proofs.Found.{scan-found}
-use Rattle.deciding.specs.Deciding.{decideNumber, stays, changes, decideOf, effectOn, askRetain, askStep, leftOf, emitted, tableResent, outputResent}
+use Rattle.deciding.specs.Deciding.{kindNumber, decideNumber, stays, changes, effectOf, decideOf, isSought, looksAt, effectOn, askRetain, askStep}
+use Rattle.deciding.specs.Deciding.{leftOf, emitted, tableResent, outputResent}
+use Rattle.deciding.proofs.Laws.{number-early, number-74, decide-refuses}
 
 -- the decision on what the search found is the one on the table
 pub searched : (a : Ask) (table : List Retained) (t s : Seek) (e : Effect) → t ≡ seekBegun (a .names) (a .time) (a .delay) (length table)
     → s ≡ scanOf 0 table t → e ≡ decideOf a s → e ≡ effectOn a table
 unfolding effectOn
 searched a table t s e p q r = r ∙ ap (decideOf a) (q ∙ ap (scanOf 0 table) p ∙ scan-found table (a .names) (a .time) (a .delay))
+
+never : {A : Type 0} → true ≡ false → A
+never e = absurd (let z : _≡_ {A = ℕ} 0 1 = cc in omega arith)
+
+-- where no record is looked at, so is the decision on a search that has not begun
+module _ (a : Ask) (table : List Retained) where
+  abbrev t : Seek
+  t = seekBegun (a .names) (a .time) (a .delay) (length table)
+
+  abbrev s : Seek
+  s = foundIn table (a .names) (a .time) (a .delay)
+
+  same-number : (k : Kind) → isSought k ≡ false → kindNumber k a t ≡ kindNumber k a s
+  same-number Retain e = never e
+  same-number Step e = never e
+  same-number Free e = never e
+  same-number Answer e = refl
+  same-number Nothing e = refl
+
+  same-effect : (k : Kind) → isSought k ≡ false → effectOf k a t ≡ effectOf k a s
+  same-effect Retain e = never e
+  same-effect Step e = never e
+  same-effect Free e = never e
+  same-effect Answer e = refl
+  same-effect Nothing e = refl
+
+  -- another number of records
+  other : (length table ≡ 16 → ⊥) → (b : Bool) → eqb (a .early) 0 ≡ b → decideOf a t ≡ decideOf a s
+  other f true e =
+      let early = eqb-true (a .early) 0 e in
+      sym (decide-refuses a t 74 (number-74 a t early f) (λ z. absurd (omega arith))) ∙ decide-refuses a s 74 (number-74 a s early f) (λ z. absurd (omega arith))
+  other f false e =
+      let early = eqb-false (a .early) 0 e in
+      sym (decide-refuses a t (a .early) (number-early a t early) early) ∙ decide-refuses a s (a .early) (number-early a s early) early
+
+  nothing-sought : isSought (a .kind) ≡ false → decideOf a t ≡ decideOf a s
+  unfolding decideOf decideNumber
+  nothing-sought e = ap₂ decided (same-number (a .kind) e) (same-effect (a .kind) e)
+    where
+      decided : ℕ → Effect → Effect
+      decided n x =
+          let number = a .early orElse (not (eqb (length table) tableSize) gives 74 orElse (ltb (a .time) (a .last) gives 73 orElse (a .late orElse n))) in
+          cond (eqb number 0) x (stays number (a .last) (length table))
+
+  pub unsought : (begun : Seek) (e : Effect) → begun ≡ t → looksAt a (length table) ≡ false → e ≡ decideOf a begun → e ≡ effectOn a table
+  unfolding effectOn
+  unsought begun e p l q = q ∙ ap (decideOf a) p ∙ by (eqb (length table) 16) refl
+    where
+      by : (b : Bool) → eqb (length table) 16 ≡ b → decideOf a t ≡ decideOf a s
+      by false f = other (eqb-false (length table) 16 f) (eqb (a .early) 0) refl
+      by true f = nothing-sought (sym (ap (λ (b : Bool). b && isSought (a .kind)) f) ∙ l)
 
 outcome-of : (b : Bool) (x y : Effect) → cond b x y .outcome ≡ cond b (x .outcome) (y .outcome)
 outcome-of true x y = refl

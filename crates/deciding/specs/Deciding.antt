@@ -1,6 +1,6 @@
 -- Only for the functions that the three operations are put together from: one decision on what the search found.
 use Prim.Native.Nat.{ℕ, _+_}
-use mathlib.Core.Bool.{not, cond, _&&_}
+use mathlib.Core.Bool.{Bool, true, false, not, cond, _&&_}
 use mathlib.Core.List.{List}
 use lib.Dec.{eqb, ltb}
 use lib.ListN.{length, set}
@@ -10,11 +10,11 @@ use Rattle.retained.specs.declared.Retained.{Retained}
 use Rattle.retained.specs.declared.Seek.{Seek}
 use Rattle.retained.specs.declared.Outcome.{Outcome}
 use Rattle.deciding.specs.declared.Kind.{Kind}
-use Rattle.deciding.specs.declared.Kind.the-variants.{Retain, Step, Free, Nothing}
+use Rattle.deciding.specs.declared.Kind.the-variants.{Retain, Step, Free, Answer, Nothing}
 use Rattle.deciding.specs.declared.Ask.{Ask}
 use Rattle.deciding.specs.declared.Effect.{Effect}
 use Rattle.retained.specs.Records.{unfit, pduOf, namesOf, freedRecord}
-use Rattle.retained.specs.Table.{tableSize, recordAt, isSpent, kept, sent, failed, freed, noNames, numberAlone, did}
+use Rattle.retained.specs.Table.{tableSize, recordAt, isSpent, kept, sent, failed, freed, answered, noNames, numberAlone, did}
 use Rattle.retained.specs.Searching.{foundIn}
 
 -- the refusals in 02's order: 10 and 11 before the table is looked at, 74, 73, then `late`, which is 75 or 72 of a PDU to retain and 77 of a PDU heard,
@@ -23,6 +23,7 @@ abbrev pub kindNumber : Kind → Ask → Seek → ℕ
 kindNumber Retain a s = ltb (s .named) (s .count) gives 71 orElse not (ltb (s .free) (s .count)) gives 70
 kindNumber Step a s = (ltb (s .due) (s .count) && (not (isSpent (s .found .count) (a .tries)) && ltb (a .room) (s .found .length))) gives 77
 kindNumber Free a s = 0
+kindNumber Answer a s = 0
 kindNumber Nothing a s = 0
 
 unfoldable pub decideNumber : Ask → Seek → ℕ
@@ -51,10 +52,22 @@ effectOf Step a s =
 effectOf Free a s =
     cond (ltb (s .named) (s .count)) (changes (s .named) 0 (did freed (a .time) (s .named) (a .names) 0))
     (stays 0 (a .time) (s .count))
+effectOf Answer a s = record { place = s .count; count = 0; outcome = did answered (a .time) 0 (a .names) (a .length) }
 effectOf Nothing a s = stays 0 (a .time) (s .count)
 
 unfoldable pub decideOf : Ask → Seek → Effect
 decideOf a s = cond (eqb (decideNumber a s) 0) (effectOf (a .kind) a s) (stays (decideNumber a s) (a .last) (s .count))
+
+-- whether records are looked at: only where there are 16, and where something is sought in them
+abbrev pub isSought : Kind → Bool
+isSought Retain = true
+isSought Step = true
+isSought Free = true
+isSought Answer = false
+isSought Nothing = false
+
+abbrev pub looksAt : Ask → ℕ → Bool
+looksAt a count = eqb count tableSize && isSought (a .kind)
 
 -- the same on a table
 unfoldable pub effectOn : Ask → List Retained → Effect
@@ -73,6 +86,7 @@ askRetain last time bytes =
       delay = 0;
       tries = 0;
       room = 0;
+      length = 0;
     }
 
 abbrev pub askStep : ℕ → ℕ → ℕ → ℕ → ℕ → Ask
@@ -87,6 +101,7 @@ askStep last time delay tries room =
       delay = delay;
       tries = tries;
       room = room;
+      length = 0;
     }
 
 -- what a step leaves of the record at its effect's place, and in the output: sent again, at the output's start, or dropped
@@ -103,3 +118,7 @@ tableResent e table = set table (e .place) (leftOf e (recordAt table (e .place))
 
 abbrev pub outputResent : Effect → List Retained → List ℕ → List ℕ
 outputResent e table output = cond (ltb (e .place) (length table)) (emitted e (recordAt table (e .place)) output) output
+
+-- a record is freed at that place
+abbrev pub tableFreed : Effect → List Retained → List Retained
+tableFreed e table = set table (e .place) freedRecord

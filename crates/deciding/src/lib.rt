@@ -7,18 +7,19 @@ use retained::Seen;
 ghost use mathlib.Core.Path.{_≡_};
 ghost use Rattle.retained.specs.Table.{did};
 ghost use Rattle.retained.specs.Searching.{seekBegun};
-ghost use Rattle.deciding.specs.Deciding.{kindNumber, decideNumber, stays, changes, effectOf, decideOf, askRetain, askStep, emitted, leftOf};
-ghost use Rattle.deciding.specs.declared.Kind.the-variants.{Retain, Step, Free};
+ghost use Rattle.deciding.specs.Deciding.{kindNumber, decideNumber, stays, changes, effectOf, decideOf, askRetain, askStep, emitted, leftOf, isSought, looksAt};
+ghost use Rattle.deciding.specs.declared.Kind.the-variants.{Retain, Step, Free, Answer};
 
 // What is asked of a table.
 pub enum Kind {
     Retain,
     Step,
     Free,
+    Answer,
     Nothing,
 }
 
-// `early` is a refusal that comes before the table is looked at, `late` one that comes after 74 and 73; 0 for none.
+// `early` is a refusal that comes before the table is looked at, `late` one that comes after 74 and 73; 0 for none. `length` is the length of an answer.
 pub struct Ask {
     pub kind: Kind,
     pub early: u8,
@@ -29,6 +30,7 @@ pub struct Ask {
     pub tries: u64,
     pub room: usize,
     pub names: Names,
+    pub length: usize,
 }
 
 // What is to be done to the record at `place`, and the count that it then has; nothing, where there is no such place.
@@ -54,6 +56,7 @@ pub fn ask_retain(last: u64, time: u64, bytes: &[u8]) -> Ask
         tries: 0,
         room: 0,
         names,
+        length: 0,
     }
 }
 
@@ -72,6 +75,7 @@ pub fn ask_step(last: u64, time: u64, delay: u64, tries: u64, room: usize) -> As
         tries,
         room,
         names,
+        length: 0,
     }
 }
 
@@ -104,6 +108,29 @@ pub fn begin_for(a: Ask, count: usize) -> Seek
         named: count,
         due: count,
         found,
+    }
+}
+
+// Whether records are looked at: only where there are 16, and where something is sought in them. Document 02, W-210.
+pub fn looks(a: Ask, count: usize) -> bool
+    ensures { λ r. ⌜ r ≡ looksAt a count ⌝ }
+{
+    if count != 16 {
+        return false;
+    }
+    let kind = a.kind;
+    is_sought(kind)
+}
+
+fn is_sought(kind: Kind) -> bool
+    ensures { λ r. ⌜ r ≡ isSought kind ⌝ }
+{
+    match kind {
+        Kind::Retain => true,
+        Kind::Step => true,
+        Kind::Free => true,
+        Kind::Answer => false,
+        Kind::Nothing => false,
     }
 }
 
@@ -144,6 +171,7 @@ fn kind_number(a: Ask, s: Seek) -> u8
         Kind::Retain => retain_number(a, s),
         Kind::Step => step_number(a, s),
         Kind::Free => 0,
+        Kind::Answer => 0,
         Kind::Nothing => 0,
     }
 }
@@ -182,6 +210,7 @@ fn effect_of(a: Ask, s: Seek) -> Effect
         Kind::Retain => retain_effect(a, s),
         Kind::Step => step_effect(a, s),
         Kind::Free => free_effect(a, s),
+        Kind::Answer => answer_effect(a, s),
         Kind::Nothing => unchanged(0, a.time, s.count),
     }
 }
@@ -215,6 +244,25 @@ fn free_effect(a: Ask, s: Seek) -> Effect
         return changed(s.named, 0, 4, a.time, names, 0);
     }
     unchanged(0, a.time, s.count)
+}
+
+fn answer_effect(a: Ask, s: Seek) -> Effect
+    ensures { λ r. ⌜ r ≡ effectOf Answer a s ⌝ }
+{
+    let names = a.names;
+    let outcome = Outcome {
+        number: 0,
+        deed: 5,
+        last: a.time,
+        place: 0,
+        names,
+        length: a.length,
+    };
+    Effect {
+        place: s.count,
+        count: 0,
+        outcome,
+    }
 }
 
 fn changed(place: usize, count: u64, deed: u8, last: u64, names: Names, length: usize) -> Effect

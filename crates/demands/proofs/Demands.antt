@@ -1,17 +1,14 @@
 -- The three demands, each from its parts.
-use Prim.Native.Nat.{ℕ, _≤_, _<_}
+use Prim.Native.Nat.{ℕ, _^_, _≤_, _<_}
 use native.Mathlib.Omega.{arith}
-use mathlib.Core.Bool.{Bool, true, false, not, cond, _||_}
+use mathlib.Core.Bool.{Bool, true, false, cond, _||_}
 use mathlib.Core.List.{List, [], _∷_, _++_, map}
-use mathlib.Core.Logic.{_≢_, _⊎_}
+use mathlib.Core.Logic.{_⊎_}
 use mathlib.Core.Path.{_≡_, refl, ap, sym, _∙_}
-use lib.Dec.{eqb, ltb}
+use lib.Dec.{ltb}
 use lib.ListN.{length, take, drop}
-use borrow.Author.Tests.{ne-eqb, eqb-false, le-ltb}
+use borrow.Author.Tests.{ne-eqb, lt-ltb, le-ltb}
 use Rattle.octets.specs.Octets.{AllBytes, over}
-use Rattle.octets.proofs.Tests.{both}
-use Rattle.pdu.specs.declared.Destination.{Destination}
-use Rattle.pdu.specs.declared.Destination.the-variants.{Everyone, Address}
 use Rattle.pdu.specs.declared.Header.{Header}
 use Rattle.pdu.specs.declared.Reading.{Reading}
 use Rattle.pdu.specs.declared.Reading.the-variants.{Pdu, Refused}
@@ -24,6 +21,7 @@ use Rattle.pdu.proofs.Number.{refusal-within}
 use Rattle.pdu.specs.Parts.{pathIn, payloadIn}
 use Rattle.writing.specs.Writing.{encode, writtenOf, outputOf, writeAgain, writtenAgain}
 use Rattle.editions.specs.Editions.{known}
+use Rattle.view.proofs.Opened.{opened-summary, opened-address, opened-has}
 use Rattle.origin.specs.declared.FreshSettings.{FreshSettings}
 use Rattle.origin.specs.Origination.{settingsFault, originationNumber, originated, originatedOutput}
 use Rattle.lists.specs.Lists.{listFault}
@@ -45,8 +43,9 @@ use Rattle.node.proofs.Heard.{repeats, delivered-part}
 use Rattle.node.proofs.Repeating.{ready}
 use Rattle.node.proofs.Encoded.{alone-reads, alone-path, alone-payload, repeat-short}
 use Rattle.batch.proofs.Walking as walking
+use Rattle.bound.specs.Answer.{within64Bits, boundAnswer}
+use Rattle.boundary.specs.Boundary.{boundInC}
 use Rattle.bound.proofs.Values.{bound-3-2, bound-3-6, bound-3-7, bound-no-hops, bound-no-nodes}
-use Rattle.flood.specs.Air.{Repeater, address, canRepeat}
 use Rattle.flood.proofs.Counting.{demand-3, demand-3-bytes}
 use Rattle.flood.proofs.Counting as counting
 use Rattle.flood.proofs.Demand as demand
@@ -54,6 +53,7 @@ use Rattle.flood.proofs.Exact as exact
 use Rattle.flood.proofs.Fresh.{originated-begins, fresh-source, fresh-hop, fresh-destination}
 use Rattle.flood.proofs.Sent.{sent-written, none-written}
 use Rattle.demands.proofs.Behind.{behind}
+use Rattle.demands.proofs.Putting.{put-untouched, put-reads-back, well-formed-put}
 use Rattle.demands.specs.Demands.{Demand1, Demand2, Demand3}
 
 written-as-was : (reading : Reading) (bytes output : List ℕ) → (writtenOf reading (length output) .number ≡ 0 → ⊥)
@@ -80,7 +80,7 @@ step-as-was : (node : Node) (batch : List ℕ) (cursor : Cursor) (output : List 
     → ((answer : Answer) (next : Cursor) → stepOf node (length output) batch cursor ≡ Answered answer next → answer .repeat ≡ 0 → ⊥)
     → stepOutput node batch cursor output ≡ output
 unfolding stepOf stepOutput answerOf
-step-as-was node batch cursor output ne = go (isTooLong (node .settings) batch) (isDone batch cursor) ne
+step-as-was node batch cursor output ne = go (isTooLong (node .settings .edition) batch) (isDone batch cursor) ne
   where
     go : (long done : Bool)
         → ((answer : Answer) (next : Cursor)
@@ -129,6 +129,7 @@ total =
       hop-refused = λ settings payload output h. too-many-hops settings payload output h;
       origination-untouched = λ settings payload output ne. rw (ne-eqb (originationNumber settings payload (length output)) 0 ne);
       writing-untouched = λ bytes output ne. writing-as-was bytes output ne;
+      header-untouched = put-untouched;
       node-untouched = λ node received output ne. node-as-was node received output ne;
       step-untouched = λ node batch cursor output ne. step-as-was node batch cursor output ne;
       edition-refused = λ node received output e. refused node received output 17 (omega arith) (unknown-fault node e);
@@ -168,7 +169,7 @@ repeat-back node room received header small e z =
 walk-answers : (node : Node) (room : ℕ) (batch : List ℕ)
     → walk node room batch .answers ≡ map (λ (offset : ℕ). answerOf node room (drop offset batch)) (walk node room batch .offsets)
 unfolding walk
-walk-answers node room batch = go (isTooLong (node .settings) batch)
+walk-answers node room batch = go (isTooLong (node .settings .edition) batch)
   where
     go : (long : Bool)
         → cond long (endingAt 54 0) (walkFrom (length batch) node room batch 0) .answers
@@ -189,32 +190,37 @@ exactly =
       fresh-reads-back = λ settings payload rest room e.
           let back = fresh-back settings payload room e rest in
           (back .reads, back .no-path, back .carries);
+      put-reads-back = put-reads-back;
+      well-formed-put = well-formed-put;
       read-well-formed = λ bytes header small e. shown-well-formed bytes header small e;
+      path-asked = λ bytes header i address e. rw e (refl, refl);
+      no-path-asked = λ bytes refusal i address e. rw e (refl, refl);
+      view-17 = λ bytes extent edition e. rw e refl;
+      view-refused = λ bytes extent edition e some. rw (e, ne-eqb (extent .number) 0 some) refl;
+      view-shows = λ bytes extent edition e none. rw (e, none) refl;
+      opened-summary = opened-summary;
+      opened-path = λ bytes i address. (opened-address bytes i, opened-has bytes address);
+      opened-payload = λ bytes header e. rw e refl;
       repeat-reads-back = λ node room received header small e z. repeat-back node room received header small e z;
       delivered-part = λ node room received. delivered-part node room received;
       behind = behind;
       stepping-walks = λ node room batch. walking.stepping-walks node room batch;
       walk-answers = λ node room batch. walk-answers node room batch;
       walk-ends = λ node room batch short. walk-ends node room batch short;
+      limits-in-c = refl;
     }
 
--- what it is that a node can repeat
-can-means : (n : Repeater) (to : Destination) → canRepeat to n ≡ true → (n .node .settings .repeating ≡ true) × (to ≢ Address (address n))
-can-means n Everyone can = (both (n .node .settings .repeating) true can .0, λ e. let w : _≡_ {A = ℕ} 0 1 = cc in omega arith)
-can-means n (Address a) can =
-    let (on, apart) = both (n .node .settings .repeating) (not (eqb a (address n))) can in
-    (on, λ e. let same : a ≡ address n = same-address a (address n) e in eqb-false a (address n) (not-true (eqb a (address n)) apart) same)
-  where
-    same-address : (a b : ℕ) → Address a ≡ Address b → a ≡ b
-    same-address a b e = cc
-
-    not-true : (t : Bool) → not t ≡ true → t ≡ false
-    not-true false e = refl
-    not-true true e = sym e
-
-means-can : (n : Repeater) (to : Destination) → to ≢ Address (address n) → n .node .settings .repeating ≡ true → canRepeat to n ≡ true
-means-can n Everyone apart on = rw on
-means-can n (Address a) apart on = rw (on, ne-eqb a (address n) (λ e. apart (ap Address e)))
+-- a bound as C is told it
+bound-in-c : (hop value : ℕ)
+    → (7 < hop → boundInC (boundAnswer hop value) ≡ record { number = 10; «too_large» = false; value = 0 })
+    × (hop ≤ 7 → value < 2 ^ 64 → boundInC (boundAnswer hop value) ≡ record { number = 0; «too_large» = false; value = value })
+    × (hop ≤ 7 → 2 ^ 64 ≤ value → boundInC (boundAnswer hop value) ≡ record { number = 0; «too_large» = true; value = 0 })
+unfolding boundAnswer within64Bits
+bound-in-c hop value = (
+  λ h. rw (lt-ltb 7 hop h) refl,
+  λ h small. rw (le-ltb 7 hop h, lt-ltb value (2 ^ 64) small) refl,
+  λ h large. rw (le-ltb 7 hop h, le-ltb value (2 ^ 64) large) refl,
+)
 
 pub bounded : Demand3
 bounded =
@@ -226,19 +232,32 @@ bounded =
           record { addresses-differ = differ; addresses-fit = λ n m. each n m .0; echo-on = λ n m. each n m .1 };
       message-asked = λ settings payload room taken path source to id small.
           record { taken = taken; with-path = path; source-fits = source; destination-fits = to; id-fits = id; payload-fits = small };
+      open-asked = λ node edition on pass reject to-pass to-reject clean.
+          record {
+            edition-known = edition;
+            repeating-on = on;
+            source-pass-off = pass;
+            source-reject-off = reject;
+            destination-pass-off = to-pass;
+            destination-reject-off = to-reject;
+            no-list-fault = clean;
+          };
+      begins-asked = λ first small one bit none. record { all-bytes = small; one-pdu = one; path-bit = bit; path-empty = none };
+      heard-asked = λ nodes first before after node transmission made. record { before = before; after = after; split = refl; made = made };
       reached = λ nodes all settings payload room message free roomy fits receptions once complete. (
         exact.reached nodes all settings payload room message free roomy fits receptions once complete,
         exact.reached-bytes nodes all settings payload room message free roomy fits receptions once complete,
       );
       values = (bound-3-2, bound-3-6, bound-3-7, bound-no-hops, bound-no-nodes);
+      in-c = bound-in-c;
       schedule = λ nodes all settings payload room message. demand.schedule nodes all settings payload room message;
       begun-bounded = λ nodes all first begins receptions once.
           (counting.begun-bounded nodes all first begins receptions once, counting.begun-bytes nodes all first begins receptions once);
       counted = λ source to nodes n m.
           let (n-in, other, can) = counting.repeaters-are to source nodes m in
-          let (on, apart) = can-means n to can in
+          let (on, apart) = counting.can-means n to can in
           (n-in, other, apart, on);
-      counted-only = λ source to nodes n m other apart on. counting.are-repeaters to source nodes m other (means-can n to apart on);
+      counted-only = λ source to nodes n m other apart on. counting.are-repeaters to source nodes m other (counting.means-can n to apart on);
       originated-begins = λ settings payload room message. (
         originated-begins settings payload room message,
         fresh-source settings payload room message,

@@ -1,2 +1,3 @@
 pub mod Behind
+pub mod Putting
 pub mod Demands

@@ -1,27 +1,31 @@
 -- The three demands, each as one record; `proofs/Demands.antt` gives each of them and cites its parts.
-use Prim.Native.Nat.{ℕ, _+_, _*_, _<_, _≤_}
+use Prim.Native.Nat.{ℕ, _+_, _*_, _^_, _<_, _≤_}
 use mathlib.Core.Bool.{true, false, cond}
 use mathlib.Core.List.{List, [], _∷_, _++_, map, List·Memᴰ, List·Nodup}
 use mathlib.Core.Logic.{_≢_, _⊎_}
 use mathlib.Core.Option.{none, some}
 use mathlib.Core.Path.{_≡_}
+use lib.Dec.{eqb}
 use lib.ListN.{length, take, drop}
-use Rattle.octets.specs.Octets.{AllBytes, over}
+use Rattle.octets.specs.Octets.{AllBytes, at, over}
 use Rattle.pdu.specs.declared.Destination.{Destination}
 use Rattle.pdu.specs.declared.Destination.the-variants.{Address}
+use Rattle.pdu.specs.declared.Extent.{Extent}
 use Rattle.pdu.specs.declared.Header.{Header}
 use Rattle.pdu.specs.declared.Reading.the-variants.{Pdu, Refused}
 use Rattle.pdu.specs.declared.Refusal.{Refusal}
 use Rattle.pdu.specs.declared.Sender.the-variants.{Unknown}
-use Rattle.pdu.specs.Header.{headerOf, sourceOf}
-use Rattle.pdu.specs.Sizes.{pathLimit, pduLimit, pduLength}
-use Rattle.pdu.specs.Reading.{readOf, exactlyOne, refusalNumber}
-use Rattle.pdu.specs.Parts.{pathIn, payloadIn}
-use Rattle.writing.specs.Writing.{encode, writeAgain, writtenAgain, WellFormed}
-use Rattle.editions.specs.Editions.{known}
+use Rattle.pdu.specs.Header.{destinationIn, pduIdIn, headerWith, headerOf, sourceOf}
+use Rattle.pdu.specs.Sizes.{pathLimit, pduLimit, pathEntries, pathStart, pduLength}
+use Rattle.pdu.specs.Reading.{readOf, extentOf, exactlyOne, refusalNumber}
+use Rattle.pdu.specs.Parts.{pathIn, pathAddress, inPath, payloadIn, lastSender}
+use Rattle.writing.specs.Writing.{headerBytes, pathBytes, encode, headerWritten, headerOutput, writeAgain, writtenAgain, WellFormed}
+use Rattle.editions.specs.Editions.{known, bitsUnder, shownWith, readUnder}
+use Rattle.view.specs.View.{noSummary, summaryOf, pathAddressIn, pathHas, headerIn, summaryAt}
 use Rattle.origin.specs.declared.FreshSettings.{FreshSettings}
 use Rattle.origin.specs.Origination.{freshHeader, fresh, originationNumber, originated, originatedOutput}
 use Rattle.lists.specs.Lists.{Lists, listFault, listsIn, laid}
+use Rattle.decision.specs.declared.Choice.the-variants.{Neither}
 use Rattle.decision.specs.Decision.{Node}
 use Rattle.node.specs.declared.Answer.{Answer}
 use Rattle.node.specs.Repeat.{repeatedHeader, repeated}
@@ -30,8 +34,10 @@ use Rattle.batch.specs.declared.Cursor.{Cursor}
 use Rattle.batch.specs.declared.Stepped.the-variants.{Answered}
 use Rattle.batch.specs.Walk.{batchLimit, stepOf, stepOutput, walk, steps}
 use Rattle.bound.specs.Bound.{terms, bound, bytesBound}
+use Rattle.bound.specs.Answer.{boundAnswer}
 use Rattle.flood.specs.Flood.{Reception, Bounded}
-use Rattle.flood.specs.Complete.{Complete}
+use Rattle.flood.specs.Complete.{HasHeard, Complete}
+use Rattle.boundary.specs.Boundary.{boundInC, limitsInC}
 use Rattle.flood.specs.Air.{Repeater, Nodes, Open, Originated, address, sends, pathOf, onTheAir, bytesOnTheAir, repeaters, Begins, hopOf}
 
 -- Demand 1, total. That every public function answers any input, and how, are its contract and the theorems of crate `promises`, one for each function,
@@ -42,10 +48,11 @@ pub record Demand1 : Type 0 where
   pub hop-refused : (settings : FreshSettings) (payload output : List ℕ) → 7 < settings .«hop_limit»
       → (originated settings payload (length output) ≡ record { number = cond (known (settings .edition)) 10 17; length = 0 })
       × (originatedOutput settings payload output ≡ output)
-  -- with a number other than 0 no output is touched: at origination, in writing again, at a node, in a step of the walk
+  -- with a number other than 0 no output is touched: at origination, in writing again, at a node, in a step of the walk; nor by a header that is not put
   pub origination-untouched : (settings : FreshSettings) (payload output : List ℕ) → (originationNumber settings payload (length output) ≡ 0 → ⊥)
       → originatedOutput settings payload output ≡ output
   pub writing-untouched : (bytes output : List ℕ) → (writeAgain bytes (length output) .number ≡ 0 → ⊥) → writtenAgain bytes output ≡ output
+  pub header-untouched : (header : Header) (output : List ℕ) → headerWritten header (length output) ≡ 0 → headerOutput header output ≡ output
   pub node-untouched : (node : Node) (received output : List ℕ) → (repeatNumber node (length output) received ≡ 0 → ⊥)
       → outputAfter node received output ≡ output
   pub step-untouched : (node : Node) (batch : List ℕ) (cursor : Cursor) (output : List ℕ)
@@ -63,6 +70,26 @@ pub record Demand1 : Type 0 where
   -- any lent block holds eight lists, and any eight lists lie in some block; in 16-bit words, those of at most 65,535 values each
   pub any-lists : (lists : Lists) → listsIn (laid lists) ≡ lists
 
+-- a header with a PDU ID and a path count only where called for (document 01, "Header, byte by byte", below the table); its other fields as they are
+abbrev pub calledFor : Header → Header
+calledFor header =
+    record {
+      protocol = header .protocol;
+      «time_stamp_request» = header .«time_stamp_request»;
+      «path_bit» = header .«path_bit»;
+      port = header .port;
+      encrypted = header .encrypted;
+      reserved = header .reserved;
+      ack = header .ack;
+      «added_header» = header .«added_header»;
+      «hop_limit» = header .«hop_limit»;
+      «payload_length» = header .«payload_length»;
+      source = header .source;
+      destination = header .destination;
+      «pdu_id» = cond (eqb (header .protocol) 1) (header .«pdu_id») 0;
+      «path_count» = pathEntries header;
+    }
+
 -- Demand 2, exact. The contracts say that reading, writing and the node's decision are the definitions; these say that the definitions fit together.
 pub record Demand2 : Type 0 where
   -- what is read and written again is the same bytes, at the start of an output that has room for them
@@ -78,9 +105,42 @@ pub record Demand2 : Type 0 where
       → (readOf (fresh settings payload ++ rest) ≡ Pdu (freshHeader settings (length payload)))
       × (pathIn (freshHeader settings (length payload)) (fresh settings payload ++ rest) ≡ [])
       × (payloadIn (freshHeader settings (length payload)) (fresh settings payload ++ rest) ≡ payload)
-  -- what was read is well-formed, so that the law above is about all of it
+  -- a header put on its own reads back once its path and payload follow it, a PDU ID and a path count that are not called for as 0; the output behind it
+  -- is as it was. Every header that can stand in a PDU so, whatever those two are, is put where it fits
+  pub put-reads-back : (header : Header) (path payload rest output : List ℕ) → let long = headerWritten header (length output) in
+      (long ≡ 0 → ⊥) → length path ≡ pathEntries header → length payload ≡ header .«payload_length»
+      → let bytes = take long (headerOutput header output) ++ pathBytes path ++ payload ++ rest in
+      (readOf bytes ≡ Pdu (calledFor header)) × (pathIn (calledFor header) bytes ≡ path) × (payloadIn (calledFor header) bytes ≡ payload)
+      × (drop long (headerOutput header output) ≡ drop long output)
+  pub well-formed-put : (header : Header) (path payload output : List ℕ) → WellFormed (calledFor header) path payload → pathStart header ≤ length output
+      → (headerWritten header (length output) ≡ pathStart header) × (headerOutput header output ≡ over (headerBytes header) output)
+  -- what was read is well-formed, so that `reads-back` is about all of it
   pub read-well-formed : (bytes : List ℕ) (header : Header) → AllBytes bytes → readOf bytes ≡ Pdu header
       → WellFormed header (pathIn header bytes) (payloadIn header bytes)
+  -- the path that is asked of bytes: of what was read its address at a place, and whether it holds an address; of what was not read none
+  pub path-asked : (bytes : List ℕ) (header : Header) (i address : ℕ) → readOf bytes ≡ Pdu header
+      → (pathAddressIn (readOf bytes) bytes i ≡ pathAddress header bytes i) × (pathHas (readOf bytes) bytes address ≡ inPath address (pathIn header bytes))
+  pub no-path-asked : (bytes : List ℕ) (refusal : Refusal) (i address : ℕ) → readOf bytes ≡ Refused refusal
+      → (pathAddressIn (readOf bytes) bytes i ≡ 0) × (pathHas (readOf bytes) bytes address ≡ false)
+  -- a view made with any extent: 17, then the extent's number; else what its bytes show, with the extent's path count and lengths
+  pub view-17 : (bytes : List ℕ) (extent : Extent) (edition : ℕ) → known edition ≡ false → summaryAt bytes extent edition ≡ noSummary 17
+  pub view-refused : (bytes : List ℕ) (extent : Extent) (edition : ℕ) → known edition ≡ true → (extent .number ≡ 0 → ⊥)
+      → summaryAt bytes extent edition ≡ noSummary (extent .number)
+  pub view-shows : (bytes : List ℕ) (extent : Extent) (edition : ℕ) → known edition ≡ true → extent .number ≡ 0
+      → let header = headerWith bytes (destinationIn bytes) (pduIdIn bytes) (extent .«path_count») in summaryAt bytes extent edition
+      ≡ record {
+        number = 0;
+        header = shownWith (bitsUnder edition (at bytes 1)) header;
+        «last_sender» = lastSender header bytes;
+        «header_length» = extent .«header_length»;
+        «pdu_length» = extent .«pdu_length»;
+      }
+  -- and one opened on bytes has the extent of what is read there: it shows what reading under that edition shows, and the path that is asked of them
+  pub opened-summary : (bytes : List ℕ) (edition : ℕ) → summaryAt bytes (extentOf (readOf bytes)) edition ≡ summaryOf (readUnder edition bytes) bytes
+  pub opened-path : (bytes : List ℕ) (i address : ℕ) → let header = headerIn bytes (extentOf (readOf bytes)) in
+      (pathAddress header bytes i ≡ pathAddressIn (readOf bytes) bytes i) × (inPath address (pathIn header bytes) ≡ pathHas (readOf bytes) bytes address)
+  pub opened-payload : (bytes : List ℕ) (header : Header) → readOf bytes ≡ Pdu header
+      → extentOf (readOf bytes) .«payload_length» ≡ header .«payload_length»
   -- a repeat reads back as the received header with hop limit, count and path changed as said, the own address after the last path entry, and the
   -- same payload; it is never longer than a PDU may be
   pub repeat-reads-back : (node : Node) (room : ℕ) (received : List ℕ) (header : Header) → AllBytes received
@@ -106,6 +166,8 @@ pub record Demand2 : Type 0 where
       → walk node room batch .answers ≡ map (λ (offset : ℕ). answerOf node room (drop offset batch)) (walk node room batch .offsets)
   pub walk-ends : (node : Node) (room : ℕ) (batch : List ℕ) → length batch ≤ batchLimit
       → (length batch ≤ walk node room batch .end) ⊎ (nodeOrReadingFault node (drop (walk node room batch .end) batch) ≡ 0 → ⊥)
+  -- 01's sizes as C is told them
+  pub limits-in-c : limitsInC ≡ record { fixed = 6; payload = 4095; path = 255; header = 520; pdu = 4615; list = 128; batch = 16384 }
 
 -- Demand 3, bounded, over demand 2's rules, as document 02, W-203 has it: any nodes of different addresses with echo on, whatever their lists, settings
 -- and room, the originator among them or not; any message that origination wrote with a path; any receptions of transmissions already made, by the
@@ -128,6 +190,14 @@ pub record Demand3 : Type 0 where
   pub message-asked : (settings : FreshSettings) (payload : List ℕ) (room : ℕ) → originationNumber settings payload room ≡ 0
       → settings .«with_path» ≡ true → settings .source < 65536 → ((to : ℕ) → settings .destination ≡ Address to → to < 65536)
       → settings .«pdu_id» < 256 → AllBytes payload → Originated settings payload room
+  -- nor of a node that repeats what it may, of what begins a flood, and of a transmission that was heard
+  pub open-asked : (node : Node) → known (node .settings .edition) ≡ true → node .settings .repeating ≡ true
+      → node .settings .«source_pass» ≡ Neither → node .settings .«source_reject» ≡ Neither
+      → node .settings .«destination_pass» ≡ Neither → node .settings .«destination_reject» ≡ Neither → listFault (node .lists) ≡ 0 → Open node
+  pub begins-asked : (first : List ℕ) → AllBytes first → exactlyOne first ≡ true → headerOf first .«path_bit» ≡ true → pathOf first ≡ [] → Begins first
+  pub heard-asked : (nodes : List Repeater) (first : List ℕ) (before after : List Reception) (node transmission : ℕ)
+      → transmission < length (onTheAir nodes first before)
+      → HasHeard sends nodes (first ∷ []) (before ++ (record { node = node; transmission = transmission } ∷ after)) node transmission
   -- both are exact where each of the repeaters repeats what it may and has room, and every node hears every transmission
   pub reached : (nodes : List Repeater) → Nodes nodes → (settings : FreshSettings) (payload : List ℕ) (room : ℕ) → Originated settings payload room
       → let counted = repeaters (settings .source) (settings .destination) nodes in
@@ -140,6 +210,11 @@ pub record Demand3 : Type 0 where
       ≡ bytesBound (length counted) (settings .«hop_limit») (length (fresh settings payload)))
   -- the bound's values that 01 checks by hand
   pub values : (bound 3 2 ≡ 10) × (bound 3 6 ≡ 16) × (bound 3 7 ≡ 16) × ((n : ℕ) → bound n 0 ≡ 1) × ((h : ℕ) → bound 0 h ≡ 1)
+  -- what C is told of a bound: 10 for a hop limit above 7; else the value, or that 64 bits do not hold it
+  pub in-c : (hop value : ℕ)
+      → (7 < hop → boundInC (boundAnswer hop value) ≡ record { number = 10; «too_large» = false; value = 0 })
+      × (hop ≤ 7 → value < 2 ^ 64 → boundInC (boundAnswer hop value) ≡ record { number = 0; «too_large» = false; value = value })
+      × (hop ≤ 7 → 2 ^ 64 ≤ value → boundInC (boundAnswer hop value) ≡ record { number = 0; «too_large» = true; value = 0 })
   -- receptions by which each node hears each transmission exist
   pub schedule : (nodes : List Repeater) → Nodes nodes → (settings : FreshSettings) (payload : List ℕ) (room : ℕ)
       → Originated settings payload room

@@ -54,6 +54,11 @@ showing edition bytes (wire-reading.Refused refusal) = Refused (refusalNumber re
 unfoldable pub readUnder : ℕ → List ℕ → EditionReading
 readUnder edition bytes = cond (known edition) (showing edition bytes (readOf bytes)) (Refused 17)
 
+-- the number of each case ("Numbers answered"): 0 where a PDU is shown, else the refusal's
+abbrev pub shownNumber : EditionReading → ℕ
+shownNumber (Pdu shown) = 0
+shownNumber (Refused number) = number
+
 -- the wire's flag and reserved number that the three bits are
 abbrev pub encryptedOf : Bits → Bool
 encryptedOf (Reserved number) = isSet (number / 4 % 2)
@@ -85,7 +90,7 @@ wireOf shown =
 
 -- writing again from what was shown, for an output of so many bytes: the refusal of reading, then 14; and what is left in the output
 abbrev pub shownWritten : EditionReading → ℕ → Written
-shownWritten (Refused number) room = record { number = number; length = 0 }
+shownWritten (Refused number) room = record { number = shownNumber (Refused number); length = 0 }
 shownWritten (Pdu shown) room = writtenOf (wire-reading.Pdu (wireOf shown)) room
 
 abbrev pub shownOutput : EditionReading → List ℕ → List ℕ → List ℕ

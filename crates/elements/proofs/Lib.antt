@@ -1,3 +1,5 @@
 pub mod Numbers
 pub mod Runs
 pub mod Order
+pub mod Local
+pub mod Walking

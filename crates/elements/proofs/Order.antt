@@ -9,23 +9,23 @@ use borrow.Author.Tests.{le-leb, lt-leb, ltb-true, ltb-false, leb-true, leb-fals
 use Rattle.octets.specs.Numbers.{_gives_, _orElse_}
 use Rattle.octets.proofs.Numbering.{orElse-none, orElse-assoc}
 use Rattle.elements.specs.Elements.{typeAt, valuePlace, elementEnd, beginnings, elementsIn, isRun, firstOf, elementFault, runFault}
-use Rattle.elements.specs.Order.{Element, ownFault, eachOf, reachedAt, reached, firstOwn, Ordered}
+use Rattle.elements.specs.Order.{Standing, ownFault, eachOf, reachedAt, reached, firstOwn, Ordered}
 use Rattle.elements.proofs.Runs.{end-after, value-after, value-within, nothing-left, none-left, one-more}
 
 module _ (bytes : List ℕ) where
-  own-append : (a b : List Element) → firstOwn bytes (a ++ b) ≡ (firstOwn bytes a orElse firstOwn bytes b)
+  own-append : (a b : List Standing) → firstOwn bytes (a ++ b) ≡ (firstOwn bytes a orElse firstOwn bytes b)
   unfolding firstOwn _orElse_
   own-append [] b = refl
   own-append (e ∷ a) b = ap (λ (n : ℕ). ownFault bytes (e .levels) (e .end) (e .place) orElse n) (own-append a b)
       ∙ sym (orElse-assoc (ownFault bytes (e .levels) (e .end) (e .place)) (firstOwn bytes a) (firstOwn bytes b))
 
-  each-own : (fault : ℕ → ℕ) (f : ℕ → List Element) → ((place : ℕ) → fault place ≡ firstOwn bytes (f place)) → (places : List ℕ)
+  each-own : (fault : ℕ → ℕ) (f : ℕ → List Standing) → ((place : ℕ) → fault place ≡ firstOwn bytes (f place)) → (places : List ℕ)
       → firstOf fault places ≡ firstOwn bytes (eachOf f places)
   unfolding firstOf firstOwn eachOf
   each-own fault f same [] = refl
   each-own fault f same (place ∷ places) = rw (same place, each-own fault f same places) (sym (own-append (f place) (eachOf f places)))
 
-  held-own : (cut run : Bool) (n : ℕ) (es : List Element) → n ≡ firstOwn bytes es
+  held-own : (cut run : Bool) (n : ℕ) (es : List Standing) → n ≡ firstOwn bytes es
       → ((cut gives 57) orElse cond run n 0) ≡ ((cut gives 57) orElse firstOwn bytes (cond (not cut && run) es []))
   unfolding _gives_ _orElse_ firstOwn
   held-own true run n es e = refl
@@ -55,26 +55,26 @@ module _ (bytes : List ℕ) where
   run-own levels place end = each-own (elementFault levels bytes end) (reachedAt levels bytes end) (element-own levels end) (elementsIn bytes place end)
 
 -- and these are in the order in which they begin
-lower : (low less high : ℕ) (es : List Element) → less ≤ low → Ordered low high es → Ordered less high es
+lower : (low less high : ℕ) (es : List Standing) → less ≤ low → Ordered low high es → Ordered less high es
 unfolding Ordered
 lower low less high [] h o = omega arith
 lower low less high (e ∷ es) h o = (omega (arith, o .0), o .1)
 
-higher : (low high more : ℕ) (es : List Element) → high ≤ more → Ordered low high es → Ordered low more es
+higher : (low high more : ℕ) (es : List Standing) → high ≤ more → Ordered low high es → Ordered low more es
 unfolding Ordered
 higher low high more [] h o = omega arith
 higher low high more (e ∷ es) h o = (o .0, higher (e .place + 1) high more es h (o .1))
 
-joined : (low middle high : ℕ) (a b : List Element) → Ordered low middle a → Ordered middle high b → Ordered low high (a ++ b)
+joined : (low middle high : ℕ) (a b : List Standing) → Ordered low middle a → Ordered middle high b → Ordered low high (a ++ b)
 unfolding Ordered
 joined low middle high [] b o p = lower middle low high b o p
 joined low middle high (e ∷ a) b o p = (o .0, joined (e .place + 1) middle high a b (o .1) p)
 
-only-one : (low high place : ℕ) (e : Element) → e .place ≡ place → low ≤ place → place + 1 ≤ high → Ordered low high (e ∷ [])
+only-one : (low high place : ℕ) (e : Standing) → e .place ≡ place → low ≤ place → place + 1 ≤ high → Ordered low high (e ∷ [])
 unfolding Ordered
 only-one low high place e is h k = (omega arith, omega arith)
 
-first-then : (low high place : ℕ) (e : Element) (es : List Element) → e .place ≡ place → low ≤ place → Ordered (place + 1) high es → Ordered low high (e ∷ es)
+first-then : (low high place : ℕ) (e : Standing) (es : List Standing) → e .place ≡ place → low ≤ place → Ordered (place + 1) high es → Ordered low high (e ∷ es)
 unfolding Ordered
 first-then low high place e es is h o = (omega arith, rw is o)
 
@@ -147,7 +147,7 @@ module _ (bytes : List ℕ) where
       (either (leb after end && isRun (typeAt bytes place)) inside
       (run-inside levels after (valuePlace bytes place) (value-within bytes place) (element-ordered levels after)))
     where
-      either : (t : Bool) (es : List Element) → Ordered (valuePlace bytes place) (elementEnd bytes place) es
+      either : (t : Bool) (es : List Standing) → Ordered (valuePlace bytes place) (elementEnd bytes place) es
           → Ordered (place + 1) (elementEnd bytes place) (cond t es [])
       either true es o = lower (valuePlace bytes place) (place + 1) (elementEnd bytes place) es (value-after bytes place) o
       either false es o = none-there (place + 1) (elementEnd bytes place) (omega (arith, end-after bytes place))

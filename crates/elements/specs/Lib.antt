@@ -1,3 +1,4 @@
 pub mod Elements
 pub mod Finding
 pub mod Order
+pub mod Walking

@@ -4,11 +4,22 @@ ghost use Prim.Native.Nat.{_+_, _<_, _≤_};
 ghost use lib.ListN.{length};
 ghost use Rattle.elements.specs.Elements.{numberAt, numberSize, typeAt, valuePlace, elementEnd, isRun, elementFault, levelLimit, runFault};
 ghost use Rattle.elements.specs.Finding.{headAt, metMore, metOnce, pairFrom};
+ghost use Rattle.elements.specs.Walking.{cutElement, elementOf};
 
 // The first bytes of an element: its type, where its value begins, and where it ends.
 pub struct Head {
     pub type_number: usize,
     pub value_place: usize,
+    pub end: usize,
+}
+
+// An element that is whole, with 0: its type, where its value lies, and where it ends. With 57 every other field is 0.
+#[repr(C)]
+pub struct Element {
+    pub number: u8,
+    pub type_number: u16,
+    pub value_place: usize,
+    pub value_length: usize,
     pub end: usize,
 }
 
@@ -65,7 +76,7 @@ fn number_at(bytes: &[u8], place: usize) -> Number
 fn head_within(bytes: &[u8], place: usize) -> Head
     requires { ⌜ place ≤ length (now bytes) ⌝ }
     ensures { λ r. ⌜ (r .«type_number» ≡ typeAt (now (bytes .entry)) place) × (r .«value_place» ≡ valuePlace (now (bytes .entry)) place)
-        × (r .end ≡ elementEnd (now (bytes .entry)) place) × (r .«value_place» ≤ r .end) ⌝ }
+        × (r .end ≡ elementEnd (now (bytes .entry)) place) × (r .«value_place» ≤ r .end) × (r .«type_number» < 32768) ⌝ }
 {
     let kind = number_at(bytes, place);
     let length_place = place + kind.size;
@@ -81,12 +92,41 @@ fn head_within(bytes: &[u8], place: usize) -> Head
 // The first bytes of the element at a place. Bytes that are not there count as 0, and a place past the end as the end. Document 003, the binary
 // elements; document 02, W-202.
 pub fn head_at(bytes: &[u8], place: usize) -> Head
-    ensures { λ r. ⌜ (r ≡ headAt (now (bytes .entry)) place) × (r .«value_place» ≤ r .end) ⌝ }
+    ensures { λ r. ⌜ (r ≡ headAt (now (bytes .entry)) place) × (r .«value_place» ≤ r .end) × (r .«type_number» < 32768) ⌝ }
 {
     if bytes.len() < place {
         return head_within(bytes, bytes.len());
     }
     head_within(bytes, place)
+}
+
+fn cut() -> Element
+    ensures { λ r. ⌜ r ≡ cutElement ⌝ }
+{
+    Element {
+        number: 57,
+        type_number: 0,
+        value_place: 0,
+        value_length: 0,
+        end: 0,
+    }
+}
+
+// The element at a place, or 57 where none ends within the bytes. What it holds is not judged. Document 003, the binary elements.
+pub fn element_at(bytes: &[u8], place: usize) -> Element
+    ensures { λ r. ⌜ r ≡ elementOf (now (bytes .entry)) place ⌝ }
+{
+    let head = head_at(bytes, place);
+    if bytes.len() < head.end {
+        return cut();
+    }
+    Element {
+        number: 0,
+        type_number: head.type_number as u16,
+        value_place: head.value_place,
+        value_length: head.end - head.value_place,
+        end: head.end,
+    }
 }
 
 // The most levels of elements in elements.

@@ -5,17 +5,17 @@ use native.Mathlib.Nat.{le-refl}
 use mathlib.Core.Bool.{Bool, true, false, not, cond, _&&_}
 use mathlib.Core.List.{List}
 use lib.Dec.{eqb}
-use lib.ListN.{set}
+use lib.ListN.{length, set}
 use Rattle.octets.proofs.Tests.{both}
 use Rattle.retained.specs.declared.Names.{Names}
 use Rattle.retained.specs.declared.Retained.{Retained}
 use Rattle.retained.specs.declared.Outcome.{Outcome}
 use Rattle.retained.specs.Records.{isNamed, namesOf, exchanged, sameNames, freedRecord}
-use Rattle.retained.specs.Table.{first, has, recordAt, numberAlone, did, sent, freed}
+use Rattle.retained.specs.Table.{first, has, recordAt, numberAlone, did, sent, freed, answered}
 use Rattle.pdu.specs.Header.{headerOf}
 use Rattle.pdu.specs.Sizes.{pduLength}
 use Rattle.answering.specs.declared.Sending.{Sending}
-use Rattle.answering.specs.Delivered.{isAcknowledgement, isAnswered, ackHeader, answered, acknowledgeNumber, acknowledge, tableAcknowledged}
+use Rattle.answering.specs.Delivered.{isDeliveredHere, isAcknowledgement, isAnswered, ackHeader, acknowledgeNumber, acknowledge, tableAcknowledged}
 use Rattle.ending.specs.History.{Arrived, RetrySettings, HearPdu, Life, watch, worldAfter}
 use Rattle.ending.proofs.First.{has-hit}
 use Rattle.ending.proofs.Facts.{names-eq, free-is, other-name, freed-free}
@@ -43,18 +43,18 @@ module _ (s : RetrySettings) (names : Names) (table : List Retained) (last : ℕ
         (elsewhere names table last last life (le-refl last) place freedRecord (has-hit (isNamed sought) table h .0)
         (other-name sought names (recordAt table place) (has-hit (isNamed sought) table h .1) e) (free-is names freedRecord freed-free) (g .status))
 
-  module _ (delivery : ℕ) (sending : Sending) (room : ℕ) (received : List ℕ) where
+  module _ (own delivery : ℕ) (sending : Sending) (room : ℕ) (received : List ℕ) where
     abbrev sought : Names
     sought = exchanged (namesOf received)
 
     abbrev number : ℕ
-    number = acknowledgeNumber table delivery sending room received
+    number = acknowledgeNumber (length table) own delivery sending room received
 
     abbrev asked : Bool
-    asked = isAnswered delivery (headerOf received)
+    asked = isAnswered own delivery received
 
     abbrev matched : Bool
-    matched = isAcknowledgement delivery (headerOf received) && has (isNamed sought) table
+    matched = isAcknowledgement own delivery received && has (isNamed sought) table
 
     abbrev hearing : Bool → Bool → Bool → Outcome
     hearing b d c =
@@ -64,23 +64,22 @@ module _ (s : RetrySettings) (names : Names) (table : List Retained) (last : ℕ
         (numberAlone number last)
 
     apart : asked ≡ true → matched ≡ true → ⊥
-    apart e f = bits (eqb delivery 0) (eqb (headerOf received .protocol) 1) (headerOf received .ack) (has (isNamed sought) table) e f
+    apart e f = bits (isDeliveredHere own delivery received) (headerOf received .ack) (has (isNamed sought) table) e f
       where
-        bits : (x y a m : Bool) → (x && (y && not a)) ≡ true → ((x && (y && a)) && m) ≡ true → ⊥
-        bits true true true m e f = never (sym e)
-        bits true true false m e f = never (sym f)
-        bits true false a m e f = never (sym e)
-        bits false y a m e f = never (sym e)
+        bits : (x a m : Bool) → (x && not a) ≡ true → ((x && a) && m) ≡ true → ⊥
+        bits true true m e f = never (sym e)
+        bits true false m e f = never (sym f)
+        bits false a m e f = never (sym e)
 
-    pub good-hears : Good s names (worldAfter s names (HearPdu delivery sending room received) (world table last life))
+    pub good-hears : Good s names (worldAfter s names (HearPdu own delivery sending room received) (world table last life))
     unfolding worldAfter watch acknowledge tableAcknowledged
     good-hears = by (eqb number 0) asked matched refl refl
       where
         by : (b d c : Bool) → asked ≡ d → matched ≡ c
             → Good s names (world (cond (b && c) (set table (first (isNamed sought) table) freedRecord) table) (hearing b d c .last)
-            (watch (s .delay) names (HearPdu delivery sending room received) (hearing b d c) life))
+            (watch (s .delay) names (HearPdu own delivery sending room received) (hearing b d c) life))
         by true true true e f = absurd (apart e f)
         by true true false e f = g
-        by true false true e f = frees sought (both (isAcknowledgement delivery (headerOf received)) _ f .1) (sameNames sought names) refl
+        by true false true e f = frees sought (both (isAcknowledgement own delivery received) _ f .1) (sameNames sought names) refl
         by true false false e f = g
         by false d c e f = g

@@ -3,15 +3,21 @@ use native.Mathlib.Omega.{arith}
 use mathlib.Core.Path.{_≡_, refl, sym, _∙_, ap, subst}
 use Prim.Native.Nat.{ℕ, _<_, _≤_}
 use mathlib.Core.Logic.{_⊎_, inl, inr}
-use mathlib.Core.Bool.{false}
+use mathlib.Core.Bool.{true, false}
 use mathlib.Core.List.{List, [], _∷_}
 use Rattle.retained.specs.declared.Names.{Names}
 use Rattle.retained.specs.declared.Retained.{Retained}
-use Rattle.retained.specs.Records.{isNamed}
-use Rattle.retained.specs.Table.{has, recordAt}
+use lib.ListN.{length, set}
+use Rattle.retained.specs.Records.{isNamed, namesOf, exchanged, freedRecord}
+use Rattle.retained.specs.Table.{has, recordAt, did, freed}
+use Rattle.answering.specs.declared.Sending.{Sending}
+use Rattle.answering.specs.Delivered.{isAcknowledgement, acknowledge, tableAcknowledged}
+use Rattle.ending.specs.First.{FirstAt, Nowhere}
 use Rattle.ending.specs.History.{Fate, NotYet, Waiting, Lost, Arrived, isWaiting, RetrySettings, Operation, RetainAt, HearPdu, StepAt}
 use Rattle.ending.specs.History.{World, worldAfter, history, start}
-use Rattle.ending.specs.Ending.{FreeTable, Ended, Statement}
+use Rattle.ending.specs.Ending.{FreeTable, Ended, Statement, Arrives}
+use Rattle.ending.proofs.Lowest.{first-or-none}
+use Rattle.ending.proofs.Hearing.{acknowledged}
 use Rattle.ending.proofs.First.{has-at, has-nowhere}
 use Rattle.ending.proofs.Facts.{free-is}
 use Rattle.ending.proofs.Holding.{Status, gone, here, never}
@@ -22,15 +28,15 @@ use Rattle.ending.proofs.AfterStep.{good-steps}
 
 good-next : (s : RetrySettings) (names : Names) (op : Operation) (w : World) → Good s names w → Good s names (worldAfter s names op w)
 good-next s names (RetainAt now bytes) w g = good-retains s names (w .table) (w .last) (w .life) g now bytes
-good-next s names (HearPdu delivery sending room received) w g = good-hears s names (w .table) (w .last) (w .life) g delivery sending room received
+good-next s names (HearPdu own delivery sending room received) w g = good-hears s names (w .table) (w .last) (w .life) g own delivery sending room received
 good-next s names (StepAt now) w g = good-steps s names (w .table) (w .last) (w .life) g now
 
-good-history : (s : RetrySettings) (names : Names) (ops : List Operation) (w : World) → Good s names w → Good s names (history s names ops w)
+pub good-history : (s : RetrySettings) (names : Names) (ops : List Operation) (w : World) → Good s names w → Good s names (history s names ops w)
 unfolding history
 good-history s names [] w g = g
 good-history s names (op ∷ ops) w g = good-history s names ops (worldAfter s names op w) (good-next s names op w g)
 
-good-start : (s : RetrySettings) (names : Names) (table : List Retained) (last : ℕ) → FreeTable table → Good s names (start table last)
+pub good-start : (s : RetrySettings) (names : Names) (table : List Retained) (last : ℕ) → FreeTable table → Good s names (start table last)
 good-start s names table last f = record {
   sixteen = f .sixteen;
   bound = omega arith;
@@ -38,7 +44,7 @@ good-start s names table last f = record {
   status = gone refl (λ p l. free-is names (recordAt table p) (f .free p (subst (λ (k : ℕ). p < k) (f .sixteen) l)));
 }
 
-ended : (s : RetrySettings) (names : Names) (w : World) → Good s names w → Ended s names w
+pub ended : (s : RetrySettings) (names : Names) (w : World) → Good s names w → Ended s names w
 ended s names w g = record {
   sent-at-most = g .bound;
   moments-end = λ h. fates (w .life .fate) refl (over h (g .status));
@@ -69,3 +75,22 @@ ended s names w g = record {
 pub ending : Statement
 ending s names table last ops f =
     let w = start table last in ended s names (history s names ops w) (good-history s names ops w (good-start s names table last f))
+
+pub arrives : Arrives
+arrives s names table last ops f own delivery sending received output waits ack same =
+    by (first-or-none (isNamed (exchanged (namesOf received))) (w .table))
+  where
+    w : World
+    w = history s names ops (start table last)
+
+    held : has (isNamed (exchanged (namesOf received))) (w .table) ≡ true
+    held = ap (λ (n : Names). has (isNamed n) (w .table)) same ∙ ending s names table last ops f .held-is ∙ ap isWaiting waits
+
+    by : ((place : ℕ) × FirstAt (isNamed (exchanged (namesOf received))) (w .table) place) ⊎ Nowhere (isNamed (exchanged (namesOf received))) (w .table)
+        → (place : ℕ) × (acknowledge (w .table) (w .last) own delivery sending (length output) received ≡ did freed (w .last) place names 0)
+        × (tableAcknowledged (w .table) own delivery sending (length output) received ≡ set (w .table) place freedRecord)
+    by (inl (place, at)) =
+        let a = acknowledged (w .table) (w .last) own delivery sending received output
+        (good-history s names ops (start table last) (good-start s names table last f) .sixteen) ack place at in
+        (place, a .0 ∙ ap (λ (n : Names). did freed (w .last) place n 0) same, a .1)
+    by (inr none) = never (sym held ∙ has-nowhere (isNamed (exchanged (namesOf received))) (w .table) none)

@@ -6,6 +6,7 @@ pub mod AfterRetaining
 pub mod AfterHearing
 pub mod AfterStep
 pub mod Ends
+pub mod Rounds
 pub mod Settles
 pub mod Lowest
 pub mod Retaining

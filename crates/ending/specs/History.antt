@@ -17,21 +17,21 @@ pub record RetrySettings : Type 0 where
   pub tries : ℕ
   pub room : ℕ
 
--- what is asked of the table: at a time, to retain a PDU; of a PDU heard, with the node's delivery number, to free a record or to answer; at a time, to step
+-- what is asked of the table: at a time, to retain a PDU; of a PDU heard, with the node's own address and delivery number, to free a record or to answer; at a time, to step
 pub data Operation : Type 0 where
   RetainAt : (now : ℕ) (bytes : List ℕ) → Operation
-  HearPdu : (delivery : ℕ) (sending : Sending) (room : ℕ) (received : List ℕ) → Operation
+  HearPdu : (own delivery : ℕ) (sending : Sending) (room : ℕ) (received : List ℕ) → Operation
   StepAt : (now : ℕ) → Operation
 
 -- what it answers, and the table after it
 abbrev pub outcomeOf : RetrySettings → List Retained → ℕ → Operation → Outcome
 outcomeOf s table last (RetainAt now bytes) = retain table last now bytes
-outcomeOf s table last (HearPdu delivery sending room received) = acknowledge table last delivery sending room received
+outcomeOf s table last (HearPdu own delivery sending room received) = acknowledge table last own delivery sending room received
 outcomeOf s table last (StepAt now) = retryStep table last now (s .delay) (s .tries) (s .room)
 
 abbrev pub tableAfter : RetrySettings → List Retained → ℕ → Operation → List Retained
 tableAfter s table last (RetainAt now bytes) = tableRetained table last now bytes
-tableAfter s table last (HearPdu delivery sending room received) = tableAcknowledged table delivery sending room received
+tableAfter s table last (HearPdu own delivery sending room received) = tableAcknowledged table own delivery sending room received
 tableAfter s table last (StepAt now) = tableStepped table last now (s .delay) (s .tries) (s .room)
 
 -- how it stands with a PDU: never retained; retained, and neither freed nor reported failed since; reported failed; freed by its acknowledgement
@@ -68,7 +68,7 @@ noneDue outcome = eqb (outcome .number) 0 && eqb (outcome .deed) nothing
 unfoldable pub watch : ℕ → Names → Operation → Outcome → Life → Life
 watch delay names (RetainAt now bytes) outcome life =
     cond (says kept names outcome) (record { fate = Waiting; sent = 0; moments = 0; mark = now }) life
-watch delay names (HearPdu delivery sending room received) outcome life =
+watch delay names (HearPdu own delivery sending room received) outcome life =
     cond (says freed names outcome) (record { fate = Arrived; sent = life .sent; moments = life .moments; mark = life .mark }) life
 watch delay names (StepAt now) outcome life =
     cond (says sent names outcome) (record { fate = life .fate; sent = life .sent + 1; moments = life .moments; mark = life .mark })

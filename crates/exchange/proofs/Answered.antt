@@ -26,7 +26,7 @@ number-of number bytes header payload = go (eqb number 0) refl
     go false e = refl
 
 module _ (bytes : List ℕ) where
-  number-is : exchangeOf bytes .number ≡ exchangeNumber bytes
+  pub number-is : exchangeOf bytes .number ≡ exchangeNumber bytes
   unfolding exchangeOf
   number-is = number-of (exchangeNumber bytes) bytes (headerElement bytes) (payloadElement bytes)
 

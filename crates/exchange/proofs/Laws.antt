@@ -32,7 +32,7 @@ use Rattle.exchange.specs.Exchange.{held, isExchange, headerElement, pay
 use Rattle.exchange.specs.Encoding.{exchangeBytes, encoding, exchangeLimit}
 use Rattle.joined.proofs.Joining.{is-joined}
 use Rattle.exchange.proofs.Putting.{payload-short}
-use Rattle.exchange.proofs.Back.{header-back, payload-back, number-back}
+use Rattle.exchange.proofs.Back.{written-parts, written-back}
 
 number-long : (number : ℕ) → length (numberBytes number) ≤ 2
 number-long number = go (ltb number 128) refl
@@ -131,13 +131,13 @@ module _ (bytes : List ℕ) (header : Header) (small : AllBytes bytes) (read : r
 
   -- what is written reads back: number 0, and header and payload are the PDU's
   pub written-number : exchangeNumber (encoding bytes) ≡ 0
-  written-number = number-back (take (headerLength header) bytes) (payloadIn header bytes) few (encoding bytes) encoding-parts _ _ refl refl ∙ joined-0
+  written-number = written-back (take (headerLength header) bytes) (payloadIn header bytes) few (encoding bytes) encoding-parts ∙ joined-0
 
   pub written-header : headerPart (encoding bytes) ≡ take (headerLength header) bytes
-  written-header = header-back (take (headerLength header) bytes) (payloadIn header bytes) few (encoding bytes) encoding-parts _ _ refl refl
+  written-header = written-parts (take (headerLength header) bytes) (payloadIn header bytes) few (encoding bytes) encoding-parts .0
 
   pub written-payload : payloadPart (encoding bytes) ≡ payloadIn header bytes
-  written-payload = payload-back (take (headerLength header) bytes) (payloadIn header bytes) few (encoding bytes) encoding-parts _ _ refl refl
+  written-payload = written-parts (take (headerLength header) bytes) (payloadIn header bytes) few (encoding bytes) encoding-parts .1
 
   -- the longest exchange
   pub encoding-long : length (encoding bytes) ≤ exchangeLimit
@@ -179,7 +179,7 @@ module _ (x : List ℕ) (read : exchangeNumber x ≡ 0) where
       rw (split-there, n, take-at h p (length h) refl, drop-at h p (length h) refl, take-all (length p) p (omega arith))
 
   -- the parts lie in the input, each whole
-  no-run-fault : runFault 4 x 0 (length x) ≡ 0
+  pub no-run-fault : runFault 4 x 0 (length x) ≡ 0
   unfolding exchangeNumber
   no-run-fault = orElse-zero _ _ read .0
 
@@ -187,7 +187,7 @@ module _ (x : List ℕ) (read : exchangeNumber x ≡ 0) where
   unfolding exchangeNumber
   shape = not-false _ (gives-zero (not (isExchange x)) 59 (omega arith) (orElse-zero _ _ (orElse-zero _ _ read .1) .0))
 
-  tests : (typeAt x 0 ≡ 20) × (elementEnd x 0 ≡ length x) × (length (held 1024 x) ≡ 1) × (length (held 1025 x) ≡ 1)
+  pub tests : (typeAt x 0 ≡ 20) × (elementEnd x 0 ≡ length x) × (length (held 1024 x) ≡ 1) × (length (held 1025 x) ≡ 1)
   unfolding isExchange
   tests =
       let c = both (eqb (typeAt x 0) 20 && eqb (elementEnd x 0) (length x) && eqb (length (held 1024 x)) 1) (eqb (length (held 1025 x)) 1) shape in
@@ -195,7 +195,7 @@ module _ (x : List ℕ) (read : exchangeNumber x ≡ 0) where
       let a = both (eqb (typeAt x 0) 20) (eqb (elementEnd x 0) (length x)) (b .0) in
       (eqb-true _ _ (a .0), eqb-true _ _ (a .1), eqb-true _ _ (b .1), eqb-true _ _ (c .1))
 
-  inside-sound : firstOf (elementFault 3 x (elementEnd x 0)) (elementsIn x (valuePlace x 0) (elementEnd x 0)) ≡ 0
+  pub inside-sound : firstOf (elementFault 3 x (elementEnd x 0)) (elementsIn x (valuePlace x 0) (elementEnd x 0)) ≡ 0
   inside-sound =
       let some : 0 < length x = omega (arith, end-after x 0, tests .1) in
       fault-inside 3 x (length x) 0 (first-sound 4 x 0 (length x) no-run-fault some) (rw (tests .0))

@@ -1,5 +1,6 @@
 pub mod Written
 pub mod There
+pub mod Run
 pub mod Judged
 pub mod Putting
 pub mod Back

@@ -9,10 +9,14 @@ use mathlib.Core.List.{List·Memᴰ·append-cases, List·Memᴰ·eq-of-singleton
 use Prim.Native.Nat.{ℕ, _+_, _*_, _≤_}
 use native.Mathlib.Decide.{ℕ-discrete}
 use native.Mathlib.Omega.{arith}
+use lib.Dec.{eqb}
 use lib.ListN.{length, length-map}
+use borrow.Author.Tests.{ne-eqb, eqb-false}
 use Rattle.octets.proofs.Numbering.{orElse-zero, gives-zero}
+use Rattle.octets.proofs.Tests.{both}
 use Rattle.pdu.specs.declared.Header.{Header}
 use Rattle.pdu.specs.declared.Destination.{Destination}
+use Rattle.pdu.specs.declared.Destination.the-variants.{Everyone, Address}
 use Rattle.pdu.specs.Header.{headerOf, sourceOf}
 use Rattle.pdu.proofs.Inversion.{shown}
 use Rattle.bound.specs.Bound.{bound, bytesBound, series, terms}
@@ -110,6 +114,24 @@ can-repeat-it n header zero =
     let two = orElse-zero _ _ (one .1) in
     both-tests (n .node .settings .repeating) (isForOwn (address n) (header .destination))
     (gives-zero _ 41 (omega arith) (one .0)) (gives-zero _ 36 (omega arith) (two .0))
+
+-- what it is that a node can repeat
+pub can-means : (n : Repeater) (to : Destination) → canRepeat to n ≡ true → (n .node .settings .repeating ≡ true) × (to ≢ Address (address n))
+can-means n Everyone can = (both (n .node .settings .repeating) true can .0, λ e. let w : _≡_ {A = ℕ} 0 1 = cc in omega arith)
+can-means n (Address a) can =
+    let (on, apart) = both (n .node .settings .repeating) (not (eqb a (address n))) can in
+    (on, λ e. let same : a ≡ address n = same-address a (address n) e in eqb-false a (address n) (not-true (eqb a (address n)) apart) same)
+  where
+    same-address : (a b : ℕ) → Address a ≡ Address b → a ≡ b
+    same-address a b e = cc
+
+    not-true : (t : Bool) → not t ≡ true → t ≡ false
+    not-true false e = refl
+    not-true true e = sym e
+
+pub means-can : (n : Repeater) (to : Destination) → to ≢ Address (address n) → n .node .settings .repeating ≡ true → canRepeat to n ≡ true
+means-can n Everyone apart on = rw on
+means-can n (Address a) apart on = rw (on, ne-eqb a (address n) (λ e. apart (ap Address e)))
 
 -- a transmission whose path names only nodes of a list
 record Named (first : List ℕ) (counted : List ℕ) (sent : List ℕ) : Type 0 where

@@ -20,12 +20,12 @@ use Rattle.flood.specs.Air.{Repeater, address, sends, Originated}
 use Rattle.flood.proofs.Exact.{longest}
 use Rattle.flood.proofs.Others.{are-others, others-are}
 use Rattle.chains.specs.Lengths.{isHeard}
-use Rattle.coverage.specs.Hearing.{senderOf}
 use Rattle.coverage.specs.Delivery.{Delivers}
 use Rattle.coverage.proofs.Cases as cases
 use Rattle.coverage.proofs.Covered.{reach, schedule}
+use Rattle.coverage.proofs.Schedule.{more-heard}
 use Rattle.coverage.proofs.Told.{told}
-use Rattle.least_reach.proofs.Hops.{none-missed, all-delivered, least, least-only, unreachable, unreachable-only}
+use Rattle.chains.proofs.Hops.{counted, least, least-only, unreachable, unreachable-only}
 use Rattle.least_reach.specs.LeastReach.{LeastReach}
 
 own-answer : (n : Repeater) (received output left : List ℕ) (answer : Answer) → length output ≡ n .room → Hears (n .node) received output answer left
@@ -78,20 +78,12 @@ least-reach =
             others-roomy = λ n m. let (n-in, other) = others-are address (settings .source) nodes m in each n n-in other .1;
           };
       taken-asked = λ hears nodes first receptions once all. record { once = once; by-all = all };
+      hearing-asked = λ hears nodes first receptions reception node node-at sent sent-at hears-sender.
+          record { node = node; node-at = node-at; sent = sent; sent-at = sent-at; hears-sender = hears-sender };
       schedule = schedule;
       told = told;
-      more-heard = λ hears known-hears more nodes first receptions taken.
-          record {
-            once = taken .once;
-            by-all = λ reception known. taken .by-all reception (record {
-              node = known .node;
-              node-at = known .node-at;
-              sent = known .sent;
-              sent-at = known .sent-at;
-              hears-sender = more (senderOf (known .sent)) (address (known .node)) (known .hears-sender);
-            });
-          };
-      none-missed = λ h lengths. (none-missed h lengths, all-delivered h lengths);
+      more-heard = more-heard;
+      missed-counts = λ h lengths limit. counted h lengths;
       least = least;
       least-only = least-only;
       unreachable = unreachable;

@@ -1,2 +1,1 @@
-pub mod Hops
 pub mod LeastReach

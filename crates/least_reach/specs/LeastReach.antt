@@ -11,9 +11,8 @@ use Rattle.pdu.specs.declared.Destination.the-variants.{Everyone}
 use Rattle.pdu.specs.Sizes.{pduLimit}
 use Rattle.editions.specs.Editions.{known}
 use Rattle.chains.specs.Chains.{ends}
-use Rattle.octets.specs.Octets.{at}
 use Rattle.chains.specs.Lengths.{isHeard, LengthsFound}
-use Rattle.chains.specs.Reach.{isDelivered, missed, leastHop}
+use Rattle.chains.specs.Reach.{missed, leastHop, AllDelivered, OutOfReach}
 use Rattle.chains.specs.declared.Least.the-variants.{HopLimit, Unreachable}
 use Rattle.origin.specs.declared.FreshSettings.{FreshSettings}
 use Rattle.origin.specs.Origination.{fresh}
@@ -23,16 +22,12 @@ use Rattle.node.specs.Answers.{answerOf, Hears}
 use Rattle.flood.specs.Flood.{Reception}
 use Rattle.flood.specs.Air.{Repeater, Nodes, Open, Originated, address, sends, onTheAir}
 use Rattle.flood.specs.Complete.{HasHeard}
-use Rattle.coverage.specs.Hearing.{InHearing, TakenByAll, ByNoOther}
+use Rattle.coverage.specs.Hearing.{senderOf, InHearing, TakenByAll, ByNoOther}
 use Rattle.coverage.specs.Delivery.{Planned, Delivers, Delivered}
 use Rattle.coverage.specs.Reach.{Reach}
 use Rattle.coverage.specs.Told.{Says, Told}
 use Rattle.coverage.specs.Cases.{reportAsked, reading, repeater, toldOfEach, nextInLine, lineAddresses, lineReceptions, lineAir, lineTold}
 use Rattle.coverage.specs.Cases.{twoWays, twoWaysAddresses, longerFirst}
-
--- by the lengths, all nodes but the originator, whose length is 0, are delivered a report with that hop limit
-abbrev pub AllDelivered : ℕ → List ℕ → Type 0
-AllDelivered h lengths = (place : ℕ) → place < length lengths → 0 < at lengths place → isDelivered h (at lengths place) ≡ true
 
 pub record LeastReach : Type 0 where
   -- I. WHAT 02 ASKS
@@ -53,6 +48,10 @@ pub record LeastReach : Type 0 where
       → ((reception : Reception) → InHearing hears nodes first receptions reception
       → HasHeard sends nodes (first ∷ []) receptions (reception .node) (reception .transmission))
       → TakenByAll hears nodes first receptions
+  pub hearing-asked : (hears : ℕ → ℕ → Bool) (nodes : List Repeater) (first : List ℕ) (receptions : List Reception) (reception : Reception)
+      → (node : Repeater) → getElem? nodes (reception .node) ≡ some node
+      → (sent : List ℕ) → getElem? (onTheAir nodes first receptions) (reception .transmission) ≡ some sent
+      → hears (senderOf sent) (address node) ≡ true → InHearing hears nodes first receptions reception
   -- and such receptions exist
   pub schedule : (hears : ℕ → ℕ → Bool) (nodes : List Repeater) (settings : FreshSettings) (payload : List ℕ) (room : ℕ)
       → Planned nodes settings payload room → (receptions : List Reception) × TakenByAll hears nodes (fresh settings payload) receptions
@@ -69,9 +68,9 @@ pub record LeastReach : Type 0 where
   pub more-heard : (hears known-hears : ℕ → ℕ → Bool) → ((sender node : ℕ) → known-hears sender node ≡ true → hears sender node ≡ true)
       → (nodes : List Repeater) (first : List ℕ) (receptions : List Reception)
       → TakenByAll hears nodes first receptions → TakenByAll known-hears nodes first receptions
-  -- no node is missed exactly where all are delivered it; the least hop limit is the one at which all are and at every smaller one some are not; and none
-  -- is told exactly where at none of 0 to 6 all are
-  pub none-missed : (h : ℕ) (lengths : List ℕ) → (missed h lengths ≡ 0 → AllDelivered h lengths) × (AllDelivered h lengths → missed h lengths ≡ 0)
+  -- the number missed at a hop limit from 0 to 6 is that of the nodes out of reach; the least hop limit is the one at which all are delivered it and at
+  -- every smaller one some are not; and none is told exactly where at none of 0 to 6 all are
+  pub missed-counts : (h : ℕ) (lengths : List ℕ) → h ≤ 6 → (places : List ℕ) × OutOfReach h lengths places × (missed h lengths ≡ length places)
   pub least : (lengths : List ℕ) (h : ℕ) → leastHop lengths ≡ HopLimit h
       → (h ≤ 6) × AllDelivered h lengths × ((less : ℕ) → less < h → ¬ AllDelivered less lengths)
   pub least-only : (lengths : List ℕ) (h : ℕ) → h ≤ 6 → AllDelivered h lengths → ((less : ℕ) → less < h → ¬ AllDelivered less lengths)
@@ -81,7 +80,8 @@ pub record LeastReach : Type 0 where
   -- a pair is a sender's place, and then the place of a node that hears it
   pub pair : (isHeard (1 ∷ 2 ∷ []) 1 2 ≡ true) × (isHeard (1 ∷ 2 ∷ []) 2 1 ≡ false)
   -- a node of the model delivers what its function `hear` returns: number 0, and the payload at the place that the answer names, and no other; and it sends
-  -- where the repeat number is 0. Its edition is 1.1 or 1.2, which `Planned` asks of each node but the originator (W-209)
+  -- where the repeat number is 0. It hears one PDU. A box walks batches, such as W-206's queue gives: what follows a PDU changes neither answer nor repeat
+  -- (`behind` in demand 2). The node's edition is 1.1 or 1.2, which `Planned` asks of each node but the originator (W-209)
   pub answered : (n : Repeater) (received output left payload : List ℕ) (answer : Answer) → length output ≡ n .room
       → Hears (n .node) received output answer left → Delivers n received payload
       → (answer .delivery ≡ 0) × (take (answer .«delivered_length») (drop (answer .«delivered_place») received) ≡ payload)

@@ -1,9 +1,9 @@
 -- What C sees of a node's answer, from what the node answers with the settings that C gave.
 use Prim.Native.Nat.{ℕ, _+_, _≤_, _<_}
 use native.Mathlib.Omega.{arith}
-use mathlib.Core.Bool.{true, false}
+use mathlib.Core.Bool.{false}
 use mathlib.Core.List.{List}
-use mathlib.Core.Path.{_≡_, refl, ap, _∙_}
+use mathlib.Core.Path.{_≡_, refl, ap, ap₂, _∙_}
 use lib.Dec.{eqb}
 use lib.ListN.{length, drop}
 use Rattle.pdu.specs.declared.Sender.{Sender}
@@ -12,7 +12,13 @@ use Rattle.lists.specs.Lists.{Lists}
 use Rattle.decision.specs.declared.Settings.{Settings}
 use Rattle.decision.specs.Decision.{Node, nodeOf}
 use Rattle.node.specs.declared.Answer.{Answer}
-use Rattle.node.specs.Answers.{answerOf, outputAfter, Hears}
+use Rattle.node.specs.Answers.{deliveryNumber, answerOf, outputAfter, Hears}
+use Rattle.deciding.specs.declared.Ask.{Ask}
+use Rattle.answering.specs.declared.Sending.{Sending}
+use Rattle.answering.specs.Delivered.{outputAcknowledged}
+use Rattle.answering.specs.Hearing.{outputHeard}
+use Rattle.answering.specs.Responding.{askAcknowledge}
+use Rattle.answering.proofs.Room.{same-room}
 use Rattle.batch.specs.declared.Cursor.{Cursor}
 use Rattle.batch.specs.declared.Stepped.{Stepped}
 use Rattle.batch.specs.Walk.{isTooLong, Steps}
@@ -42,8 +48,8 @@ module _ (node : Node) (batch output : List ℕ) (cursor : Cursor) where
   stepped-in-c stepped left told went e = (e ∙ ap (stepInC cursor) (went .0), went .1)
 
   -- with the PDU at the cursor heard
-  module _ (short : isTooLong (node .settings) batch ≡ false) (goes : cursor .ended ≡ false) (before : cursor .place < length batch) (rest left : List ℕ)
-      (is : rest ≡ drop (cursor .place) batch) (told : MantAnswer) (heard : HearsInC node rest output told left) where
+  module _ (short : isTooLong (node .settings .edition) batch ≡ false) (goes : cursor .ended ≡ false) (before : cursor .place < length batch)
+      (rest left : List ℕ) (is : rest ≡ drop (cursor .place) batch) (told : MantAnswer) (heard : HearsInC node rest output told left) where
     abbrev answer : Answer
     answer = answerOf node (length output) rest
 
@@ -87,4 +93,23 @@ counted-in-c node received output left memory after told number heard counted =
       heard,
       counted .0 ∙ ap (λ (a : Answer). answerNumber a received memory) back,
       counted .1 ∙ ap (λ (a : Answer). memoryAfterAnswer a received memory) back,
+    )
+
+-- a PDU heard, and what it then asks of a table
+pub responded-in-c : (given : MantNode) (lists : Lists) (received output left after : List ℕ) (records last : ℕ) (sending : Sending) (told : MantAnswer) (ask : Ask)
+    → HearsInC (nodeOf (nodeFromC given) lists) received output told left
+    → (ask ≡ askAcknowledge last (given .own) (told .delivery) sending (length left) received)
+    × (after ≡ outputAcknowledged records (given .own) (told .delivery) sending received left)
+    → let node = nodeOf (nodeFromC given) lists in
+    (told ≡ answerInC (answerOf node (length output) received))
+    × (ask ≡ askAcknowledge last (given .own) (deliveryNumber node (length output) received) sending (length output) received)
+    × (after ≡ outputHeard node records sending received output)
+unfolding answerOf
+responded-in-c given lists received output left after records last sending told ask heard asked =
+    let node = nodeOf (nodeFromC given) lists in
+    let number : told .delivery ≡ deliveryNumber node (length output) received = ap (λ (m : MantAnswer). m .delivery) (heard .0) in
+    let long : length left ≡ length output = ap length (heard .1) ∙ same-room node received output in (
+      heard .0,
+      asked .0 ∙ ap₂ (λ (d n : ℕ). askAcknowledge last (given .own) d sending n received) number long,
+      asked .1 ∙ ap₂ (λ (d : ℕ) (o : List ℕ). outputAcknowledged records (given .own) d sending received o) number (heard .1),
     )

@@ -5,13 +5,8 @@ use boundary::MantAnswer;
 use boundary::MantNode;
 use boundary::MantStep;
 ghost use mathlib.Core.Path.{_≡_};
-ghost use mathlib.Core.Bool.{_&&_};
-ghost use lib.Dec.{ltb};
-ghost use lib.ListN.{length};
-ghost use Rattle.editions.specs.Editions.{known};
 ghost use Rattle.lists.specs.Lists.{listsIn};
 ghost use Rattle.decision.specs.Decision.{nodeOf};
-ghost use Rattle.batch.specs.Walk.{batchLimit};
 ghost use Rattle.boundary.specs.Boundary.{choiceNumber, nodeFromC, changedOver, HearsInC, StepsInC};
 
 // What a node answers for the PDU at the start of the received bytes. An edition other than 11 and 12 (17), the first fault of the eight lists, chosen or
@@ -54,7 +49,7 @@ pub extern "C" fn mant_step(
         (now (batch .entry)) cursor (now (output .entry)) r (now (output .exit)) ⌝ }
 {
     let place = cursor.place;
-    if is_too_long(node.edition, &batch[..]) {
+    if batch::is_too_long(node.edition, &batch[..]) {
         return boundary::step_in_c(cursor, Stepped::TooLong);
     }
     if cursor.ended {
@@ -73,17 +68,6 @@ pub extern "C" fn mant_step(
         kind: 0,
         answer,
         next,
-    }
-}
-
-// Whether a batch is refused for its length: under an edition that is not known 17 comes before that.
-fn is_too_long(edition: u64, batch: &[u8]) -> bool
-    ensures { λ r. ⌜ r ≡ (known edition && ltb batchLimit (length (now (batch .entry)))) ⌝ }
-{
-    if editions::is_known(edition) {
-        Cursor::BATCH_LIMIT < batch.len()
-    } else {
-        false
     }
 }
 

@@ -1,8 +1,10 @@
 // The serial exchange: a PDU between a decoder and an encoder that are two devices.
+use elements::Element;
 use exchange::Exchange;
 use pdu::Written;
 ghost use mathlib.Core.Path.{_≡_};
 ghost use lib.ListN.{length};
+ghost use Rattle.elements.specs.Walking.{elementOf};
 ghost use Rattle.exchange.specs.Exchange.{exchangeOf};
 ghost use Rattle.exchange.specs.Encoding.{writtenExchange, exchangeOutput};
 
@@ -22,4 +24,12 @@ pub extern "C" fn mant_write_exchange(bytes: &[u8], output: &mut [u8]) -> Writte
         × (now (output .exit) ≡ exchangeOutput (now (bytes .entry)) (now (output .entry))) ⌝ }
 {
     exchange::write_exchange(bytes, output)
+}
+
+// The element at a place of a run: 0 with its type, place and length of its value, and its end; or 57 and zeros. Document 003, the binary elements.
+#[no_mangle]
+pub extern "C" fn mant_element_at(bytes: &[u8], place: usize) -> Element
+    ensures { λ r. ⌜ r ≡ elementOf (now (bytes .entry)) place ⌝ }
+{
+    elements::element_at(bytes, place)
 }

@@ -4,25 +4,10 @@ use mathlib.Core.Bool.{true}
 use mathlib.Core.List.{List}
 use mathlib.Core.Path.{_≡_, refl, sym, _∙_}
 use Rattle.editions.specs.Editions.{known}
-use Rattle.decision.specs.Decision.{Node, nodeOf, passFault}
+use Rattle.decision.specs.Decision.{Node, passFault}
 use Rattle.node.specs.Answers.{answerOf, outputAfter}
+use Rattle.node.specs.Editions.{withEdition}
 use Rattle.node.proofs.Alike.{Alike, alike-answer, alike-output}
-
--- the node with another edition; all else is as it was
-abbrev pub withEdition : ℕ → Node → Node
-withEdition edition node =
-    nodeOf
-    (record {
-      edition = edition;
-      own = node .settings .own;
-      echo = node .settings .echo;
-      repeating = node .settings .repeating;
-      «source_pass» = node .settings .«source_pass»;
-      «source_reject» = node .settings .«source_reject»;
-      «destination_pass» = node .settings .«destination_pass»;
-      «destination_reject» = node .settings .«destination_reject»;
-    })
-    (node .lists)
 
 module _ (edition other : ℕ) (node : Node) (is-known : known edition ≡ true) (other-known : known other ≡ true) where
   pub edition-alike : Alike (withEdition edition node) (withEdition other node)

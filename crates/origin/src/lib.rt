@@ -42,7 +42,7 @@ pub fn originate(settings: FreshSettings, payload: &[u8], output: &mut [u8]) -> 
     if output.len() < length {
         return refused(14);
     }
-    let place = writing::put_header(output, header).length;
+    let place = writing::put_header(output, header);
     octets::put(output, place, payload);
     Written { number: 0, length }
 }

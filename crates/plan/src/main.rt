@@ -139,8 +139,9 @@ fn say_length(length: u64) {
 fn say_conditions(before: &[u8]) {
     say(before);
     say(
-        b"it was originated with a path, every node has echo suppression on, the originator too, no two nodes have the same address,\nand no node takes a transmission twice.\n",
+        b"it was originated with a path, every node has echo suppression on, the originator too, no two nodes have the same address,\n",
     );
+    say(b"and no node takes a transmission twice.\n");
 }
 
 fn say_count(number: u64, what: &[u8]) {

@@ -1,14 +1,9 @@
 -- Every public function of `answering`: its promise asks nothing of the caller and determines what the caller sees.
 use mathlib.Core.Path.{sym, _∙_}
 use denote.Ref.{now}
-use Rattle.promises.specs.Promise.{Promised, PromisedWithOutput}
-use Rattle.answering.proofs.ask_acknowledge.Reads as ask-acknowledge-reads
-use Rattle.answering.proofs.ask_acknowledge.Kinds as ask-acknowledge-kinds
+use Rattle.promises.specs.Promise.{PromisedWithOutput}
 use Rattle.answering.proofs.respond.Reads as respond-reads
 use Rattle.answering.proofs.respond.Kinds as respond-kinds
-
-pub ask-acknowledge : Promised 1 ask-acknowledge-kinds.ps ask-acknowledge-kinds.r ask-acknowledge-reads.Asked ask-acknowledge-reads.Post (λ κs x. x)
-ask-acknowledge = (λ κs a. tt, λ κs a x y s t p q. p ∙ sym q)
 
 pub respond : PromisedWithOutput 2 respond-kinds.ps respond-kinds.r respond-reads.Asked respond-reads.Post
     (λ κs s. now (s .0))

@@ -50,6 +50,8 @@ use Rattle.mant.proofs.serial_exchange.mant_read_exchange.Reads as mant-read-ex
 use Rattle.mant.proofs.serial_exchange.mant_read_exchange.Kinds as mant-read-exchange-kinds
 use Rattle.mant.proofs.serial_exchange.mant_write_exchange.Reads as mant-write-exchange-reads
 use Rattle.mant.proofs.serial_exchange.mant_write_exchange.Kinds as mant-write-exchange-kinds
+use Rattle.mant.proofs.serial_exchange.mant_element_at.Reads as mant-element-at-reads
+use Rattle.mant.proofs.serial_exchange.mant_element_at.Kinds as mant-element-at-kinds
 use Rattle.mant.proofs.transmit_queue.mant_queue_level.Reads as mant-queue-level-reads
 use Rattle.mant.proofs.transmit_queue.mant_queue_level.Kinds as mant-queue-level-kinds
 use Rattle.mant.proofs.transmit_queue.mant_queue_clear.Reads as mant-queue-clear-reads
@@ -170,6 +172,9 @@ mant-read-exchange = (λ κs a. tt, λ κs a x y s t p q. p ∙ sym q)
 pub mant-write-exchange : PromisedWithOutput 2 mant-write-exchange-kinds.ps mant-write-exchange-kinds.r mant-write-exchange-reads.Asked
     mant-write-exchange-reads.Post (λ κs s. now (s .1 .0))
 mant-write-exchange = (λ κs a. tt, λ κs a x y s t p q. (p .0 ∙ sym (q .0), p .1 ∙ sym (q .1)))
+
+pub mant-element-at : Promised 1 mant-element-at-kinds.ps mant-element-at-kinds.r mant-element-at-reads.Asked mant-element-at-reads.Post (λ κs x. x)
+mant-element-at = (λ κs a. tt, λ κs a x y s t p q. p ∙ sym q)
 
 pub mant-queue-level : Promised 1 mant-queue-level-kinds.ps mant-queue-level-kinds.r mant-queue-level-reads.Asked
     mant-queue-level-reads.Post (λ κs x. x)

@@ -4,25 +4,34 @@ use base.Logic.{emp, id⊢}
 use denote.Ref.{now}
 use Rattle.promises.specs.Promise.{both, PromisedInLogic, PromisedInLogicWithOutput}
 use Rattle.promises.proofs.View.{both as both-facts}
-use Rattle.reliable.proofs.search as search-contract
-use Rattle.reliable.proofs.lay as lay-contract
+use Rattle.reliable.proofs.find as find-contract
+use Rattle.reliable.proofs.store as store-contract
+use Rattle.reliable.proofs.free as free-contract
 use Rattle.reliable.proofs.resend as resend-contract
 use Rattle.mant.proofs.reliable_messages.mant_retain as mant-retain-contract
 use Rattle.mant.proofs.reliable_messages.mant_retry as mant-retry-contract
 use Rattle.mant.proofs.reliable_messages.mant_acknowledge as mant-acknowledge-contract
+use Rattle.mant.proofs.reliable_messages.mant_hear_reliably as mant-hear-reliably-contract
 
-pub search : PromisedInLogic search-contract.ended (λ M 𝓤. search-contract.clauses 𝓤) (λ κs x. x)
-search =
+pub find : PromisedInLogic find-contract.ended (λ M 𝓤. find-contract.clauses 𝓤) (λ κs x. x)
+find =
     record {
       unconditional = λ M 𝓤 H A mem run κs a g. id⊢ 𝓤 (emp 𝓤);
       determined = λ M 𝓤 H A mem run κs a g h x y s t. both-facts 𝓤 (λ p q. p ∙ sym q);
     }
 
-pub lay : PromisedInLogicWithOutput lay-contract.ended (λ M 𝓤. lay-contract.clauses 𝓤) (λ κs s. now (s .0))
-lay =
+pub store : PromisedInLogicWithOutput store-contract.ended (λ M 𝓤. store-contract.clauses 𝓤) (λ κs s. now (s .0))
+store =
     record {
       unconditional = λ M 𝓤 H A mem run κs a g. id⊢ 𝓤 (emp 𝓤);
       determined = λ M 𝓤 H A mem run κs a g h x y s t. both-facts 𝓤 (λ p q. (refl, p ∙ sym q));
+    }
+
+pub free : PromisedInLogicWithOutput free-contract.ended (λ M 𝓤. free-contract.clauses 𝓤) (λ κs s. now (s .0))
+free =
+    record {
+      unconditional = λ M 𝓤 H A mem run κs a g. id⊢ 𝓤 (emp 𝓤);
+      determined = λ M 𝓤 H A mem run κs a g h x y s t. both-facts 𝓤 (λ p q. (p .0 ∙ sym (q .0), p .1 ∙ sym (q .1)));
     }
 
 pub resend : PromisedInLogicWithOutput resend-contract.ended (λ M 𝓤. resend-contract.clauses 𝓤)
@@ -51,10 +60,22 @@ mant-retry =
     }
 
 pub mant-acknowledge : PromisedInLogicWithOutput mant-acknowledge-contract.ended (λ M 𝓤. mant-acknowledge-contract.clauses 𝓤)
-    (λ κs s. both (now (s .0)) (now (s .1 .1 .1 .1 .1 .0)))
+    (λ κs s. both (now (s .0)) (now (s .1 .1 .1 .1 .1 .1 .0)))
 mant-acknowledge =
     record {
       unconditional = λ M 𝓤 H A mem run κs a g. id⊢ 𝓤 (emp 𝓤);
       determined = λ M 𝓤 H A mem run κs a g h x y s t. both-facts 𝓤
           (λ p q. (p .0 ∙ sym (q .0), λ i. ((p .1 ∙ sym (q .1)) i, (p .2 ∙ sym (q .2)) i)));
+    }
+
+pub mant-hear-reliably : PromisedInLogicWithOutput mant-hear-reliably-contract.ended (λ M 𝓤. mant-hear-reliably-contract.clauses 𝓤)
+    (λ κs s. both (now (s .1 .1 .0)) (now (s .1 .1 .1 .1 .1 .1 .0)))
+mant-hear-reliably =
+    record {
+      unconditional = λ M 𝓤 H A mem run κs a g. id⊢ 𝓤 (emp 𝓤);
+      determined = λ M 𝓤 H A mem run κs a g h x y s t. both-facts 𝓤
+          (λ p q. (
+            λ i. record { answer = (p .0 ∙ sym (q .0)) i; outcome = (p .1 ∙ sym (q .1)) i },
+            λ i. ((p .2 ∙ sym (q .2)) i, (p .3 ∙ sym (q .3)) i),
+          ));
     }

@@ -1,10 +1,10 @@
 -- A retained PDU and its acknowledgement: what goes back, that a repeat of either is the same PDU, the record freed by it, and the floods they begin.
 use native.Mathlib.Omega.{arith}
 use Prim.Native.Nat.{ℕ, _+_, _*_, _<_, _≤_}
-use mathlib.Core.Bool.{true, false, not}
+use mathlib.Core.Bool.{true, false}
 use mathlib.Core.List.{List, [], _++_}
-use mathlib.Core.Path.{_≡_, sym, _∙_, ap, subst}
-use lib.ListN.{length, set, drop, length-set}
+use mathlib.Core.Path.{_≡_, refl, sym, _∙_, ap, subst}
+use lib.ListN.{length, set, drop, replicate, length-set}
 use Rattle.octets.specs.Octets.{AllBytes, over}
 use Rattle.pdu.specs.declared.Destination.the-variants.{Address}
 use Rattle.pdu.specs.declared.Header.{Header}
@@ -32,7 +32,7 @@ use Rattle.ending.proofs.Exchanged.{ack-shows, ack-names, retained-waits}
 use Rattle.ending.proofs.Sendings.{fit-is, no-entries, ack-alone-shows, ack-one, ack-path, ack-small}
 use Rattle.flood.specs.Air.{Begins, hopOf}
 use Rattle.reliable_messages.specs.ReliableMessages.{Handles, SamePdu, sendingOf}
-use Rattle.reliable_messages.proofs.Tests.{are-asked}
+use Rattle.reliable_messages.proofs.Delivering.{node-answered, node-freed}
 
 -- an acknowledgement beside a fresh PDU with the same settings
 module _ (s : FreshSettings) (names : Names) where
@@ -94,10 +94,10 @@ repeated-same node room received rest small again =
 module _ (near far : Node) (table : List Retained) (last now : ℕ) (bytes : List ℕ) (place : ℕ) (sixteen : length table ≡ 16) (later : last ≤ now)
     (fit : unfit bytes ≡ 0) (unnamed : Nowhere (isNamed (namesOf bytes)) table) (free : FirstAt isFree table place)
     (copy : List ℕ) (farRoom : ℕ) (same : SamePdu copy bytes) (delivered : deliveryNumber far farRoom copy ≡ 0)
-    (theirs : List Retained) (sending : Sending) (output : List ℕ) (theirs-16 : length theirs ≡ 16) (hop : sending .«hop_limit» ≤ 7)
+    (sending : Sending) (output : List ℕ) (hop : sending .«hop_limit» ≤ 7)
     (port : sending .port ≤ 15) (roomy : pduLength (ackHeader sending (namesOf copy)) ≤ length output) where
   abbrev heard : List ℕ
-  heard = outputAcknowledged theirs (deliveryNumber far farRoom copy) sending copy output
+  heard = outputAcknowledged 16 (far .settings .own) (deliveryNumber far farRoom copy) sending copy output
 
   abbrev waiting : List Retained
   waiting = tableRetained table last now bytes
@@ -105,14 +105,12 @@ module _ (near far : Node) (table : List Retained) (last now : ℕ) (bytes : Lis
   abbrev rest : List ℕ
   rest = drop (length (acknowledgement sending (namesOf copy))) output
 
-  asked : isAnswered (deliveryNumber far farRoom copy) (headerOf copy) ≡ true
-  asked =
-      let f = fit-is bytes fit in
-      are-asked (deliveryNumber far farRoom copy) (headerOf copy) _ delivered (same .1 ∙ f .reliable) (ap not (same .2 ∙ f .no-ack))
+  asked : isAnswered (far .settings .own) (deliveryNumber far farRoom copy) copy ≡ true
+  asked = let f = fit-is bytes fit in node-answered far farRoom copy (delivered, same .1 ∙ f .reliable, same .2 ∙ f .no-ack)
 
   heard-is : heard ≡ acknowledgement sending (namesOf copy) ++ rest
   unfolding over
-  heard-is = answer-sent theirs 0 (deliveryNumber far farRoom copy) sending copy output asked hop port theirs-16 roomy .2
+  heard-is = answer-sent (replicate 16 freedRecord) 0 (far .settings .own) (deliveryNumber far farRoom copy) sending copy output asked hop port refl roomy .2
 
   heard-shows : headerOf heard ≡ ackHeader sending (namesOf copy)
   heard-shows = ap headerOf heard-is ∙ ack-shows sending (namesOf copy) hop port rest
@@ -128,18 +126,18 @@ module _ (near far : Node) (table : List Retained) (last now : ℕ) (bytes : Lis
       (retained-waits table now bytes fit place (free .within) unnamed)
 
   module _ (back : List ℕ) (nearRoom : ℕ) (kept : SamePdu back heard) (arrived : deliveryNumber near nearRoom back ≡ 0)
-      (own : Sending) (second : List ℕ) where
+      (nearSending : Sending) (second : List ℕ) where
     names-back : exchanged (namesOf back) ≡ namesOf bytes
     names-back = ap exchanged (kept .0 ∙ heard-names)
 
-    is-ack : isAcknowledgement (deliveryNumber near nearRoom back) (headerOf back) ≡ true
-    is-ack = are-asked (deliveryNumber near nearRoom back) (headerOf back) _ arrived
-        (kept .1 ∙ ap (λ (h : Header). h .protocol) heard-shows) (kept .2 ∙ ap (λ (h : Header). h .ack) heard-shows)
+    is-ack : isAcknowledgement (near .settings .own) (deliveryNumber near nearRoom back) back ≡ true
+    is-ack = node-freed near nearRoom back
+        (arrived, kept .1 ∙ ap (λ (h : Header). h .protocol) heard-shows, kept .2 ∙ ap (λ (h : Header). h .ack) heard-shows)
 
-    pub exchanged-there : Handles waiting now (deliveryNumber near nearRoom back) own back second (did freed now place (namesOf bytes) 0)
-        (set waiting place freedRecord) second
+    pub exchanged-there : Handles waiting now (near .settings .own) (deliveryNumber near nearRoom back) nearSending back second
+        (did freed now place (namesOf bytes) 0) (set waiting place freedRecord) second
     exchanged-there =
-        let a = acknowledged waiting now (deliveryNumber near nearRoom back) own back second
+        let a = acknowledged waiting now (near .settings .own) (deliveryNumber near nearRoom back) nearSending back second
         (ap length waiting-is ∙ length-set table place (retainedRecord now bytes) ∙ sixteen) is-ack place
         (subst (λ (n : Names). FirstAt (isNamed n) waiting place) (sym names-back) waits) in
         (a .0 ∙ ap (λ (n : Names). did freed now place n 0) names-back, a .1, a .2)

@@ -1,3 +1,4 @@
 pub mod Tests
+pub mod Delivering
 pub mod Exchange
 pub mod ReliableMessages

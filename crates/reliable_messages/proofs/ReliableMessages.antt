@@ -1,8 +1,8 @@
 -- W-210 from its parts.
+use native.Mathlib.Omega.{arith}
 use mathlib.Core.Bool.{true, false, not}
 use mathlib.Core.List.{[], _∷_, _++_}
 use mathlib.Core.Path.{_≡_, refl, ap}
-use borrow.Author.Tests.{not-true}
 use Rattle.octets.specs.Numbers.{_gives_, _orElse_}
 use Rattle.octets.specs.Octets.{placed}
 use Rattle.pdu.specs.Header.{headerOf}
@@ -11,25 +11,32 @@ use Rattle.writing.specs.Writing.{headerBytes, pathBytes, encode}
 use Rattle.pdu.specs.Parts.{addressesAt, inPath}
 use Rattle.lists.specs.Lists.{lowAboveHigh, faultOf, firstFault, holds}
 use Rattle.decision.specs.Decision.{echoFault, passFault, dropFault, deliveryFault, repeatFault}
-use Rattle.node.specs.Answers.{nodeFault, nodeOrReadingFault, stopFault, deliveryNumber}
+use Rattle.node.specs.Answers.{nodeFault, nodeOrReadingFault, stopFault, deliveryNumber, delivered}
 use Rattle.retained.specs.Records.{isRetainable, unfit, isUsed, namesOf, isNamed, isDue, retainedRecord, freedRecord}
-use Rattle.retained.specs.Table.{first, retainNumber, retain, tableRetained, stepNumber, retryStep, tableStepped}
-use Rattle.answering.specs.Delivered.{acknowledgement, acknowledgeNumber, acknowledge, tableAcknowledged}
+use Rattle.retained.specs.Table.{first, numberAlone, retainNumber, retain, tableRetained, stepNumber, retryStep, tableStepped}
+use Rattle.answering.specs.Delivered.{isDeliveredHere, acknowledgement, acknowledgeNumber, acknowledge, tableAcknowledged}
+use Rattle.answering.specs.Hearing.{outcomeHeard}
 use Rattle.ending.specs.History.{RetainAt, HearPdu, StepAt, Waiting, Lost, Arrived, watch, worldAfter, history, start}
+use Rattle.ending.specs.Ending.{roundsAt, Spaced}
 use Rattle.ending.proofs.Facts.{freed-free, is-due, retained-pdu}
 use Rattle.ending.proofs.Lowest.{first-or-none}
 use Rattle.ending.proofs.Retaining.{retain-74, retain-73, retain-75, retain-72, retain-71, retain-70, retain-kept, is-fit}
 use Rattle.ending.proofs.Stepping.{step-74, step-73, step-none, step-dropped, step-77, step-sent}
 use Rattle.ending.proofs.Hearing.{answer-10, answer-11, answer-74, answer-77, answer-sent, heard-74, heard-other, unmatched, acknowledged}
 use Rattle.ending.proofs.Exchanged.{ack-reads, ack-names}
-use Rattle.ending.proofs.Ends.{ending}
+use Rattle.ending.proofs.Ends.{ending, arrives}
+use Rattle.ending.proofs.Rounds.{rounds-end}
 use Rattle.ending.proofs.Settles.{settling}
 use Rattle.flood.proofs.Fresh.{originated-begins}
 use Rattle.flood.proofs.Counting.{begun-bounded}
 use Rattle.checked_by_hand.specs.Examples.{nodeAt}
-use Rattle.reliable_messages.specs.ReliableMessages.{commandOf, command, withPath, of256, of257, reply, sendingMost, commandNames}
-use Rattle.reliable_messages.specs.ReliableMessages.{empty, full, twoTries, ReliableMessages}
-use Rattle.reliable_messages.proofs.Tests.{used-is, is-used, retainable-is, is-retainable, names-there, named-there, is-named, due-is, asks, are-asked}
+use Rattle.reliable_messages.specs.Worked.{commandOf, command, withPath, of256, of257, reply, replyWith, commandAdded, sendingMost, commandNames}
+use Rattle.reliable_messages.specs.Worked.{empty, full, twoTries}
+use Rattle.reliable_messages.specs.ReliableMessages.{ReliableMessages}
+use Rattle.reliable_messages.proofs.Tests.{used-is, is-used, retainable-is, is-retainable, names-there, named-there, is-named, due-is}
+use Rattle.reliable_messages.proofs.Delivering.{answers-here, here-answers, frees-here, here-frees, node-answered, node-answered-only, only-answered}
+use Rattle.reliable_messages.proofs.Delivering.{node-freed, node-freed-only}
+use Rattle.reliable_messages.proofs.Delivering.{payload-is, stays-whole, its-output, heard-so, refused-so, is-answered, is-freed, is-ignored}
 use Rattle.reliable_messages.proofs.Exchange.{reply-same, repeated-same, exchanged-there, held-begins, reply-starts}
 
 -- the cases that compute, each by itself
@@ -69,17 +76,39 @@ module _ where
       isNamed isDue readOf headerOf placed _gives_ _orElse_
   lost-there = refl
 
+  rounds-lost : history twoTries commandNames (RetainAt 10 command ∷ roundsAt twoTries (15 ∷ 20 ∷ 25 ∷ [])) (start empty 0) .life
+      ≡ record { fate = Lost; sent = 2; moments = 3; mark = 25 }
+  unfolding history worldAfter watch retain retainNumber tableRetained retryStep stepNumber tableStepped first unfit isRetainable exactlyOne isUsed namesOf
+      isNamed isDue readOf headerOf placed _gives_ _orElse_
+  rounds-lost = refl
+
+  apart : Spaced 5 10 10 (15 ∷ 20 ∷ 25 ∷ []) × (Spaced 5 10 10 (14 ∷ 20 ∷ 25 ∷ []) → ⊥)
+  apart = ((omega arith, omega arith, (omega arith, omega arith, (omega arith, omega arith, tt))), λ s. absurd (omega (arith, s .1)))
+
   waiting-there : history twoTries commandNames (RetainAt 10 command ∷ StepAt 14 ∷ StepAt 15 ∷ StepAt 15 ∷ StepAt 20 ∷ StepAt 20 ∷ []) (start empty 0) .life
       ≡ record { fate = Waiting; sent = 2; moments = 2; mark = 20 }
   unfolding history worldAfter watch retain retainNumber tableRetained retryStep stepNumber tableStepped first unfit isRetainable exactlyOne isUsed namesOf
       isNamed isDue readOf headerOf placed _gives_ _orElse_
   waiting-there = refl
 
-  arrived-there : history twoTries commandNames (RetainAt 10 command ∷ StepAt 15 ∷ HearPdu 0 sendingMost 0 reply ∷ StepAt 20 ∷ []) (start empty 0) .life
+  arrived-there : history twoTries commandNames (RetainAt 10 command ∷ StepAt 15 ∷ HearPdu 2000 0 sendingMost 0 reply ∷ StepAt 20 ∷ []) (start empty 0) .life
       ≡ record { fate = Arrived; sent = 1; moments = 1; mark = 20 }
-  unfolding history worldAfter watch retain retainNumber tableRetained retryStep stepNumber tableStepped acknowledge acknowledgeNumber tableAcknowledged first
+  unfolding history worldAfter watch retain retainNumber tableRetained retryStep stepNumber tableStepped acknowledge acknowledgeNumber isDeliveredHere
+      tableAcknowledged first
       unfit isRetainable exactlyOne isUsed namesOf isNamed isDue readOf headerOf placed _gives_ _orElse_
   arrived-there = refl
+
+  not-for-this : (acknowledge empty 5 3000 0 sendingMost 100 command ≡ numberAlone 0 5) × (acknowledge empty 5 0 0 sendingMost 100 (0x09 ∷ []) ≡ numberAlone 0 5)
+      × (acknowledge empty 5 1000 0 sendingMost 100 commandAdded ≡ numberAlone 0 5)
+  unfolding acknowledge acknowledgeNumber isDeliveredHere readOf headerOf _gives_ _orElse_
+  not-for-this = (refl, refl, refl)
+
+  payload-given : (outcomeHeard (nodeAt 2000 true false) empty 5 sendingMost 100 replyWith ≡ numberAlone 0 5)
+      × (delivered (nodeAt 2000 true false) 100 replyWith ≡ (0xAB ∷ 0xCD ∷ []))
+  unfolding acknowledge acknowledgeNumber isDeliveredHere first isUsed unfit isRetainable exactlyOne namesOf isNamed deliveryNumber delivered stopFault nodeFault
+      nodeOrReadingFault lowAboveHigh faultOf firstFault holds echoFault passFault dropFault deliveryFault repeatFault addressesAt inPath readOf headerOf _gives_
+      _orElse_
+  payload-given = (refl, refl)
 
 pub reliable-messages : ReliableMessages
 reliable-messages =
@@ -115,17 +144,17 @@ reliable-messages =
       dropped = step-dropped;
       step-77 = step-77;
       sent-again = step-sent;
-      answers-it = λ delivery received e. let a = asks delivery (headerOf received) (not (headerOf received .ack)) e in (a .0, a .1, not-true _ (a .2));
-      answers-it-only = λ delivery received d p k. are-asked delivery (headerOf received) (not (headerOf received .ack)) d p (ap not k);
+      answers-it = answers-here;
+      answers-it-only = here-answers;
       hear-10 = answer-10;
       hear-11 = answer-11;
       hear-74 = answer-74;
       hear-77 = answer-77;
       acknowledges = answer-sent;
-      frees-it = λ delivery received e. asks delivery (headerOf received) (headerOf received .ack) e;
-      frees-it-only = λ delivery received d p k. are-asked delivery (headerOf received) (headerOf received .ack) d p k;
+      frees-it = frees-here;
+      frees-it-only = here-frees;
       other-74 = heard-74;
-      frees = λ table last delivery sending received output s k place f. acknowledged table last delivery sending received output s k place f;
+      frees = acknowledged;
       matches-nothing = unmatched;
       ignores = heard-other;
       reads-back = λ sending names hop port rest. (ack-reads sending names hop port rest, ack-names sending names hop port rest);
@@ -134,6 +163,21 @@ reliable-messages =
       exchange = exchanged-there;
       ending = ending;
       settling = settling;
+      rounds = rounds-end;
+      arrives = arrives;
+      node-answers = node-answered;
+      node-answers-only = node-answered-only;
+      node-frees = node-freed;
+      node-frees-only = node-freed-only;
+      answered-there = λ node table last sending received output d hop port s. is-answered node received output sending table last s d hop port;
+      answered-only = λ node table last sending received room. only-answered node room received table last sending;
+      unanswered = λ node records sending received output. its-output node received output sending records;
+      not-repeated = stays-whole;
+      heard-as = λ node table last sending received output. heard-so node received output sending table last;
+      refused-there = λ node table last sending received output. refused-so node received output sending table last;
+      freed-there = λ node table last sending received output d s. is-freed node received output sending table last s d;
+      ignored-there = λ node table last sending received output d s. is-ignored node received output sending table last s d;
+      payload-there = payload-is;
       enough-is = (refl, refl);
       fresh-begins = originated-begins;
       retained-begins = held-begins;
@@ -146,6 +190,10 @@ reliable-messages =
       reply-bytes = reply-there;
       delivered-there = delivered-at;
       lost = lost-there;
+      spaced = apart;
+      lost-by-rounds = rounds-lost;
       waiting = waiting-there;
       arrived = arrived-there;
+      not-for-it = not-for-this;
+      with-payload = payload-given;
     }

@@ -1,4 +1,4 @@
--- What each test of a record, of its names and of a PDU that was heard says, and that what it says is enough.
+-- What each test of a record and of its names says, and that what it says is enough.
 use Prim.Native.Nat.{ℕ, _+_, _≤_}
 use mathlib.Core.Bool.{Bool, true, false, not, _&&_}
 use mathlib.Core.List.{List}
@@ -63,12 +63,3 @@ is-named names r u e = named-is names r u ∙ ap (λ (n : Names). sameNames n na
 pub due-is : (now delay : ℕ) (r : Retained) → isDue now delay r ≡ true → (isUsed r ≡ true) × (r .«sent_at» + delay ≤ now)
 unfolding isDue
 due-is now delay r h = let p = both (isUsed r) _ h in (p .0, leb-true (r .«sent_at» + delay) now (p .1))
-
-pub asks : (delivery : ℕ) (h : Header) (k : Bool) → (eqb delivery 0 && (eqb (h .protocol) 1 && k)) ≡ true → (delivery ≡ 0) × (h .protocol ≡ 1) × (k ≡ true)
-asks delivery h k e =
-    let a = both (eqb delivery 0) _ e in
-    let b = both (eqb (h .protocol) 1) k (a .1) in
-    (eqb-true delivery 0 (a .0), eqb-true (h .protocol) 1 (b .0), b .1)
-
-pub are-asked : (delivery : ℕ) (h : Header) (k : Bool) → delivery ≡ 0 → h .protocol ≡ 1 → k ≡ true → (eqb delivery 0 && (eqb (h .protocol) 1 && k)) ≡ true
-are-asked delivery h k d p e = simp (eq-eqb delivery 0 d, eq-eqb (h .protocol) 1 p, e)

@@ -4,34 +4,38 @@ use mathlib.Core.Bool.{Bool, true, false}
 use mathlib.Core.Logic.{_⊎_}
 use mathlib.Core.List.{List, [], _∷_, _++_, List·Nodup}
 use mathlib.Core.Path.{_≡_}
-use lib.ListN.{length, set, replicate}
+use lib.ListN.{length, set}
 use Rattle.octets.specs.Octets.{AllBytes, over}
 use Rattle.pdu.specs.declared.Destination.the-variants.{Address}
 use Rattle.pdu.specs.declared.Reading.the-variants.{Pdu}
 use Rattle.pdu.specs.Header.{headerOf, sourceOf}
 use Rattle.pdu.specs.Sizes.{pathEntries, pduLength}
 use Rattle.pdu.specs.Reading.{readOf, exactlyOne}
+use Rattle.pdu.specs.Parts.{payloadIn}
 use Rattle.origin.specs.declared.FreshSettings.{FreshSettings}
 use Rattle.origin.specs.Origination.{fresh}
 use Rattle.decision.specs.Decision.{Node}
 use Rattle.node.specs.Repeat.{repeated}
-use Rattle.node.specs.Answers.{deliveryNumber, repeatNumber}
+use Rattle.node.specs.Answers.{deliveryNumber, repeatNumber, delivered, outputAfter}
 use Rattle.retained.specs.declared.Names.{Names}
 use Rattle.retained.specs.declared.Retained.{Retained}
 use Rattle.retained.specs.declared.Outcome.{Outcome}
 use Rattle.retained.specs.Records.{isRetainable, unfit, pduOf, isUsed, isFree, namesOf, exchanged, isNamed, isDue}
 use Rattle.retained.specs.Records.{retainedRecord, sentRecord, freedRecord}
-use Rattle.retained.specs.Table.{recordAt, noNames, numberAlone, did, kept, sent, failed, freed}
+use Rattle.retained.specs.Table.{recordAt, noNames, numberAlone, did, kept, sent, failed, freed, answered}
 use Rattle.retained.specs.Table.{retain, tableRetained, retryStep, tableStepped, outputStepped}
 use Rattle.answering.specs.declared.Sending.{Sending}
-use Rattle.answering.specs.Delivered.{isAnswered, isAcknowledgement, ackHeader, acknowledgement, answered}
+use Rattle.answering.specs.Delivered.{isAnswered, isAcknowledgement, ackHeader, acknowledgement}
 use Rattle.answering.specs.Delivered.{acknowledge, tableAcknowledged, outputAcknowledged}
+use Rattle.answering.specs.Hearing.{outcomeHeard, tableHeard, outputHeard}
 use Rattle.ending.specs.First.{FirstAt, Nowhere}
-use Rattle.ending.specs.History.{RetrySettings, RetainAt, HearPdu, StepAt, Waiting, Lost, Arrived, history, start}
-use Rattle.ending.specs.Ending.{Statement, enough, Settling}
+use Rattle.ending.specs.History.{RetainAt, HearPdu, StepAt, Waiting, Lost, Arrived, history, start}
+use Rattle.ending.specs.Ending.{Statement, enough, roundsAt, Spaced, Settling, Rounds, Arrives}
 use Rattle.flood.specs.Flood.{Reception, Bounded}
 use Rattle.flood.specs.Air.{Repeater, Nodes, Begins, Originated, address, pathOf, hopOf, onTheAir, repeaters}
 use Rattle.checked_by_hand.specs.Examples.{nodeAt}
+use Rattle.reliable_messages.specs.Worked.{commandOf, command, withPath, of256, of257, reply, replyWith, commandAdded, sendingMost, commandNames}
+use Rattle.reliable_messages.specs.Worked.{empty, full, twoTries}
 
 -- what retaining, a step and a PDU heard answer, and what they leave in the table and in the output
 abbrev pub Keeps : List Retained → ℕ → ℕ → List ℕ → Outcome → List Retained → Type 0
@@ -42,11 +46,27 @@ Tries table last now delay tries output outcome after left =
     (retryStep table last now delay tries (length output) ≡ outcome) × (tableStepped table last now delay tries (length output) ≡ after)
     × (outputStepped table last now delay tries output ≡ left)
 
-abbrev pub Handles : List Retained → ℕ → ℕ → Sending → List ℕ → List ℕ → Outcome → List Retained → List ℕ → Type 0
-Handles table last delivery sending received output outcome after left =
-    (acknowledge table last delivery sending (length output) received ≡ outcome)
-    × (tableAcknowledged table delivery sending (length output) received ≡ after)
-    × (outputAcknowledged table delivery sending received output ≡ left)
+abbrev pub Handles : List Retained → ℕ → ℕ → ℕ → Sending → List ℕ → List ℕ → Outcome → List Retained → List ℕ → Type 0
+Handles table last own delivery sending received output outcome after left =
+    (acknowledge table last own delivery sending (length output) received ≡ outcome)
+    × (tableAcknowledged table own delivery sending (length output) received ≡ after)
+    × (outputAcknowledged (length table) own delivery sending received output ≡ left)
+
+-- and what a node that hears a PDU, and the table with it, answer and leave
+abbrev pub Receives : Node → List Retained → ℕ → Sending → List ℕ → List ℕ → Outcome → List Retained → List ℕ → Type 0
+Receives node table last sending received output outcome after left =
+    (outcomeHeard node table last sending (length output) received ≡ outcome) × (tableHeard node table sending (length output) received ≡ after)
+    × (outputHeard node (length table) sending received output ≡ left)
+
+-- what is asked of bytes and of the number for delivery that come with them
+abbrev pub DeliveredHere : ℕ → ℕ → List ℕ → Bool → Type 0
+DeliveredHere own delivery received ack =
+    (delivery ≡ 0) × (readOf received ≡ Pdu (headerOf received)) × (headerOf received .protocol ≡ 1) × (headerOf received .destination ≡ Address own)
+    × (headerOf received .«added_header» ≡ false) × (headerOf received .ack ≡ ack)
+
+-- a node delivers a PDU of protocol 1, with ACK set or clear
+abbrev pub DeliveredBy : Node → ℕ → List ℕ → Bool → Type 0
+DeliveredBy node room received ack = (deliveryNumber node room received ≡ 0) × (headerOf received .protocol ≡ 1) × (headerOf received .ack ≡ ack)
 
 -- the same PDU, as far as this table goes: source, destination and ID, protocol and ACK
 abbrev pub SamePdu : List ℕ → List ℕ → Type 0
@@ -58,60 +78,67 @@ abbrev pub sendingOf : FreshSettings → Sending
 sendingOf s =
     record { «hop_limit» = s .«hop_limit»; port = s .port; «time_stamp_request» = s .«time_stamp_request»; «with_path» = s .«with_path» }
 
--- For the worked cases: a command from 2000 to 1000 with hop limit 3 and an ID, and with ID 7; that with the path bit, a count and a path; and with 256 or
--- 257 bytes
-abbrev pub commandOf : ℕ → List ℕ
-commandOf id = 0x09 ∷ 0x40 ∷ 0x30 ∷ 0x00 ∷ 0x07 ∷ 0xD0 ∷ 0x03 ∷ 0xE8 ∷ id ∷ []
-
-abbrev pub command : List ℕ
-command = commandOf 7
-
-abbrev pub withPath : ℕ → List ℕ → List ℕ
-withPath count path = 0x0B ∷ 0x40 ∷ 0x30 ∷ 0x00 ∷ 0x07 ∷ 0xD0 ∷ 0x03 ∷ 0xE8 ∷ 0x07 ∷ count ∷ path
-
-abbrev pub of256 : List ℕ
-of256 = 0x09 ∷ 0x40 ∷ 0x30 ∷ 0xF7 ∷ 0x07 ∷ 0xD0 ∷ 0x03 ∷ 0xE8 ∷ 0x07 ∷ replicate 247 0
-
-abbrev pub of257 : List ℕ
-of257 = 0x09 ∷ 0x40 ∷ 0x30 ∷ 0xF8 ∷ 0x07 ∷ 0xD0 ∷ 0x03 ∷ 0xE8 ∷ 0x07 ∷ replicate 248 0
-
--- its acknowledgement, hop limit 7, port 15, time stamp requested, with the path bit
-abbrev pub reply : List ℕ
-reply = 0x0F ∷ 0xF1 ∷ 0x70 ∷ 0x00 ∷ 0x03 ∷ 0xE8 ∷ 0x07 ∷ 0xD0 ∷ 0x07 ∷ 0x00 ∷ []
-
-abbrev pub sendingMost : Sending
-sendingMost = record { «hop_limit» = 7; port = 15; «time_stamp_request» = true; «with_path» = true }
-
-abbrev pub commandNames : Names
-commandNames = record { source = 2000; destination = 1000; «pdu_id» = 7 }
-
--- tables of 16: all free, and all holding the command as retained at second 10
-abbrev pub empty : List Retained
-empty = replicate 16 freedRecord
-
-abbrev pub full : List Retained
-full = replicate 16 (retainedRecord 10 command)
-
--- delay 5, two more sendings
-abbrev pub twoTries : RetrySettings
-twoTries = record { delay = 5; tries = 2; room = 256 }
-
 pub record ReliableMessages : Type 0 where
   -- I. WHAT 02 ASKS
-  -- the theorem: at most so many sendings, and so many moments and one more end it; and the steps at one moment end
+  -- the theorem: at most so many sendings, and so many moments and one more end it; the steps at one moment end; so many rounds of so many steps end it
   pub ending : Statement
   pub settling : Settling
+  pub rounds : Rounds
+  -- whatever came between, a PDU that waits is freed by its delivered acknowledgement
+  pub arrives : Arrives
+  -- at a node that acknowledgement is a PDU of protocol 1 with ACK set that the node delivers, and no other
+  pub node-frees : (node : Node) (room : ℕ) (received : List ℕ) → DeliveredBy node room received true
+      → isAcknowledgement (node .settings .own) (deliveryNumber node room received) received ≡ true
+  pub node-frees-only : (node : Node) (room : ℕ) (received : List ℕ)
+      → isAcknowledgement (node .settings .own) (deliveryNumber node room received) received ≡ true → DeliveredBy node room received true
+  -- a PDU of protocol 1 with ACK clear that a node delivers, and no other, is answered; by the call that hears it too
+  pub node-answers : (node : Node) (room : ℕ) (received : List ℕ) → DeliveredBy node room received false
+      → isAnswered (node .settings .own) (deliveryNumber node room received) received ≡ true
+  pub node-answers-only : (node : Node) (room : ℕ) (received : List ℕ)
+      → isAnswered (node .settings .own) (deliveryNumber node room received) received ≡ true → DeliveredBy node room received false
+  pub answered-there : (node : Node) (table : List Retained) (last : ℕ) (sending : Sending) (received output : List ℕ)
+      → DeliveredBy node (length output) received false → sending .«hop_limit» ≤ 7 → sending .port ≤ 15 → length table ≡ 16
+      → pduLength (ackHeader sending (namesOf received)) ≤ length output
+      → Receives node table last sending received output (did answered last 0 (namesOf received) (pduLength (ackHeader sending (namesOf received)))) table
+      (over (acknowledgement sending (namesOf received)) output)
+  pub answered-only : (node : Node) (table : List Retained) (last : ℕ) (sending : Sending) (received : List ℕ) (room : ℕ)
+      → outcomeHeard node table last sending room received .deed ≡ answered → DeliveredBy node room received false
+  -- where none is answered, the output is the node's; a PDU that is answered is not repeated, so that one output serves both
+  pub unanswered : (node : Node) (records : ℕ) (sending : Sending) (received output : List ℕ) → (DeliveredBy node (length output) received false → ⊥)
+      → outputHeard node records sending received output ≡ outputAfter node received output
+  pub not-repeated : (node : Node) (received output : List ℕ) (ack : Bool) → DeliveredBy node (length output) received ack
+      → (repeatNumber node (length output) received ≡ 41) × (outputAfter node received output ≡ output)
+  -- for any PDU, refusals and one that is not delivered included: the table goes by the node's number for delivery, the output by what the node leaves there
+  pub heard-as : (node : Node) (table : List Retained) (last : ℕ) (sending : Sending) (received output : List ℕ)
+      → (outcome : Outcome) (after : List Retained) (left : List ℕ)
+      → Handles table last (node .settings .own) (deliveryNumber node (length output) received) sending received (outputAfter node received output)
+      outcome after left
+      → Receives node table last sending received output outcome after left
+  -- so a refusal leaves the table and the time, and in the output what the node leaves there
+  pub refused-there : (node : Node) (table : List Retained) (last : ℕ) (sending : Sending) (received output : List ℕ)
+      → let number = outcomeHeard node table last sending (length output) received .number in (number ≡ 0 → ⊥)
+      → Receives node table last sending received output (numberAlone number last) table (outputAfter node received output)
+  -- one with ACK set frees the first record with its ID and its addresses exchanged; one that matches nothing is ignored; its payload is delivered
+  pub freed-there : (node : Node) (table : List Retained) (last : ℕ) (sending : Sending) (received output : List ℕ)
+      → DeliveredBy node (length output) received true → length table ≡ 16 → (place : ℕ) → FirstAt (isNamed (exchanged (namesOf received))) table place
+      → Receives node table last sending received output (did freed last place (exchanged (namesOf received)) 0) (set table place freedRecord) output
+  pub ignored-there : (node : Node) (table : List Retained) (last : ℕ) (sending : Sending) (received output : List ℕ)
+      → DeliveredBy node (length output) received true → length table ≡ 16 → Nowhere (isNamed (exchanged (namesOf received))) table
+      → Receives node table last sending received output (numberAlone 0 last) table output
+  pub payload-there : (node : Node) (room : ℕ) (received : List ℕ) (ack : Bool) → DeliveredBy node room received ack
+      → delivered node room received ≡ payloadIn (headerOf received) received
   -- two nodes: what is retained at one, delivered at the other and there acknowledged, is freed once the acknowledgement is delivered at the first; the
   -- other may hear a copy, and so may the first, as repeaters between them leave it
   pub exchange : (near far : Node) (table : List Retained) (last now : ℕ) (bytes : List ℕ) (place : ℕ) → length table ≡ 16 → last ≤ now
       → unfit bytes ≡ 0 → Nowhere (isNamed (namesOf bytes)) table → FirstAt isFree table place
       → (copy : List ℕ) (farRoom : ℕ) → SamePdu copy bytes → deliveryNumber far farRoom copy ≡ 0
-      → (theirs : List Retained) (sending : Sending) (output : List ℕ) → length theirs ≡ 16 → sending .«hop_limit» ≤ 7 → sending .port ≤ 15
+      → (sending : Sending) (output : List ℕ) → sending .«hop_limit» ≤ 7 → sending .port ≤ 15
       → pduLength (ackHeader sending (namesOf copy)) ≤ length output
-      → (back : List ℕ) (nearRoom : ℕ) → SamePdu back (outputAcknowledged theirs (deliveryNumber far farRoom copy) sending copy output)
-      → deliveryNumber near nearRoom back ≡ 0 → (own : Sending) (second : List ℕ)
+      → (back : List ℕ) (nearRoom : ℕ) → SamePdu back (outputAcknowledged 16 (far .settings .own) (deliveryNumber far farRoom copy) sending copy output)
+      → deliveryNumber near nearRoom back ≡ 0 → (nearSending : Sending) (second : List ℕ)
       → let waiting = tableRetained table last now bytes in
-      Handles waiting now (deliveryNumber near nearRoom back) own back second (did freed now place (namesOf bytes) 0) (set waiting place freedRecord) second
+      Handles waiting now (near .settings .own) (deliveryNumber near nearRoom back) nearSending back second (did freed now place (namesOf bytes) 0)
+      (set waiting place freedRecord) second
   -- a PDU is the same PDU where a node repeats it
   pub same-repeated : (node : Node) (room : ℕ) (received rest : List ℕ) → AllBytes received → repeatNumber node room received ≡ 0
       → SamePdu (repeated (node .settings .own) received ++ rest) received
@@ -199,46 +226,42 @@ pub record ReliableMessages : Type 0 where
       → let r = recordAt table place in
       Tries table last now delay tries output (did sent now place (namesOf (pduOf r)) (r .length)) (set table place (sentRecord now r))
       (over (pduOf r) output)
-  -- a PDU heard, of any table, with the node's number for delivery. Answered: delivered, of protocol 1, ACK clear; then 10, 11, 74 and 77 in that order
-  pub answers-it : (delivery : ℕ) (received : List ℕ) → isAnswered delivery (headerOf received) ≡ true
-      → (delivery ≡ 0) × (headerOf received .protocol ≡ 1) × (headerOf received .ack ≡ false)
-  pub answers-it-only : (delivery : ℕ) (received : List ℕ) → delivery ≡ 0 → headerOf received .protocol ≡ 1 → headerOf received .ack ≡ false
-      → isAnswered delivery (headerOf received) ≡ true
-  pub hear-10 : (table : List Retained) (last delivery : ℕ) (sending : Sending) (received output : List ℕ)
-      → isAnswered delivery (headerOf received) ≡ true → 7 < sending .«hop_limit»
-      → Handles table last delivery sending received output (numberAlone 10 last) table output
-  pub hear-11 : (table : List Retained) (last delivery : ℕ) (sending : Sending) (received output : List ℕ)
-      → isAnswered delivery (headerOf received) ≡ true → sending .«hop_limit» ≤ 7 → 15 < sending .port
-      → Handles table last delivery sending received output (numberAlone 11 last) table output
-  pub hear-74 : (table : List Retained) (last delivery : ℕ) (sending : Sending) (received output : List ℕ)
-      → isAnswered delivery (headerOf received) ≡ true → sending .«hop_limit» ≤ 7 → sending .port ≤ 15 → (length table ≡ 16 → ⊥)
-      → Handles table last delivery sending received output (numberAlone 74 last) table output
-  pub hear-77 : (table : List Retained) (last delivery : ℕ) (sending : Sending) (received output : List ℕ)
-      → isAnswered delivery (headerOf received) ≡ true → sending .«hop_limit» ≤ 7 → sending .port ≤ 15 → length table ≡ 16
+  -- a PDU heard, of any table, with the node's number for delivery. Answered: delivered, for the own address, ACK clear; then 10, 11, 74 and 77 in that order
+  pub answers-it : (own delivery : ℕ) (received : List ℕ) → isAnswered own delivery received ≡ true → DeliveredHere own delivery received false
+  pub answers-it-only : (own delivery : ℕ) (received : List ℕ) → DeliveredHere own delivery received false → isAnswered own delivery received ≡ true
+  pub hear-10 : (table : List Retained) (last own delivery : ℕ) (sending : Sending) (received output : List ℕ)
+      → isAnswered own delivery received ≡ true → 7 < sending .«hop_limit»
+      → Handles table last own delivery sending received output (numberAlone 10 last) table output
+  pub hear-11 : (table : List Retained) (last own delivery : ℕ) (sending : Sending) (received output : List ℕ)
+      → isAnswered own delivery received ≡ true → sending .«hop_limit» ≤ 7 → 15 < sending .port
+      → Handles table last own delivery sending received output (numberAlone 11 last) table output
+  pub hear-74 : (table : List Retained) (last own delivery : ℕ) (sending : Sending) (received output : List ℕ)
+      → isAnswered own delivery received ≡ true → sending .«hop_limit» ≤ 7 → sending .port ≤ 15 → (length table ≡ 16 → ⊥)
+      → Handles table last own delivery sending received output (numberAlone 74 last) table output
+  pub hear-77 : (table : List Retained) (last own delivery : ℕ) (sending : Sending) (received output : List ℕ)
+      → isAnswered own delivery received ≡ true → sending .«hop_limit» ≤ 7 → sending .port ≤ 15 → length table ≡ 16
       → length output < pduLength (ackHeader sending (namesOf received))
-      → Handles table last delivery sending received output (numberAlone 77 last) table output
-  pub acknowledges : (table : List Retained) (last delivery : ℕ) (sending : Sending) (received output : List ℕ)
-      → isAnswered delivery (headerOf received) ≡ true → sending .«hop_limit» ≤ 7 → sending .port ≤ 15 → length table ≡ 16
+      → Handles table last own delivery sending received output (numberAlone 77 last) table output
+  pub acknowledges : (table : List Retained) (last own delivery : ℕ) (sending : Sending) (received output : List ℕ)
+      → isAnswered own delivery received ≡ true → sending .«hop_limit» ≤ 7 → sending .port ≤ 15 → length table ≡ 16
       → pduLength (ackHeader sending (namesOf received)) ≤ length output
-      → Handles table last delivery sending received output (did answered last 0 (namesOf received) (pduLength (ackHeader sending (namesOf received)))) table
+      → Handles table last own delivery sending received output (did answered last 0 (namesOf received) (pduLength (ackHeader sending (namesOf received)))) table
       (over (acknowledgement sending (namesOf received)) output)
   -- not answered: only 74; an acknowledgement frees the first record with its ID and its addresses exchanged, or is ignored, and so is any other PDU
-  pub frees-it : (delivery : ℕ) (received : List ℕ) → isAcknowledgement delivery (headerOf received) ≡ true
-      → (delivery ≡ 0) × (headerOf received .protocol ≡ 1) × (headerOf received .ack ≡ true)
-  pub frees-it-only : (delivery : ℕ) (received : List ℕ) → delivery ≡ 0 → headerOf received .protocol ≡ 1 → headerOf received .ack ≡ true
-      → isAcknowledgement delivery (headerOf received) ≡ true
-  pub other-74 : (table : List Retained) (last delivery : ℕ) (sending : Sending) (received output : List ℕ)
-      → isAnswered delivery (headerOf received) ≡ false → (length table ≡ 16 → ⊥)
-      → Handles table last delivery sending received output (numberAlone 74 last) table output
-  pub frees : (table : List Retained) (last delivery : ℕ) (sending : Sending) (received output : List ℕ) → length table ≡ 16
-      → isAcknowledgement delivery (headerOf received) ≡ true → (place : ℕ) → FirstAt (isNamed (exchanged (namesOf received))) table place
-      → Handles table last delivery sending received output (did freed last place (exchanged (namesOf received)) 0) (set table place freedRecord) output
-  pub matches-nothing : (table : List Retained) (last delivery : ℕ) (sending : Sending) (received output : List ℕ)
-      → isAnswered delivery (headerOf received) ≡ false → length table ≡ 16 → Nowhere (isNamed (exchanged (namesOf received))) table
-      → Handles table last delivery sending received output (numberAlone 0 last) table output
-  pub ignores : (table : List Retained) (last delivery : ℕ) (sending : Sending) (received output : List ℕ)
-      → isAnswered delivery (headerOf received) ≡ false → length table ≡ 16 → isAcknowledgement delivery (headerOf received) ≡ false
-      → Handles table last delivery sending received output (numberAlone 0 last) table output
+  pub frees-it : (own delivery : ℕ) (received : List ℕ) → isAcknowledgement own delivery received ≡ true → DeliveredHere own delivery received true
+  pub frees-it-only : (own delivery : ℕ) (received : List ℕ) → DeliveredHere own delivery received true → isAcknowledgement own delivery received ≡ true
+  pub other-74 : (table : List Retained) (last own delivery : ℕ) (sending : Sending) (received output : List ℕ)
+      → isAnswered own delivery received ≡ false → (length table ≡ 16 → ⊥)
+      → Handles table last own delivery sending received output (numberAlone 74 last) table output
+  pub frees : (table : List Retained) (last own delivery : ℕ) (sending : Sending) (received output : List ℕ) → length table ≡ 16
+      → isAcknowledgement own delivery received ≡ true → (place : ℕ) → FirstAt (isNamed (exchanged (namesOf received))) table place
+      → Handles table last own delivery sending received output (did freed last place (exchanged (namesOf received)) 0) (set table place freedRecord) output
+  pub matches-nothing : (table : List Retained) (last own delivery : ℕ) (sending : Sending) (received output : List ℕ)
+      → isAnswered own delivery received ≡ false → length table ≡ 16 → Nowhere (isNamed (exchanged (namesOf received))) table
+      → Handles table last own delivery sending received output (numberAlone 0 last) table output
+  pub ignores : (table : List Retained) (last own delivery : ℕ) (sending : Sending) (received output : List ℕ)
+      → isAnswered own delivery received ≡ false → length table ≡ 16 → isAcknowledgement own delivery received ≡ false
+      → Handles table last own delivery sending received output (numberAlone 0 last) table output
   -- IV. WORKED CASES
   -- 16 steps with a delay, and with none 16 for each sending and the drop
   pub enough-is : (enough twoTries ≡ 16) × (enough (record { delay = 0; tries = 2; room = 256 }) ≡ 48)
@@ -261,5 +284,15 @@ pub record ReliableMessages : Type 0 where
       ≡ record { fate = Lost; sent = 2; moments = 3; mark = 25 }
   pub waiting : history twoTries commandNames (RetainAt 10 command ∷ StepAt 14 ∷ StepAt 15 ∷ StepAt 15 ∷ StepAt 20 ∷ StepAt 20 ∷ []) (start empty 0) .life
       ≡ record { fate = Waiting; sent = 2; moments = 2; mark = 20 }
-  pub arrived : history twoTries commandNames (RetainAt 10 command ∷ StepAt 15 ∷ HearPdu 0 sendingMost 0 reply ∷ StepAt 20 ∷ []) (start empty 0) .life
+  pub arrived : history twoTries commandNames (RetainAt 10 command ∷ StepAt 15 ∷ HearPdu 2000 0 sendingMost 0 reply ∷ StepAt 20 ∷ []) (start empty 0) .life
       ≡ record { fate = Arrived; sent = 1; moments = 1; mark = 20 }
+  -- lost by rounds too: at 15, 20 and 25 they lie a delay or more after the last or the retaining at 10; at 14 the first would not
+  pub spaced : Spaced 5 10 10 (15 ∷ 20 ∷ 25 ∷ []) × (Spaced 5 10 10 (14 ∷ 20 ∷ 25 ∷ []) → ⊥)
+  pub lost-by-rounds : history twoTries commandNames (RetainAt 10 command ∷ roundsAt twoTries (15 ∷ 20 ∷ 25 ∷ [])) (start empty 0) .life
+      ≡ record { fate = Lost; sent = 2; moments = 3; mark = 25 }
+  -- whatever number comes with it: a command for another address, bytes that are no PDU and a command with an added header are not answered
+  pub not-for-it : (acknowledge empty 5 3000 0 sendingMost 100 command ≡ numberAlone 0 5) × (acknowledge empty 5 0 0 sendingMost 100 (0x09 ∷ []) ≡ numberAlone 0 5)
+      × (acknowledge empty 5 1000 0 sendingMost 100 commandAdded ≡ numberAlone 0 5)
+  -- node 2000 hears an acknowledgement with a payload that matches nothing: it is ignored, and its payload delivered
+  pub with-payload : (outcomeHeard (nodeAt 2000 true false) empty 5 sendingMost 100 replyWith ≡ numberAlone 0 5)
+      × (delivered (nodeAt 2000 true false) 100 replyWith ≡ (0xAB ∷ 0xCD ∷ []))

@@ -28,14 +28,17 @@ has test table = ltb (first test table) (length table)
 abbrev pub recordAt : List Retained → ℕ → Retained
 recordAt table place = getD table place freedRecord
 
--- 74, and 73 of an operation that takes a time: an equal one is not earlier
+-- 74 for another number of records, and 73 of an operation that takes a time: an equal one is not earlier
+abbrev pub recordsFault : ℕ → ℕ
+recordsFault records = not (eqb records tableSize) gives 74
+
 abbrev pub tableFault : List Retained → ℕ
-tableFault table = not (eqb (length table) tableSize) gives 74
+tableFault table = recordsFault (length table)
 
 abbrev pub timeFault : ℕ → ℕ → ℕ
 timeFault last now = ltb now last gives 73
 
--- what was done: nothing; a PDU was retained, sent again, dropped and reported failed, freed by its acknowledgement
+-- what was done: nothing; a PDU was retained, sent again, dropped and reported failed, freed by its acknowledgement; one that was heard was answered
 abbrev pub nothing : ℕ
 nothing = 0
 
@@ -51,6 +54,9 @@ failed = 3
 abbrev pub freed : ℕ
 freed = 4
 
+abbrev pub answered : ℕ
+answered = 5
+
 abbrev pub noNames : Names
 noNames = record { source = 0; destination = 0; «pdu_id» = 0 }
 
@@ -58,7 +64,7 @@ noNames = record { source = 0; destination = 0; «pdu_id» = 0 }
 abbrev pub numberAlone : ℕ → ℕ → Outcome
 numberAlone number last = record { number = number; last = last; deed = nothing; place = 0; names = noNames; length = 0 }
 
--- the answer where something was done to the record at a place, with the PDU's names
+-- the answer where something was done: to the record at a place, or for a PDU answered, with place 0; with the PDU's names and the bytes written
 abbrev pub did : ℕ → ℕ → ℕ → Names → ℕ → Outcome
 did deed last place names written = record { number = 0; last = last; deed = deed; place = place; names = names; length = written }
 

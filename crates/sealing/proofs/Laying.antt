@@ -2,6 +2,7 @@
 use Prim.Native.Nat.{ℕ, _+_, _-_, _*_, _/_, _%_, _≤_}
 use native.Mathlib.Omega.{arith}
 use native.Mathlib.Nat.{mod-eq-of-lt}
+use mathlib.Core.Bool.{true}
 use mathlib.Core.List.{List, [], _∷_, _++_, append-assoc}
 use mathlib.Core.Path.{_≡_, refl, ap, ap₂, sym, _∙_}
 use lib.Dec.{eqb}
@@ -19,14 +20,13 @@ use Rattle.sha1.specs.Sha1.{sha1}
 use Rattle.sha1.proofs.Feeding.{twenty}
 use Rattle.pdu.specs.declared.Header.{Header}
 use Rattle.pdu.specs.declared.Reading.the-variants.{Pdu}
-use Rattle.pdu.specs.declared.Written.{Written}
 use Rattle.pdu.specs.Header.{headerOf, sourcePlace, pathCountPlace}
 use Rattle.pdu.specs.Sizes.{destinationFlag, pathEntries, pathStart, headerLength, pduLength}
 use Rattle.pdu.specs.Reading.{readOf}
 use Rattle.pdu.specs.Parts.{pathIn, payloadIn}
 use Rattle.pdu.proofs.Inversion.{shown}
 use Rattle.pdu.proofs.Showing.{destination-small}
-use Rattle.writing.specs.Writing.{headerBytes, pathBytes, encode, fieldFault, headerWritten, headerOutput}
+use Rattle.writing.specs.Writing.{headerBytes, pathBytes, encode, writable, headerWritten, headerOutput}
 use Rattle.writing.proofs.Encoding.{header-begins, length-header, length-pathIn}
 use Rattle.writing.proofs.Within.{within, all-within, shown-within}
 use Rattle.writing.proofs.Same.{written-same, shown-well-formed}
@@ -115,12 +115,19 @@ module _ (bytes output : List ℕ) (header : Header) (small : AllBytes bytes) (r
   abbrev head : List ℕ
   head = headerBytes (sealedHeader header) ++ path
 
-  sealed-within : fieldFault (sealedHeader header) ≡ 0
+  sealed-writable : writable (sealedHeader header) ≡ true
   unfolding sealedHeader
-  sealed-within =
+  sealed-writable =
       let w = within header (shown-within bytes header small (shown bytes header read)) in
       all-within (sealedHeader header)
-      (record { protocol = w .protocol; hop = w .hop; port = w .port; payload = omega arith; reserved = w .reserved })
+      (record {
+        protocol = w .protocol;
+        addressed = w .addressed;
+        hop = w .hop;
+        port = w .port;
+        reserved = w .reserved;
+        payload = omega arith;
+      })
 
   same-start : pathStart (sealedHeader header) ≡ pathStart header
   unfolding sealedHeader
@@ -142,15 +149,15 @@ module _ (bytes output : List ℕ) (header : Header) (small : AllBytes bytes) (r
       ∙ ap (take (start + size)) (sym (written-same bytes header small read)) ∙ take-at (front ++ path) (payloadIn header bytes) (start + size) long in
       sym (drop-at front path start (length-header header)) ∙ ap (drop start) (sym joined) ∙ drop-at (take start bytes) part start begins
 
-  pub head-put : (sealed : Header) (written : Written) (begun part now : List ℕ) (entries next : ℕ) → sealed ≡ sealedHeader header
-      → (written ≡ headerWritten sealed (length output)) × (begun ≡ headerOutput sealed output)
-      → entries ≡ pathEntries header → part ≡ take (2 * entries) (drop (written .length) bytes)
-      → (next ≡ placeAfter begun (written .length) part) × (now ≡ placed begun (written .length) part)
+  pub head-put : (sealed : Header) (place : ℕ) (begun part now : List ℕ) (entries next : ℕ) → sealed ≡ sealedHeader header
+      → (place ≡ headerWritten sealed (length output)) × (begun ≡ headerOutput sealed output)
+      → entries ≡ pathEntries header → part ≡ take (2 * entries) (drop place bytes)
+      → (next ≡ placeAfter begun place part) × (now ≡ placed begun place part)
       → (next ≡ headerLength header) × (now ≡ over head output)
-  head-put sealed written begun part now entries next is put-header en ep put =
+  head-put sealed place begun part now entries next is put-header en ep put =
       let s = sealedHeader header in
-      let b = header-begins s output sealed-within (omega (arith, same-start)) begun written (rw is at (put-header .0)) (rw is at (put-header .1)) in
-      let from : written .length ≡ pathStart header = sym (b .ends) ∙ length-header s ∙ same-start in
+      let b = header-begins s output sealed-writable (omega (arith, same-start)) begun place (rw is at (put-header .0), rw is at (put-header .1)) in
+      let from : place ≡ pathStart header = sym (b .ends) ∙ length-header s ∙ same-start in
       let is-part : part ≡ path = ep ∙ rw (from, en) (sym path-part) in
       let size = length-pathIn header bytes in
       let all = more path begun now next b (omega (arith, b .ends, length-header s, same-start, size))
@@ -213,7 +220,7 @@ module _ (bytes output : List ℕ) (header : Header) (small : AllBytes bytes) (r
         let tail = path ++ (digits ++ (plain ++ rest)) in
         let split : all ++ rest ≡ s ++ tail = simp append-assoc in
         let front : hashedHeader o3 ≡ hashedHeader s =
-        ap hashedHeader (b3 .is ∙ split) ∙ hashed-header (sealedHeader header) tail (within (sealedHeader header) sealed-within .protocol) in
+        ap hashedHeader (b3 .is ∙ split) ∙ hashed-header (sealedHeader header) tail (within (sealedHeader header) sealed-writable .protocol) in
         eh ∙ ap₂ (λ (l : List ℕ) (h : Header). take 4 (sha1 (l ++ messageNumberBytes number ++ payloadIn h bytes))) front (sym is)
 
     pub laid : Laid bytes output header number p2 p4 o4

@@ -54,7 +54,7 @@ fn put_head(output: &mut [u8], pdu: &[u8], header: Header) -> usize
     ensures { λ r. ⌜ (r ≡ headerLength header)
         × (now (output .exit) ≡ over (headerBytes (sealedHeader header) ++ pathBytes (pathIn header (now (pdu .entry)))) (now (output .entry))) ⌝ }
 {
-    let path = writing::put_header(output, sealed_header(header)).length;
+    let path = writing::put_header(output, sealed_header(header));
     octets::put(
         output,
         path,

@@ -175,7 +175,7 @@ module _ (stepper : Stepper) (keeps : KeepsStepping stepper) where
 
 offsets-follow : (node : Node) (room : ℕ) (batch : List ℕ) → Follows node batch 0 (walk node room batch .offsets) (walk node room batch .end)
 unfolding walk
-offsets-follow node room batch = go (isTooLong (node .settings) batch)
+offsets-follow node room batch = go (isTooLong (node .settings .edition) batch)
   where
     same : (place : ℕ) (offsets : List ℕ) (end : ℕ) → walking.Follows node room batch place offsets end → Follows node batch place offsets end
     same place [] end follows = follows

@@ -34,7 +34,7 @@ module _ (stepper : Stepper) (keeps : KeepsStepping stepper) (settings : Setting
     -- a step goes on within the batch, or where it is
     place-fits : (cursor : Cursor) → cursor .place < 2 ^ 64 → placeIn (stepOf own room batch cursor) < 2 ^ 64
     unfolding stepOf
-    place-fits cursor fits = go (isTooLong settings batch) (isDone batch cursor)
+    place-fits cursor fits = go (isTooLong (settings .edition) batch) (isDone batch cursor)
       where
         go : (long done : Bool)
             → placeIn (cond long TooLong (cond done Ended (Answered (answerOf own room (drop (cursor .place) batch)) (nextCursor own batch (cursor .place)))))
@@ -81,9 +81,9 @@ module _ (stepper : Stepper) (keeps : KeepsStepping stepper) (settings : Setting
         let later : Cursor → List (List ℕ) = λ next. leftBy stepper settings lists batch output turns next in
         ap (λ (stepped : Stepped). leftThen stepped (step .1) later) (kept .0)
         ∙ ap (λ (bytes : List ℕ). leftThen (stepOf own room batch cursor) bytes later) (kept .1)
-        ∙ go (isTooLong settings batch) (isDone batch cursor) refl refl (λ next less. same-left turns next less)
+        ∙ go (isTooLong (settings .edition) batch) (isDone batch cursor) refl refl (λ next less. same-left turns next less)
       where
-        go : (long done : Bool) → isTooLong settings batch ≡ long → isDone batch cursor ≡ done
+        go : (long done : Bool) → isTooLong (settings .edition) batch ≡ long → isDone batch cursor ≡ done
             → ((next : Cursor) → next .place < 2 ^ 64
             → leftBy stepper settings lists batch output turns next ≡ map leaves (steps own room batch turns next .offsets))
             → let stepped = cond long TooLong (cond done Ended

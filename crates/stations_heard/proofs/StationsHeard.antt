@@ -100,4 +100,5 @@ stations-heard =
       listed = λ memory e deeds.
           let now-held = tableIn (tableMemory memory deeds) in
           listed-so now-held (history-told memory e deeds .rises) (table-fits (tableMemory memory deeds) .0);
+      listened-in-c = λ node received output memory left after told e. (e .0 .0, e .0 .1, e .1, e .2);
     }

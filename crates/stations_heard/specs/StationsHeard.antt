@@ -8,7 +8,7 @@ use Rattle.octets.specs.Octets.{at}
 use Rattle.pdu.specs.Header.{headerOf}
 use Rattle.decision.specs.Decision.{Node, isEcho, isOwnReport}
 use Rattle.node.specs.declared.Answer.{Answer}
-use Rattle.node.specs.Answers.{nodeOrReadingFault, answerOf}
+use Rattle.node.specs.Answers.{nodeOrReadingFault, answerOf, outputAfter}
 use Rattle.stations.specs.Table.{capacity, tableIn, addresses, placeOf, isHeld}
 use Rattle.stations.specs.Asking.{stationOf, foundAt}
 use Rattle.counting.specs.declared.Heard.{Heard}
@@ -16,6 +16,8 @@ use Rattle.counting.specs.Counting.{countNumber, memoryAfterCount}
 use Rattle.counting.specs.Removing.{removalNumber, memoryAfterRemoval}
 use Rattle.listening.specs.Listening.{wasRead, heardOf, answerNumber, memoryAfterAnswer}
 use Rattle.listening.specs.History.{TableDeed, tableMemory, since, shownBy, Rises}
+use Rattle.boundary.specs.declared.a_node.MantListened.{MantListened}
+use Rattle.boundary.specs.Boundary.{answerInC, ListensInC}
 
 pub record StationsHeard : Type 0 where
   -- I. WHAT 02 ASKS
@@ -73,3 +75,10 @@ pub record StationsHeard : Type 0 where
       → (placeOf address known ≡ i) × (isHeld address known ≡ true)
   pub not-held : (address : ℕ) (known : List ℕ) → Rises known → length known ≤ 128 → ((i : ℕ) → i < length known → at known i ≡ address → ⊥)
       → isHeld address known ≡ false
+  -- III. IN C
+  -- where a PDU is heard and counted, C sees the node's answer and output, the number of counting it, and the table after it
+  pub listened-in-c : (node : Node) (received output memory left after : List ℕ) (told : MantListened)
+      → ListensInC node received output memory told left after
+      → let answer = answerOf node (length output) received in
+      (told .answer ≡ answerInC answer) × (left ≡ outputAfter node received output)
+      × (told .«table_number» ≡ answerNumber answer received memory) × (after ≡ memoryAfterAnswer answer received memory)

@@ -11,7 +11,7 @@ use Rattle.node.specs.Answers.{deliveryNumber, repeatNumber, heardFrom, answerO
 use Rattle.node.proofs.Editions.{edition-answer}
 use Rattle.batch.proofs.Alike.{edition-walk}
 use Rattle.run.specs.Run.{roomForOne, lineAt, pduLines, walkLines, batchLines}
-use Rattle.two_editions.specs.TwoEditions.{withEdition}
+use Rattle.node.specs.Editions.{withEdition}
 
 module _ (edition other : ℕ) (node : Node) (named : known edition ≡ true) (also : known other ≡ true) (batch : List ℕ) where
   abbrev a : Node

@@ -8,7 +8,7 @@ use Rattle.pdu.specs.declared.Sender.the-variants.{Unknown}
 use Rattle.pdu.specs.Header.{headerOf}
 use Rattle.pdu.specs.Reading.{readOf}
 use Rattle.writing.specs.Writing.{headerBytes, pathBytes, encode}
-use Rattle.pdu.specs.Parts.{addressesAt, lastOr}
+use Rattle.pdu.specs.Parts.{addressesAt, inPath, lastOr}
 use Rattle.editions.specs.Editions.{shownWith, wireOf, readUnder}
 use Rattle.editions.proofs.Showing.{unknown-refused}
 use Rattle.editions.proofs.Same.{wire-read, same-bytes}
@@ -22,7 +22,8 @@ use Rattle.batch.proofs.Faults.{empty-walk}
 use Rattle.job.specs.Jobs.{settingsOf}
 use Rattle.listening.specs.Listening.{answerNumber, memoryAfterAnswer}
 use Rattle.boundary.specs.Boundary.{hasFlag, flagOf, reservedShown}
-use Rattle.two_editions.specs.TwoEditions.{TwoEditions, withEdition, allSet, tooLong, at2000, atFault, settingsFor}
+use Rattle.node.specs.Editions.{withEdition}
+use Rattle.two_editions.specs.TwoEditions.{TwoEditions, allSet, tooLong, at2000, atFault, settingsFor}
 use Rattle.two_editions.proofs.Reading.{only-two, read-17-only, read-refused, read-11, read-12, shown-as-11, shown-as-12, not-read, no-room}
 use Rattle.two_editions.proofs.Hearing.{hears-17, hears-17-only, steps-17, steps-done, walks-17, bits-kept}
 use Rattle.two_editions.proofs.Originating.{originated-17-only, originated-16-only, fresh-12, fresh-11, originated-17, originated-16, originated-same}
@@ -52,7 +53,7 @@ module _ where
   flag-written = refl
 
 pub two-editions : TwoEditions
-unfolding readUnder readOf headerOf shownWith wireOf lastOr addressesAt settingsOf answerNumber memoryAfterAnswer
+unfolding readUnder readOf headerOf shownWith wireOf lastOr addressesAt inPath settingsOf answerNumber memoryAfterAnswer
 two-editions =
     record {
       two = (refl, refl);
@@ -104,8 +105,11 @@ two-editions =
       in-c-flagged = λ seen bytes encrypted number is. (refl, ap hasFlag is, ap flagOf is, ap reservedShown is);
       in-c-refused = λ number bytes. refl;
       in-c-whole = refl;
+      numbers = λ seen number. (refl, refl);
+      path-of = (refl, refl, refl, refl);
+      view-invented = (refl, refl, refl, refl, refl, refl, refl);
       node-in-c = λ node. refl;
-      fresh-in-c = λ settings. (refl, refl, refl, refl, refl, refl, refl, refl, refl);
+      fresh-in-c = λ settings. (refl, refl, refl, refl, refl, refl, refl, refl, refl, refl);
       in-c-11 = (refl, refl, refl);
       in-c-12 = (refl, refl, refl);
       counts-nothing = λ received memory. (refl, refl);

@@ -1,29 +1,32 @@
 -- Document 02, W-209, as one record; `proofs/TwoEditions.antt` gives it from its parts. `edition` is any number that a caller gives for one. What holds under
 -- both editions is stated once, with that number as a variable.
 use Prim.Native.Nat.{ℕ, _+_, _/_, _%_, _<_, _≤_}
-use mathlib.Core.Bool.{Bool, true, false, _&&_}
+use mathlib.Core.Bool.{Bool, true, false, cond, _&&_}
 use mathlib.Core.List.{List, [], _∷_, _++_, map}
 use mathlib.Core.Logic.{_⊎_}
 use mathlib.Core.Path.{_≡_}
 use lib.Dec.{eqb}
 use lib.ListN.{length, take, drop, replicate}
 use Rattle.octets.specs.Octets.{AllBytes, at, over}
-use Rattle.pdu.specs.declared.Destination.the-variants.{Everyone}
+use Rattle.pdu.specs.declared.Destination.the-variants.{Everyone, Address}
+use Rattle.pdu.specs.declared.Extent.{Extent}
 use Rattle.pdu.specs.declared.Header.{Header}
 use Rattle.pdu.specs.declared.Reading.the-variants as wire
 use Rattle.pdu.specs.declared.Refusal.{Refusal}
-use Rattle.pdu.specs.declared.Sender.the-variants.{Unknown}
+use Rattle.pdu.specs.declared.Sender.the-variants.{Unknown, Known}
 use Rattle.pdu.specs.Sizes.{destinationFlag, pduLength}
 use Rattle.pdu.specs.Reading.{readOf, refusalNumber}
 use Rattle.editions.specs.declared.Bits.{Bits}
 use Rattle.editions.specs.declared.Bits.the-variants.{Reserved, Flagged}
 use Rattle.editions.specs.declared.Shown.{Shown}
 use Rattle.editions.specs.declared.EditionReading.the-variants.{Pdu, Refused}
-use Rattle.editions.specs.Editions.{known, bitsUnder, shownWith, readUnder, wireOf, writeAgainUnder, writtenAgainUnder}
+use Rattle.editions.specs.Editions.{known, bitsUnder, shownWith, readUnder, shownNumber, wireOf, writeAgainUnder, writtenAgainUnder}
+use Rattle.view.specs.View.{noSummary, pathAddressIn, pathHas, summaryAt}
 use Rattle.origin.specs.declared.FreshSettings.{FreshSettings}
 use Rattle.origin.specs.Origination.{freshHeader, fresh, originationNumber, originated, originatedOutput}
 use Rattle.list_block.specs.Laying.{eight}
 use Rattle.decision.specs.Decision.{Node, nodeOf}
+use Rattle.node.specs.Editions.{withEdition}
 use Rattle.node.specs.Repeat.{repeated}
 use Rattle.node.specs.Answers.{repeatNumber, answerOf, twice, outputAfter}
 use Rattle.batch.specs.declared.Cursor.{Cursor}
@@ -54,22 +57,6 @@ setTo edition encrypted settings =
       encrypted = encrypted;
     }
 
--- a node with another edition; all else in it is as it was
-abbrev pub withEdition : ℕ → Node → Node
-withEdition edition node =
-    nodeOf
-    (record {
-      edition = edition;
-      own = node .settings .own;
-      echo = node .settings .echo;
-      repeating = node .settings .repeating;
-      «source_pass» = node .settings .«source_pass»;
-      «source_reject» = node .settings .«source_reject»;
-      «destination_pass» = node .settings .«destination_pass»;
-      «destination_reject» = node .settings .«destination_reject»;
-    })
-    (node .lists)
-
 -- For the worked cases: a PDU with every field; and one of 6 bytes whose three bits after the port are all set
 abbrev pub everyField : List ℕ
 everyField =
@@ -77,6 +64,10 @@ everyField =
 
 abbrev pub allSet : List ℕ
 allSet = 0x00 ∷ 0x0E ∷ 0x00 ∷ 0x00 ∷ 0x00 ∷ 0x05 ∷ []
+
+-- an extent that no PDU of theirs has, with that number
+abbrev pub extentWith : ℕ → Extent
+extentWith number = record { number = number; «path_count» = 2; «payload_length» = 3; «header_length» = 1; «pdu_length» = 9 }
 
 -- a batch one byte longer than a batch may be; a node with no list chosen, and one whose first source pass list has one value, which is fault 21
 abbrev pub tooLong : List ℕ
@@ -193,6 +184,8 @@ pub record TwoEditions : Type 0 where
       × (shown .«added_header» ≡ header .«added_header») × (shown .«hop_limit» ≡ header .«hop_limit»)
       × (shown .«payload_length» ≡ header .«payload_length») × (shown .source ≡ header .source) × (shown .destination ≡ header .destination)
       × (shown .«pdu_id» ≡ header .«pdu_id») × (shown .«path_count» ≡ header .«path_count»)
+  -- the number of what reading under an edition shows
+  pub numbers : (shown : Shown) (number : ℕ) → (shownNumber (Pdu shown) ≡ 0) × (shownNumber (Refused number) ≡ number)
   -- III. BESIDE OTHER REQUESTS, AND IN C
   -- `relay`, whose edition is 1.2, prints the same under both
   pub relay-edition : (bytes : List ℕ) (job : Job) → nodeIn bytes job .settings .edition ≡ 12
@@ -202,7 +195,7 @@ pub record TwoEditions : Type 0 where
   pub counts-nothing : (received memory : List ℕ)
       → (answerNumber (twice 17 0 Unknown) received memory ≡ 0) × (memoryAfterAnswer (twice 17 0 Unknown) received memory ≡ memory)
   -- C's header has the flag only where the edition shows one, and a reserved number as it shows it; with a refusal, neither and no length; a node's
-  -- edition, and a fresh PDU's edition and flag, are those that C gives
+  -- edition, and every setting of a fresh PDU, are those that C gives; a destination only with its flag
   pub in-c-reserved : (shown : Shown) (bytes : List ℕ) (number : ℕ) → shown .bits ≡ Reserved number → let header = headerInC (Pdu shown) bytes in
       (header .number ≡ 0) × (header .«has_encrypted» ≡ false) × (header .encrypted ≡ false) × (header .reserved ≡ number)
   pub in-c-flagged : (shown : Shown) (bytes : List ℕ) (encrypted : Bool) (number : ℕ) → shown .bits ≡ Flagged encrypted number
@@ -237,6 +230,7 @@ pub record TwoEditions : Type 0 where
       (fresh .edition ≡ settings .edition) × (fresh .source ≡ settings .source) × (fresh .«hop_limit» ≡ settings .«hop_limit»)
       × (fresh .port ≡ settings .port) × (fresh .«time_stamp_request» ≡ settings .«time_stamp_request») × (fresh .«with_path» ≡ settings .«with_path»)
       × (fresh .reliable ≡ settings .reliable) × (fresh .«pdu_id» ≡ settings .«pdu_id») × (fresh .encrypted ≡ settings .encrypted)
+      × (fresh .destination ≡ cond (settings .«has_destination») (Address (settings .destination)) Everyone)
   -- IV. WORKED CASES
   -- no other number is an edition, also none that 32 bits would cut to 11
   pub no-other : (known 0 ≡ false) × (known 1 ≡ false) × (known 2 ≡ false) × (known 10 ≡ false) × (known 13 ≡ false) × (known 4294967307 ≡ false)
@@ -285,5 +279,11 @@ pub record TwoEditions : Type 0 where
         «header_length» = 12;
         «pdu_length» = 14;
       }
+  -- its path; and a view of it with an extent that is not its own, and no number, then one with a number
+  pub path-of : (pathAddressIn (readOf everyField) everyField 0 ≡ 2000) × (pathAddressIn (readOf everyField) everyField 1 ≡ 0)
+      × (pathHas (readOf everyField) everyField 2000 ≡ true) × (pathHas (readOf everyField) everyField 1000 ≡ false)
+  pub view-invented : let summary = summaryAt everyField (extentWith 0) 12 in
+      (summary .number ≡ 0) × (summary .header .«path_count» ≡ 2) × (summary .header .«payload_length» ≡ 2) × (summary .«last_sender» ≡ Known 0xAABB)
+      × (summary .«header_length» ≡ 1) × (summary .«pdu_length» ≡ 9) × (summaryAt everyField (extentWith 77) 12 ≡ noSummary 77)
   pub in-c-12 : let header = headerInC (readUnder 12 allSet) allSet in
       (header .«has_encrypted» ≡ true) × (header .encrypted ≡ true) × (header .reserved ≡ 3)

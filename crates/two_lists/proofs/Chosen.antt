@@ -6,8 +6,10 @@ use mathlib.Core.List.{List}
 use mathlib.Core.Option.{Option, none}
 use mathlib.Core.Path.{_≡_, refl, ap, sym, _∙_}
 use lib.Dec.{eqb}
-use lib.ListN.{getD}
+use lib.ListN.{getD, length, take, drop}
+use lib.Seq.{take-at, drop-at}
 use borrow.Author.Tests.{eqb-true, eqb-false}
+use Rattle.octets.specs.Octets.{over}
 use Rattle.pdu.specs.declared.Sender.the-variants.{Unknown}
 use Rattle.editions.specs.Editions.{known}
 use Rattle.lists.specs.declared.ListFault.{ListFault}
@@ -94,6 +96,15 @@ module _ (lists : Lists) (before after : List ℕ) (told : ListFault) (lays : La
     ap (λ (block : List ℕ). faultTold (listsIn block)) (lays .0) ∙ same-fault lists before,
     λ none. ap (λ (block : List ℕ). listsIn block) (lays .0) ∙ same-lists lists before none,
   )
+
+  pub rest-kept : let words = laid (cutLists lists) in (take (length words) after ≡ words) × (drop (length words) after ≡ drop (length words) before)
+  unfolding over
+  rest-kept =
+      let words = laid (cutLists lists) in
+      let rest = drop (length words) before in (
+        ap (take (length words)) (lays .0) ∙ take-at words rest (length words) refl,
+        ap (drop (length words)) (lays .0) ∙ drop-at words rest (length words) refl,
+      )
 
   pub laid-answers : (settings : Settings) (room : ℕ) (received output : List ℕ)
       → (answerOf (nodeOf settings (listsIn after)) room received ≡ answerOf (nodeOf settings lists) room received)

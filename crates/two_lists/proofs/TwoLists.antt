@@ -26,7 +26,7 @@ use Rattle.boundary.specs.Boundary.{choiceFromC, nodeFromC, changedOver}
 use Rattle.two_lists.specs.TwoLists.{TwoLists}
 use Rattle.two_lists.proofs.Order.{none-at, none-anywhere, first-at}
 use Rattle.two_lists.proofs.Faults.{at-fault, at-fault-only, step-at-fault, walk-at-fault, after-54, after-the-end}
-use Rattle.two_lists.proofs.Chosen.{chosen-alone, laying, laid-answers}
+use Rattle.two_lists.proofs.Chosen.{chosen-alone, laying, rest-kept, laid-answers}
 
 told : (lists : Lists) (number place : ℕ) → (firstFault (inOrder lists) ≡ number) × (firstAtFault (inOrder lists) ≡ place)
     → faultTold lists ≡ record { number = number; list = place }
@@ -103,6 +103,8 @@ two-lists =
       after-the-end = after-the-end;
       in-a-block = holds-laid;
       laying = laying;
+      lent = λ a b c d e f g h. refl;
+      rest-kept = rest-kept;
       laid-answers = λ settings lists before after told lays. laid-answers lists before after told lays settings;
       in-c = (refl, refl, refl, in-c);
       in-c-each = λ node. (refl, refl, refl, refl, refl, refl, refl);
@@ -113,8 +115,10 @@ two-lists =
       not-chosen-found = (refl, refl, refl);
       changed-over = (refl, refl, refl, refl);
       answer-in-c = λ answer. (refl, refl, refl, refl, refl, refl);
-      step-in-c = λ cursor next answer. (refl, refl, refl, refl, refl, refl, refl);
+      step-numbers = λ answer next. (refl, refl, refl);
+      step-in-c = λ cursor next answer. (refl, refl, refl, refl);
       heard-in-c = λ node received output left told e. e;
+      heard-reliably-in-c = λ node table after last sending received output left told e. e;
       stepped-in-c = λ node batch output left cursor told e. e;
       in-each = in-each;
       held = (refl, refl, refl, refl);

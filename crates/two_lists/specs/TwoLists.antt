@@ -5,8 +5,9 @@ use mathlib.Core.List.{List, [], _∷_}
 use mathlib.Core.Logic.{_⊎_}
 use mathlib.Core.Option.{Option, none, some}
 use mathlib.Core.Path.{_≡_}
+use denote.Ref.{now}
 use lib.Dec.{eqb}
-use lib.ListN.{length, replicate}
+use lib.ListN.{length, take, drop, replicate}
 use Rattle.octets.specs.Numbers.{_gives_, _orElse_}
 use Rattle.octets.specs.Octets.{over}
 use Rattle.pdu.specs.declared.Destination.the-variants.{Everyone, Address}
@@ -15,22 +16,27 @@ use Rattle.pdu.specs.declared.Sender.the-variants.{Unknown}
 use Rattle.editions.specs.Editions.{known}
 use Rattle.lists.specs.declared.ListFault.{ListFault}
 use Rattle.lists.specs.Lists.{faultOf, holds, two, Lists, inOrder, listFault, faultTold, listsIn, laid}
-use Rattle.list_block.specs.Laying.{cutLists, eight, Lays}
+use Rattle.list_block.specs.Laying.{cutLists, eight, Lent, eightLent, Lays}
 use Rattle.decision.specs.declared.Choice.the-variants.{First, Second, Neither}
 use Rattle.decision.specs.declared.Settings.{Settings}
 use Rattle.decision.specs.Decision.{Node, nodeOf, chosen, isOutside, isIn, destinationIsOutside, destinationIsIn, passFault}
 use Rattle.node.specs.declared.Answer.{Answer}
 use Rattle.node.specs.Answers.{nodeFault, answerOf, twice, outputAfter}
 use Rattle.batch.specs.declared.Cursor.{Cursor}
+use Rattle.batch.specs.declared.Numbers.the-variants.{Two, Alone, NoAnswer}
 use Rattle.batch.specs.declared.Stepped.the-variants.{TooLong, Ended, Answered}
-use Rattle.batch.specs.Walk.{batchLimit, stepOf, stepOutput, endingAt, walk}
+use Rattle.batch.specs.Walk.{batchLimit, stepOf, stepOutput, numbersOf, endingAt, walk}
 use Rattle.job.specs.declared.Job.{Job}
 use Rattle.job.specs.Jobs.{valuesIn, nodeIn}
 use Rattle.flood.specs.Air.{sends}
+use Rattle.retained.specs.declared.Retained.{Retained}
+use Rattle.answering.specs.declared.Sending.{Sending}
+use Rattle.answering.specs.Hearing.{outcomeHeard, tableHeard, outputHeard}
 use Rattle.boundary.specs.declared.a_node.MantNode.{MantNode}
 use Rattle.boundary.specs.declared.a_node.MantAnswer.{MantAnswer}
+use Rattle.boundary.specs.declared.a_node.MantHeardReliably.{MantHeardReliably}
 use Rattle.boundary.specs.declared.a_walk.MantStep.{MantStep}
-use Rattle.boundary.specs.Boundary.{choiceFromC, nodeFromC, changedOver, answerInC, stepInC, HearsInC, StepsInC}
+use Rattle.boundary.specs.Boundary.{choiceFromC, nodeFromC, changedOver, answerInC, aloneInC, stepInC, HearsInC, HearsReliablyInC, StepsInC}
 use Rattle.two_lists.specs.ListsAndChoices.{listInOrder, chosenLists, firstsPass, secondsPass, exampleNumberAt, numberBy, byEmpty, besideOdd}
 
 -- For the worked cases: node 2000 as C sets it, edition 1.2, echo and repeating on, no list chosen
@@ -123,6 +129,11 @@ pub record TwoLists : Type 0 where
   -- eight lists of any length, laid into a block: it has their fault, at the same list; without one it holds them; and a node answers with it as with them
   pub laying : (lists : Lists) (before after : List ℕ) (told : ListFault) → Lays lists before after told
       → (told ≡ faultTold lists) × (faultTold (listsIn after) ≡ faultTold lists) × (listFault lists ≡ 0 → listsIn after ≡ lists)
+  -- the eight that a caller lends are those on entry, in their order; what stands in the block behind them is as it was
+  pub lent : (a b c d e f g h : Lent) → eightLent a b c d e f g h
+      ≡ eight (now (a .entry)) (now (b .entry)) (now (c .entry)) (now (d .entry)) (now (e .entry)) (now (f .entry)) (now (g .entry)) (now (h .entry))
+  pub rest-kept : (lists : Lists) (before after : List ℕ) (told : ListFault) → Lays lists before after told
+      → let words = laid (cutLists lists) in (take (length words) after ≡ words) × (drop (length words) after ≡ drop (length words) before)
   pub laid-answers : (settings : Settings) (lists : Lists) (before after : List ℕ) (told : ListFault) → Lays lists before after told
       → (room : ℕ) (received output : List ℕ)
       → (answerOf (nodeOf settings (listsIn after)) room received ≡ answerOf (nodeOf settings lists) room received)
@@ -139,13 +150,26 @@ pub record TwoLists : Type 0 where
       (told .delivery ≡ answer .delivery) × (told .repeat ≡ answer .repeat) × (told .«delivered_place» ≡ answer .«delivered_place»)
       × (told .«delivered_length» ≡ answer .«delivered_length») × (told .«repeated_length» ≡ answer .«repeated_length»)
       × (told .taken ≡ answer .taken)
-  pub step-in-c : (cursor next : Cursor) (answer : Answer) → (stepInC cursor (Answered answer next) ≡ record { kind = 0; answer = answerInC answer; next = next })
-      × (stepInC cursor Ended .kind ≡ 1) × (stepInC cursor Ended .answer .delivery ≡ 255) × (stepInC cursor Ended .answer .repeat ≡ 255)
-      × (stepInC cursor TooLong .kind ≡ 2) × (stepInC cursor TooLong .answer .delivery ≡ 54) × (stepInC cursor TooLong .answer .repeat ≡ 54)
+  pub step-numbers : (answer : Answer) (next : Cursor) → (numbersOf (Answered answer next) ≡ Two (answer .delivery) (answer .repeat))
+      × (numbersOf TooLong ≡ Alone 54) × (numbersOf Ended ≡ NoAnswer)
+  pub step-in-c : (cursor next : Cursor) (answer : Answer)
+      → (stepInC cursor (Answered answer next) ≡ record { kind = 0; answer = answerInC answer; next = next })
+      × (stepInC cursor Ended
+      ≡ record { kind = 1; answer = answerInC (twice (aloneInC NoAnswer) 0 Unknown); next = record { place = cursor .place; ended = true } })
+      × (stepInC cursor TooLong
+      ≡ record { kind = 2; answer = answerInC (twice 54 0 Unknown); next = record { place = cursor .place; ended = true } })
+      × (aloneInC NoAnswer ≡ 255)
   pub heard-in-c : (node : Node) (received output left : List ℕ) (told : MantAnswer) → HearsInC node received output told left
       → (told ≡ answerInC (answerOf node (length output) received)) × (left ≡ outputAfter node received output)
   pub stepped-in-c : (node : Node) (batch output left : List ℕ) (cursor : Cursor) (told : MantStep) → StepsInC node batch cursor output told left
       → (told ≡ stepInC cursor (stepOf node (length output) batch cursor)) × (left ≡ stepOutput node batch cursor output)
+  -- the call that hears with a table of retained PDUs (W-210) returns the node's answer and what was done, and leaves that table and output
+  pub heard-reliably-in-c : (node : Node) (table after : List Retained) (last : ℕ) (sending : Sending) (received output left : List ℕ)
+      (told : MantHeardReliably) → HearsReliablyInC node table last sending received output told after left
+      → (told .answer ≡ answerInC (answerOf node (length output) received))
+      × (told .outcome ≡ outcomeHeard node table last sending (length output) received)
+      × (after ≡ tableHeard node table sending (length output) received)
+      × (left ≡ outputHeard node (length table) sending received output)
   -- IV. WORKED CASES
   -- where each list chosen lets the example pass, and where none is chosen, no list stops it
   pub none-stops : (numberBy firstsPass First First First First ≡ 39) × (numberBy firstsPass Neither Neither Neither Neither ≡ 39)
@@ -163,14 +187,14 @@ pub record TwoLists : Type 0 where
       × (exampleNumberAt (nodeFromC (changedOver nodeInC 2)) firstsPass ≡ 31)
       × (exampleNumberAt (nodeFromC (changedOver nodeInC 1)) secondsPass ≡ 31)
       × (exampleNumberAt (nodeFromC (changedOver nodeInC 257)) secondsPass ≡ 39)
+  -- 257 is no choice in C, so that 0 stands there
+  pub cut-to-none : changedOver nodeInC 257 .«source_pass» ≡ 0
   -- in each list 22 before 21, and that before 20: of 129 values, of three, of two, and of 128
   pub in-each : (faultOf (replicate 129 7) ≡ 22) × (faultOf (9 ∷ 5 ∷ 7 ∷ []) ≡ 21) × (faultOf (9 ∷ 5 ∷ []) ≡ 20) × (faultOf (replicate 128 7) ≡ 0)
       × (faultOf (5 ∷ 9 ∷ 9 ∷ 5 ∷ []) ≡ 20) × (faultOf (5 ∷ 9 ∷ 4 ∷ 4 ∷ []) ≡ 0)
   -- a list of two ranges, and one whose last value has no partner
   pub held : (holds (1 ∷ 2 ∷ 5 ∷ 9 ∷ []) 9 ≡ true) × (holds (1 ∷ 2 ∷ 5 ∷ 9 ∷ []) 3 ≡ false) × (holds (5 ∷ 9 ∷ 7 ∷ []) 8 ≡ true)
       × (holds (5 ∷ 9 ∷ 7 ∷ []) 10 ≡ false)
-  -- that number is no choice in C, so that 0 stands there
-  pub cut-to-none : changedOver nodeInC 257 .«source_pass» ≡ 0
   -- a block as its words stand: eight empty lists where there are none; a length that is not there is 0; a list ends where the block does; and each of the
   -- eight in its place
   pub blocks : (listsIn [] ≡ eight [] [] [] [] [] [] [] []) × (listsIn (2 ∷ 0 ∷ 0 ∷ 0 ∷ 0 ∷ 0 ∷ 2 ∷ []) ≡ eight [] [] [] [] [] [] [] [])

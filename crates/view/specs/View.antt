@@ -16,7 +16,7 @@ use Rattle.pdu.specs.Parts.{pathIn, pathAddress, inPath, lastSender}
 use Rattle.editions.specs.declared.Bits.the-variants.{Reserved}
 use Rattle.editions.specs.declared.EditionReading.{EditionReading}
 use Rattle.editions.specs.declared.EditionReading.the-variants.{Pdu, Refused}
-use Rattle.editions.specs.Editions.{known, bitsUnder, shownWith, wireOf}
+use Rattle.editions.specs.Editions.{known, bitsUnder, shownWith, shownNumber, wireOf}
 use Rattle.view.specs.declared.Summary.{Summary}
 
 -- a refusal: its number, the fields of no bytes, no sender, lengths 0 ("Numbers answered": a length given with a refusal is 0)
@@ -29,13 +29,13 @@ noSummary number =
 abbrev pub summaryOf : EditionReading → List ℕ → Summary
 summaryOf (Pdu shown) bytes =
     record {
-      number = 0;
+      number = shownNumber (Pdu shown);
       header = shown;
       «last_sender» = lastSender (wireOf shown) bytes;
       «header_length» = headerLength (wireOf shown);
       «pdu_length» = pduLength (wireOf shown);
     }
-summaryOf (Refused number) bytes = noSummary number
+summaryOf (Refused number) bytes = noSummary (shownNumber (Refused number))
 
 -- the path's address at a place, and whether an address is in the path, of what was read; a refusal shows no path
 abbrev pub pathAddressIn : Reading → List ℕ → ℕ → ℕ

@@ -8,20 +8,18 @@ use mathlib.Core.Path.{_≡_, refl, ap, sym, _∙_}
 use lib.Dec.{eqb}
 use lib.ListN.{length, length-append, length-drop}
 use lib.Seq.{length-take-le}
-use borrow.Author.Tests.{lt-ltb, le-ltb, ne-eqb}
+use borrow.Author.Tests.{le-leb, lt-leb}
 use Rattle.octets.specs.Numbers.{flag}
 use Rattle.octets.specs.Octets.{wordAt, wordBytes, over, placed, placeAfter}
 use Rattle.octets.proofs.Placing.{Begins, first, more, room-after, is-after, placed-more, length-over, nothing-placed}
-use Rattle.octets.proofs.Numbering.{gives-last, gives-none, orElse-first, orElse-later}
 use Rattle.octets.proofs.Tests.{flag-small}
 use Rattle.pdu.specs.declared.Destination.{Destination}
 use Rattle.pdu.specs.declared.Destination.the-variants.{Everyone, Address}
 use Rattle.pdu.specs.declared.Header.{Header}
-use Rattle.pdu.specs.declared.Written.{Written}
 use Rattle.pdu.specs.Sizes.{destinationFlag, pathEntries, pathStart, pduLength}
 use Rattle.pdu.specs.Parts.{addressesAt, pathIn, payloadIn}
 use Rattle.writing.specs.Writing.{fixedPart, destinationBytes, onlyIf, headerBytes, pathBytes, encode}
-use Rattle.writing.specs.Writing.{fieldFault, headerNumber, headerWritten, headerOutput}
+use Rattle.writing.specs.Writing.{writable, isPut, headerWritten, headerOutput}
 use Rattle.pdu.proofs.Paths.{length-addresses}
 use Rattle.pdu.proofs.Showing.{destination-small}
 
@@ -91,38 +89,35 @@ module _ (bytes output : List ℕ) (place start : ℕ) where
       (placed-more output place (pathBytes (addressesAt bytes start n)) (wordBytes (wordAt bytes (start + 2 * n))) (place + 2 * n)
       (omega (arith, long)) room)
 
--- what putting a header answers and leaves: with a refusal, where there is no room, and where its bytes were put
+-- what putting a header writes and leaves: of one that no PDU has, where there is no room, and where its bytes were put
 module _ (header : Header) (output : List ℕ) where
-  refused-with : (number : ℕ) → headerNumber header (length output) ≡ number → (number ≡ 0 → ⊥)
-      → (_≡_ {A = Written} (record { number = number; length = 0 }) (headerWritten header (length output))) × (output ≡ headerOutput header output)
+  pub not-put : isPut header (length output) ≡ false → (_≡_ {A = ℕ} 0 (headerWritten header (length output))) × (output ≡ headerOutput header output)
   unfolding headerWritten headerOutput
-  refused-with number e some = rw (e, ne-eqb number 0 some) (refl, refl)
+  not-put e = rw e (refl, refl)
 
-  pub field-refused : (number : ℕ) → number ≡ fieldFault header → (number ≡ 0 → ⊥)
-      → (_≡_ {A = Written} (record { number = number; length = 0 }) (headerWritten header (length output))) × (output ≡ headerOutput header output)
-  unfolding headerNumber
-  field-refused number e some = refused-with number (rw (← e) (orElse-first number _ some)) some
+  pub not-writable : writable header ≡ false → isPut header (length output) ≡ false
+  unfolding isPut
+  not-writable e = simp e
 
-  module _ (ok : fieldFault header ≡ 0) where
-    pub no-room : length output < pathStart header
-        → (_≡_ {A = Written} (record { number = 14; length = 0 }) (headerWritten header (length output))) × (output ≡ headerOutput header output)
-    unfolding headerNumber
-    no-room short = refused-with 14 (orElse-later _ _ ok ∙ gives-last _ 14 (lt-ltb _ _ short)) (λ (z : _≡_ {A = ℕ} 14 0). omega arith)
+  module _ (ok : writable header ≡ true) where
+    pub no-room : length output < pathStart header → isPut header (length output) ≡ false
+    unfolding isPut
+    no-room short = simp (ok, lt-leb _ _ short)
 
     module _ (room : pathStart header ≤ length output) where
-      number-0 : headerNumber header (length output) ≡ 0
-      unfolding headerNumber
-      number-0 = orElse-later _ _ ok ∙ gives-none _ 14 (le-ltb _ _ room)
+      is-put : isPut header (length output) ≡ true
+      unfolding isPut
+      is-put = simp (ok, le-leb _ _ room)
 
       pub header-done : (long : ℕ) (now : List ℕ) → (long ≡ pathStart header) × (now ≡ over (headerBytes header) output)
-          → (_≡_ {A = Written} (record { number = 0; length = long }) (headerWritten header (length output))) × (now ≡ headerOutput header output)
+          → (long ≡ headerWritten header (length output)) × (now ≡ headerOutput header output)
       unfolding headerWritten headerOutput
-      header-done long now e = rw (number-0, e .0, e .1) (refl, refl)
+      header-done long now e = rw (is-put, e .0, e .1) (refl, refl)
 
-      pub header-begins : (now : List ℕ) (written : Written) → written ≡ headerWritten header (length output) → now ≡ headerOutput header output
-          → Begins output now (headerBytes header) (written .length)
+      pub header-begins : (now : List ℕ) (long : ℕ) → (long ≡ headerWritten header (length output)) × (now ≡ headerOutput header output)
+          → Begins output now (headerBytes header) long
       unfolding headerWritten headerOutput
-      header-begins now written ew en = record { is = rw (en, number-0); ends = rw (ew, number-0) (length-header header) }
+      header-begins now long e = record { is = rw (e .1, is-put); ends = rw (e .0, is-put) (length-header header) }
 
 -- the header, put part by part
 module _ (header : Header) (output : List ℕ) (room : pathStart header ≤ length output) where

@@ -3,7 +3,7 @@ use Prim.Native.Nat.{ℕ, zero, suc, _+_, _*_, _/_, _%_, _≤_, _<_}
 use native.Mathlib.Omega.{arith}
 use native.Mathlib.Nat.{div-div-eq-div-mul, mod-eq-of-lt}
 use native.Mathlib.Numerals.{add-one}
-use mathlib.Core.Bool.{Bool, true, false, not, cond, _&&_}
+use mathlib.Core.Bool.{Bool, true, false, cond}
 use mathlib.Core.List.{List, [], _∷_, _++_}
 use mathlib.Core.Path.{_≡_, refl, ap, sym, _∙_}
 use lib.Dec.{eqb}
@@ -24,7 +24,7 @@ use Rattle.writing.specs.Writing.{fixedPart, destinationBytes, onlyIf, h
 use Rattle.pdu.proofs.Showing.{flag-isSet, destination-flag, entries-shown}
 use Rattle.pdu.proofs.Paths.{length-addresses}
 use Rattle.pdu.proofs.Inversion.{Whole, shown}
-use Rattle.writing.proofs.Within.{within, shown-within}
+use Rattle.writing.proofs.Within.{well-formed, shown-within}
 
 -- bytes 0, 1 and 2, put together again from their fields
 byte-0 : (byte address : ℕ) → version byte ≡ 0
@@ -138,31 +138,13 @@ written-same bytes header small e =
     refl
 
 -- what was read is well-formed
-is-addressed : (protocol address : ℕ) (present : Bool) → protocol ≤ 1 → (eqb protocol 1 && not present) ≡ false
-    → protocol ≤ destinationFlag (cond present (Address address) Everyone)
-is-addressed protocol address true h e = h
-is-addressed zero address false h e = omega arith
-is-addressed (suc zero) address false h e = let z : _≡_ {A = ℕ} 0 1 = cc in absurd (omega arith)
-is-addressed (suc (suc n)) address false h e = absurd (omega arith)
-
 pub shown-well-formed : (bytes : List ℕ) (header : Header) → AllBytes bytes → readOf bytes ≡ Pdu header
     → WellFormed header (pathIn header bytes) (payloadIn header bytes)
 unfolding headerOf
 shown-well-formed bytes header small e =
     let s = shown bytes header e in
-    let bits = within header (shown-within bytes header small s) in
     let byte0 = at bytes 0 in
-    record {
-      known = rw (s .is) (s .whole .known);
-      addressed =
-          rw (s .is) (is-addressed (protocol byte0) (wordAt bytes destinationPlace) (isSet (destinationBit byte0)) (s .whole .known)
-          (s .whole .addressed));
-      port = omega arith;
-      reserved = omega arith;
-      hop = omega arith;
-      payload-short = omega arith;
-      payload-long = length-take-le _ _ (simp length-drop (omega arith));
-      no-id = rw (s .is) (λ (z : protocol byte0 ≡ 0). rw z);
-      no-count = rw (s .is) (λ (z : isSet (pathBit byte0) ≡ false). rw z);
-      path-long = length-addresses bytes (pathStart header) (pathEntries header) ∙ rw (s .is) (entries-shown bytes);
-    }
+    well-formed header (pathIn header bytes) (payloadIn header bytes) (shown-within bytes header small s)
+    (rw (s .is) (λ (z : protocol byte0 ≡ 0). rw z)) (rw (s .is) (λ (z : isSet (pathBit byte0) ≡ false). rw z))
+    (length-take-le _ _ (simp length-drop (omega arith)))
+    (length-addresses bytes (pathStart header) (pathEntries header) ∙ rw (s .is) (entries-shown bytes))

@@ -1,12 +1,12 @@
 -- A PDU's bytes from its header, path and payload (document 01, "Header, byte by byte"), and a PDU written again ("Numbers answered", 1 to 6, then
 -- 14).
 use Prim.Native.Nat.{ℕ, _+_, _*_, _/_, _%_, _≤_, _<_}
-use mathlib.Core.Bool.{Bool, false, cond}
+use mathlib.Core.Bool.{Bool, false, cond, _&&_}
 use mathlib.Core.List.{List, [], _∷_, _++_}
 use mathlib.Core.Path.{_≡_}
-use lib.Dec.{eqb, ltb}
+use lib.Dec.{eqb, ltb, leb}
 use lib.ListN.{length}
-use Rattle.octets.specs.Numbers.{flag, _gives_, _orElse_}
+use Rattle.octets.specs.Numbers.{flag}
 use Rattle.octets.specs.Octets.{wordBytes, over}
 use Rattle.pdu.specs.declared.Destination.{Destination}
 use Rattle.pdu.specs.declared.Destination.the-variants.{Everyone, Address}
@@ -51,26 +51,22 @@ pathBytes (address ∷ path) = wordBytes address ++ pathBytes path
 unfoldable pub encode : Header → List ℕ → List ℕ → List ℕ
 encode header path payload = headerBytes header ++ pathBytes path ++ payload
 
--- the number of the first field that no PDU has or that its bits do not hold ("Numbers answered", 3 and 10 to 12), or 0; 15 is not in document 01
-unfoldable pub fieldFault : Header → ℕ
-fieldFault header =
-    ltb 1 (header .protocol) gives 3
-    orElse ltb 7 (header .«hop_limit») gives 10
-    orElse ltb 15 (header .port) gives 11
-    orElse ltb payloadLimit (header .«payload_length») gives 12
-    orElse ltb 3 (header .reserved) gives 15
+-- a header that a PDU can have: protocol 0, or 1 with a destination, and each field within its bits
+unfoldable pub writable : Header → Bool
+writable header =
+    leb (header .protocol) (destinationFlag (header .destination)) && leb (header .«hop_limit») 7 && leb (header .port) 15
+    && leb (header .reserved) 3 && leb (header .«payload_length») payloadLimit
 
--- what putting a header alone answers for an output of so many bytes: that number, then 14; its length, 0 with a refusal
-unfoldable pub headerNumber : Header → ℕ → ℕ
-headerNumber header room = fieldFault header orElse ltb room (pathStart header) gives 14
+-- whether a header alone is put in an output of so many bytes
+unfoldable pub isPut : Header → ℕ → Bool
+isPut header room = writable header && leb (pathStart header) room
 
-unfoldable pub headerWritten : Header → ℕ → Written
-headerWritten header room =
-    record { number = headerNumber header room; length = cond (eqb (headerNumber header room) 0) (pathStart header) 0 }
+-- how many bytes are written, and what is left in the output; a PDU ID or a path count that is not called for is left out
+unfoldable pub headerWritten : Header → ℕ → ℕ
+headerWritten header room = cond (isPut header room) (pathStart header) 0
 
--- what it leaves in the output
 unfoldable pub headerOutput : Header → List ℕ → List ℕ
-headerOutput header output = cond (eqb (headerNumber header (length output)) 0) (over (headerBytes header) output) output
+headerOutput header output = cond (isPut header (length output)) (over (headerBytes header) output) output
 
 -- what writing again answers for what was read and an output of so many bytes: number and length
 abbrev pub writtenOf : Reading → ℕ → Written

@@ -3,6 +3,7 @@ use pdu::Destination;
 use pdu::Header;
 use pdu::Written;
 ghost use mathlib.Core.Path.{_≡_};
+ghost use mathlib.Core.Bool.{true};
 ghost use mathlib.Core.List.{[], _∷_};
 ghost use Prim.Native.Nat.{_+_, _*_, _/_, _<_, _≤_};
 ghost use lib.ListN.{length};
@@ -13,7 +14,7 @@ ghost use Rattle.pdu.specs.Sizes.{destinationFlag, pathEntries, pathStart};
 ghost use Rattle.pdu.specs.Reading.{readOf};
 ghost use Rattle.pdu.specs.Parts.{pathIn};
 ghost use Rattle.writing.specs.Writing.{fixedPart, destinationBytes, onlyIf, headerBytes, pathBytes};
-ghost use Rattle.writing.specs.Writing.{fieldFault, headerWritten, headerOutput, writtenOf, outputOf, writeAgain, writtenAgain};
+ghost use Rattle.writing.specs.Writing.{writable, headerWritten, headerOutput, writtenOf, outputOf, writeAgain, writtenAgain};
 
 // Writes the PDU at the start of `bytes` again, from what reading shows of it, at the start of the output: the same bytes, answered with 0 and their
 // number. Answers 1 to 6 where there is no PDU and 14 where the output is too short, both with length 0 and the output as it was. Output past the
@@ -47,49 +48,44 @@ fn write_shown(bytes: &[u8], header: Header, output: &mut [u8]) -> Written
     Written { number: 0, length }
 }
 
-// Puts a header, up to its path's addresses, at the start of the output and answers 0 and its length. Answers 3 for a protocol other than 0 and 1, 10
-// for a hop limit above 7, 11 for a port above 15, 12 for a payload length above 4,095, 15 for reserved bits above 3, which document 01 has no number
-// for, and then 14 where the output is too short; each with length 0 and the output as it was. Output past the header keeps its bytes.
-// Document 01, "Header, byte by byte", and "Numbers answered".
-pub fn put_header(output: &mut [u8], header: Header) -> Written
+// Puts a header, up to its path's addresses, at the start of the output and returns its length. If no PDU can have this header, or the output is too short
+// for it, returns 0 and leaves the output as it was. A PDU ID or path count that is not called for is left out. Output past the header keeps its bytes.
+// Document 01, "Header, byte by byte".
+pub fn put_header(output: &mut [u8], header: Header) -> usize
     ensures { λ r. ⌜ (r ≡ headerWritten header (length (now (output .entry))))
         × (now (output .exit) ≡ headerOutput header (now (output .entry))) ⌝ }
 {
-    let number = field_fault(header);
-    if number != 0 {
-        return Written { number, length: 0 };
+    if !is_writable(header) {
+        return 0;
     }
     if output.len() < header.path_start() {
-        return Written {
-            number: 14,
-            length: 0,
-        };
+        return 0;
     }
-    let length = put_fields(output, header);
-    Written { number: 0, length }
+    put_fields(output, header)
 }
 
-fn field_fault(header: Header) -> u8
-    ensures { λ r. ⌜ r ≡ fieldFault header ⌝ }
+fn is_writable(header: Header) -> bool
+    ensures { λ r. ⌜ r ≡ writable header ⌝ }
 {
-    if 1 < header.protocol {
-        return 3;
+    let destination = header.destination;
+    if pdu::destination_flag(destination) < header.protocol {
+        return false;
     }
     if 7 < header.hop_limit {
-        return 10;
+        return false;
     }
     if 15 < header.port {
-        return 11;
+        return false;
     }
-    if Header::PAYLOAD_LIMIT < header.payload_length as usize {
-        return 12;
+    if 3 < header.reserved {
+        return false;
     }
-    if 3 < header.reserved { 15 } else { 0 }
+    header.payload_length as usize <= Header::PAYLOAD_LIMIT
 }
 
 // Puts a header's fields one after the other, and answers the place after them.
 fn put_fields(output: &mut [u8], header: Header) -> usize
-    requires { ⌜ (fieldFault header ≡ 0) × (pathStart header ≤ length (now output)) ⌝ }
+    requires { ⌜ (writable header ≡ true) × (pathStart header ≤ length (now output)) ⌝ }
     ensures { λ r. ⌜ (r ≡ pathStart header) × (now (output .exit) ≡ over (headerBytes header) (now (output .entry))) ⌝ }
 {
     let destination = header.destination;
@@ -100,7 +96,7 @@ fn put_fields(output: &mut [u8], header: Header) -> usize
 }
 
 fn put_fixed(output: &mut [u8], header: Header) -> usize
-    requires { ⌜ fieldFault header ≡ 0 ⌝ }
+    requires { ⌜ writable header ≡ true ⌝ }
     ensures { λ r. ⌜ Puts (now (output .entry)) 0 (fixedPart header) r (now (output .exit)) ⌝ }
 {
     let destination = header.destination;

@@ -1,12 +1,13 @@
-//! Exchanges with a separate decoder: read, written, and each from the other.
+//! Exchanges with a separate decoder: read, written, and each from the other;
+//! walks over elements.
 
 use crate::output::Output;
 use crate::same::{length_or_number, Input};
 use crate::Compared;
 use differential::written;
-use generator::{exchange, exchanged_pdu, levels_down, room, short_exchange, Random};
+use generator::{exchange, exchanged_pdu, levels_down, room, sent_run, short_exchange, Random};
 use mant::raw::{self, EXCHANGE_LIMIT};
-use reference::{read_exchange, write_exchange, Exchange};
+use reference::{element_at, read_exchange, write_exchange, Exchange};
 
 /// Compares reading on bytes of every kind, at times on every cut of an
 /// exchange, at every level.
@@ -100,4 +101,33 @@ pub fn compare_writing(random: &mut Random) -> Compared {
         0 => compare_read(&library.room()[..answered.length]),
         _ => Ok(()),
     }
+}
+
+/// Compares the elements of a run from end to end, as the library and as the
+/// wrapper show them, and what is shown at any place.
+pub fn compare_walk(random: &mut Random) -> Compared {
+    let run = sent_run(random);
+    let anywhere = match random.below(4) {
+        0 => usize::MAX - random.below(3),
+        _ => random.between(0, run.len() + 2),
+    };
+    let input = Input {
+        bytes: &run,
+        rest: &format!("place {anywhere}"),
+    };
+    let shown = |place| differential::element(&element_at(&run, place));
+    input.same("element", raw::element_at(&run, anywhere), shown(anywhere))?;
+    let mut place = 0;
+    let mut walk = mant::elements(&run).map(|element| element.map_err(mant::Refusal::number));
+    while place < run.len() {
+        input.same("element", raw::element_at(&run, place), shown(place))?;
+        let wanted = element_at(&run, place).map(|element| mant::Element {
+            type_number: element.type_number as u16,
+            value: &run[element.value.clone()],
+            bytes: &run[place..element.value.end],
+        });
+        place = element_at(&run, place).map_or(run.len(), |element| element.value.end);
+        input.same("wrapped element", walk.next(), Some(wanted))?;
+    }
+    input.same("wrapped end", walk.next(), None)
 }

@@ -3,8 +3,8 @@
 
 use mant::raw;
 use reference::{
-    Answer, Bits, Choice, Done, Exchange, ListFault, Names, Origination, Queue, Sending, Settings,
-    Shown, Taken,
+    Answer, Bits, Choice, Done, Element, Exchange, ListFault, Names, Origination, Queue, Sending,
+    Settings, Shown, Taken,
 };
 
 /// What is shown of a header as the library gives it; what is not there is 0.
@@ -112,6 +112,14 @@ pub fn written((number, length): (u8, usize)) -> raw::Written {
     raw::Written { number, length }
 }
 
+/// A message number as the library gives it; 0 after a refusal.
+pub fn numbered(number: Result<u32, u8>) -> raw::Numbered {
+    raw::Numbered {
+        number: number.err().unwrap_or(0),
+        message: number.unwrap_or(0),
+    }
+}
+
 /// The reference's station as the library gives it.
 pub fn station(station: reference::Station) -> raw::Station {
     raw::Station {
@@ -137,6 +145,23 @@ pub fn level(queue: &Queue) -> raw::Level {
     raw::Level {
         pdus: queue.held().len(),
         bytes: queue.bytes(),
+    }
+}
+
+/// An element as the library shows it; all 0 after a refusal.
+pub fn element(shown: &Result<Element, u8>) -> raw::Element {
+    match shown {
+        Ok(Element { type_number, value }) => raw::Element {
+            number: 0,
+            type_number: *type_number as u16,
+            value_place: value.start,
+            value_length: value.len(),
+            end: value.end,
+        },
+        Err(number) => raw::Element {
+            number: *number,
+            ..raw::Element::default()
+        },
     }
 }
 

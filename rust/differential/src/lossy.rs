@@ -191,10 +191,10 @@ impl Run {
         };
         let mut output = [0; 10];
         let site = &mut self.sites[place];
-        let answer = mant::hear(&site.node, &Lists::none(), pdu, &mut []);
-        hold(answer.delivery.is_ok(), "not delivered")?;
-        let acknowledged = site.table.acknowledge(pdu, &answer, &sending, &mut output);
-        match acknowledged.map_err(said)? {
+        let (node, lists) = (&site.node, Lists::none());
+        let heard = site.table.hear(node, &lists, pdu, &sending, &mut output);
+        hold(heard.answer.delivery.is_ok(), "not delivered")?;
+        match heard.deed.map_err(said)? {
             Deed::Nothing => Ok(()),
             Deed::Acknowledged(names, length) => {
                 site.delivered.insert((names.source, names.pdu_id));

@@ -42,7 +42,7 @@ const MOST_DIFFERENCES: u64 = 10;
 type Kind = (&'static str, usize, fn(&mut Random) -> Compared);
 
 /// The kinds of input.
-const KINDS: [Kind; 20] = [
+const KINDS: [Kind; 21] = [
     ("reading and writing again", 25, reading::compare),
     ("origination", 11, originating::compare),
     ("blocks of lists", 6, listing::compare),
@@ -56,6 +56,7 @@ const KINDS: [Kind; 20] = [
     ("tables put together by hand", 1, by_hand::compare),
     ("exchanges read", 6, exchanging::compare_reading),
     ("exchanges written", 3, exchanging::compare_writing),
+    ("walks over elements", 3, exchanging::compare_walk),
     ("histories of retained PDUs", 6, retaining::compare),
     ("two nodes and a channel that loses", 1, lossy::compare),
     ("histories of a queue", 6, queueing::compare_history),

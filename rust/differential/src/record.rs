@@ -58,6 +58,23 @@ impl Words {
         Accepted::holding(self.room() - without_a_source, &held)
     }
 
+    /// The words once a source was removed: its entries are gone, those behind
+    /// them moved up, and the words behind the entries left are as they were.
+    pub fn without(&self, source: u16) -> Words {
+        let mut left = self.entries();
+        let held = left.len();
+        left.retain(|entry| entry.0 != u32::from(source));
+        let mut after = self.clone();
+        if left.len() < held {
+            let words = after.change();
+            words[0] = left.len() as u32;
+            for (pair, entry) in words[1..].chunks_exact_mut(2).zip(left) {
+                pair.copy_from_slice(&[entry.0, entry.1]);
+            }
+        }
+        after
+    }
+
     /// The words once a number was accepted from a source, for which there is
     /// an entry or room.
     pub fn with(&self, source: u16, number: u32) -> Words {

@@ -25,6 +25,7 @@ type Answered = Result<Result<Done, u8>, String>;
 /// What is asked of the three tables: received bytes with the node's answer
 /// for them, in the library's words and the reference's number.
 struct Asked<'a> {
+    own: u16,
     received: &'a [u8],
     answer: raw::Answer,
     delivery: u8,
@@ -87,17 +88,22 @@ impl Tables {
                 let at = node(random, &settings);
                 let library = raw::hear(at, &[], received, &mut repeated);
                 input.same("node's answer", library, answer(&heard))?;
+                let output = Output::of(random, *room);
+                if random.flag() {
+                    return self.heard_in_one(input, (at, &settings), (received, sending), &output);
+                }
                 let asked = Asked {
+                    own: settings.own_address,
                     received,
                     answer: library,
                     delivery: heard.delivery,
                     sending,
                 };
-                let output = Output::of(random, *room);
                 self.heard(input, &asked, &output)
             }
-            ReliableDeed::Answer(received, delivery, sending, room) => {
+            ReliableDeed::Answer(own, received, delivery, sending, room) => {
                 let asked = Asked {
+                    own: *own,
                     received,
                     answer: answer_for(received, *delivery),
                     delivery: *delivery,
@@ -154,21 +160,58 @@ impl Tables {
         } = asked;
         let settings = differential::sending(sending);
         let (table, room) = (self.library.change(), library.room());
-        let outcome = raw::acknowledge(table, self.last, received, asked.answer, settings, room);
-        let room = reference.room();
-        let wanted = self
-            .reference
-            .heard(received, asked.delivery, sending, room);
+        let (own, heard) = (asked.own, (*received, asked.answer));
+        let outcome = raw::acknowledge(table, self.last, own, heard, settings, room);
+        let (delivery, room) = (asked.delivery, reference.room());
+        let wanted = self.reference.heard(own, received, delivery, sending, room);
         self.answered(input, outcome, wanted)?;
         input.same_bytes("output", library.all(), reference.all())?;
         if let Some(table) = &mut self.wrapper {
             let heard = crate::same::wrapped(&asked.answer);
-            let wrapped = table.acknowledge(received, &heard, &settings, wrapper.room());
+            let wrapped = table.acknowledge(own, received, &heard, &settings, wrapper.room());
             let wrapped = wrapped.map_err(mant::Refusal::number);
             input.same("wrapped hearing", wrapped, wanted.map(in_wrapper))?;
             input.same_bytes("wrapped output", wrapper.all(), reference.all())?;
         }
         Ok(wanted)
+    }
+
+    /// A node hears a PDU, and its table with it, in one call: what the
+    /// reference's node answers and leaves, and then its table.
+    fn heard_in_one(
+        &mut self,
+        input: &Input,
+        (at, settings): (raw::Node, &Settings),
+        (received, sending): (&[u8], &Sending),
+        output: &Output,
+    ) -> Answered {
+        let (mut library, mut reference) = (output.clone(), output.clone());
+        let mut wrapper = output.clone();
+        let sent = differential::sending(sending);
+        let (table, room) = (self.library.change(), library.room());
+        let heard = raw::hear_reliably((at, &[]), table, self.last, received, sent, room);
+        let wanted = hear(settings, &Lists::EMPTY, received, reference.room());
+        input.same("node's answer", heard.answer, answer(&wanted))?;
+        let (own, delivery) = (settings.own_address, wanted.delivery);
+        let room = reference.room();
+        let done = self.reference.heard(own, received, delivery, sending, room);
+        self.answered(input, heard.outcome, done)?;
+        input.same_bytes("output", library.all(), reference.all())?;
+        if let Some(table) = &mut self.wrapper {
+            let last = table.last();
+            let mut records = *table.records();
+            let wrapped = raw::hear_reliably(
+                (at, &[]),
+                &mut records,
+                last,
+                received,
+                sent,
+                wrapper.room(),
+            );
+            input.same("once more", wrapped, heard)?;
+            *table = mant::Reliable::from_records(records, wrapped.outcome.last);
+        }
+        Ok(done)
     }
 
     /// The library's answer is the reference's; its time is kept.

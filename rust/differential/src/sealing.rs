@@ -5,10 +5,10 @@ use crate::output::Output;
 use crate::record::Words;
 use crate::same::{length_or_number, Input};
 use crate::Compared;
-use differential::written;
+use differential::{numbered, written};
 use generator::{any_record, empty_record, openings, repeated, to_seal, Random, ToOpen};
 use mant::raw::{self, SOURCE_WORDS};
-use reference::{open, read, seal, Accepted, MOST_PAYLOAD};
+use reference::{message_number, open, read, seal, Accepted, MOST_PAYLOAD};
 
 /// A record in the library, in the reference, and in the wrapper where it has
 /// the wrapper's size.
@@ -37,13 +37,24 @@ pub fn compare_sealing(random: &mut Random) -> Compared {
     let wrapped = wrapped.map_err(mant::Refusal::number);
     input.same("wrapped sealing", wrapped, length_or_number(wanted))?;
     input.same_bytes("wrapped output", wrapper.all(), reference.all())?;
+    compare_number(&input, &asked.bytes)?;
     match (sealed.number, read(&asked.bytes)) {
         (0, Ok(header)) => {
             let pdu = repeated(random, &library.room()[..sealed.length]);
+            let number = mant::message_number(&pdu).map(u64::from);
+            input.same("number of what was sealed", number, Ok(asked.number))?;
             compare_given_back(&input, &key, &pdu, header.payload(&asked.bytes))
         }
         _ => Ok(()),
     }
+}
+
+/// Compares the message number of any bytes.
+fn compare_number(input: &Input, bytes: &[u8]) -> Compared {
+    let (number, wanted) = (raw::message_number(bytes), message_number(bytes));
+    input.same("message number", number, numbered(wanted))?;
+    let wrapped = mant::message_number(bytes).map_err(mant::Refusal::number);
+    input.same("wrapped message number", wrapped, wanted)
 }
 
 /// A sealed PDU opens to its plain payload against an empty record.
@@ -72,8 +83,9 @@ pub fn compare_by_hand(random: &mut Random) -> Compared {
     compare(random, &words)
 }
 
-/// Compares all that is answered, and all words after each opening. No number
-/// is accepted from a source twice.
+/// Compares all that is answered, and all words after each opening and each
+/// source removed. No number is accepted from a source twice, unless the source
+/// was removed in between.
 fn compare(random: &mut Random, words: &[u32]) -> Compared {
     let mut records = Records::of(random, words);
     let openings = openings(random);
@@ -85,6 +97,7 @@ fn compare(random: &mut Random, words: &[u32]) -> Compared {
             bytes: &asked.bytes,
             rest: &(asked.key, asked.room, before.words()),
         };
+        compare_number(&input, &asked.bytes)?;
         let output = Output::of(random, asked.room);
         let taken = records.opened(&input, &asked, &output)?;
         let left = match taken {
@@ -96,6 +109,10 @@ fn compare(random: &mut Random, words: &[u32]) -> Compared {
         let is_replay = taken.is_some_and(|pair| accepted.contains(&pair));
         input.same("a number accepted twice", is_replay, false)?;
         accepted.extend(taken);
+        if let Some(source) = openings.removed(random) {
+            records.removed(source)?;
+            accepted.retain(|pair| pair.0 != source);
+        }
     }
     Ok(())
 }
@@ -141,6 +158,26 @@ impl Records {
             }
             _ => None,
         })
+    }
+
+    /// Removes a source from all records. In malformed memory all its entries
+    /// go, and their room is free.
+    fn removed(&mut self, source: u16) -> Compared {
+        let before = self.library.clone();
+        let input = Input {
+            bytes: &[],
+            rest: &(source, before.words()),
+        };
+        let held = self.reference.remove(source);
+        let removed = raw::remove_source(self.library.change(), source);
+        input.same("removing", removed, held)?;
+        input.same("words left", &self.library, &before.without(source))?;
+        if let Some(record) = &mut self.wrapper {
+            input.same("wrapped removing", record.remove(source), held)?;
+        }
+        self.reference = self.library.accepted();
+        input.same("removed", self.reference.get(source), None)?;
+        self.compare_wrapper(&input)
     }
 
     /// The wrapper holds the same.

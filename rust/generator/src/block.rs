@@ -30,7 +30,7 @@ impl Block {
 /// that lengths are missing.
 pub fn block(random: &mut Random) -> Block {
     let mut words = eight_lists(random).block().0;
-    match random.below(12) {
+    match random.below(13) {
         0..=5 => {}
         6 => {
             let more = random.between(1, 20);
@@ -39,10 +39,14 @@ pub fn block(random: &mut Random) -> Block {
         7 => words.truncate(random.below(words.len() + 1)),
         8 => words[random.below(8)] = length(random),
         9 => {
+            words[random.below(8)] = length(random);
+            words.extend(any_words(random, 140));
+        }
+        10 => {
             let count = random.between(0, 20);
             words = any_words(random, count);
         }
-        10 => words[..8].fill_with(|| length(random)),
+        11 => words[..8].fill_with(|| length(random)),
         _ => {
             let count = random.between(0, 1_100);
             words = any_words(random, count);
@@ -110,7 +114,7 @@ mod tests {
             }
         }
         let least = faults[20..].iter().flatten().min();
-        assert!(least.is_some_and(|least| *least > 10), "{faults:?}");
+        assert!(least.is_some_and(|least| *least > 20), "{faults:?}");
         assert!(
             short > 500 && cut > 2_000 && good > 5_000,
             "{short} {cut} {good}"

@@ -32,6 +32,25 @@ pub fn exchanged_pdu(random: &mut Random) -> Vec<u8> {
     }
 }
 
+/// A run of elements as a decoder sends it, an exchange among others, at times
+/// cut; or bytes of any kind.
+pub fn sent_run(random: &mut Random) -> Vec<u8> {
+    match random.below(6) {
+        0 => random_bytes(random),
+        1 => exchange(random),
+        _ => {
+            let before = run(random, 1, 4);
+            let whole = short_exchange(random);
+            let after = run(random, 1, 4);
+            let mut bytes = [before, whole, after].concat();
+            if random.one_in(3) {
+                bytes.truncate(random.between(0, bytes.len()));
+            }
+            bytes
+        }
+    }
+}
+
 /// A short exchange that is whole, for cutting it at every byte.
 pub fn short_exchange(random: &mut Random) -> Vec<u8> {
     let mut shape = shape(random);
@@ -230,6 +249,31 @@ mod tests {
         for number in [2, 3, 4] {
             assert!(counts[number] > 10, "{number}: {counts:?}");
         }
+    }
+
+    #[test]
+    fn runs_hold_an_exchange_and_are_cut() {
+        let mut random = Random::from_seed(1);
+        let (mut found, mut behind, mut cut) = (0, 0, 0);
+        for _ in 0..2_000 {
+            let run = sent_run(&mut random);
+            let mut place = 0;
+            while place < run.len() {
+                let Ok(element) = reference::element_at(&run, place) else {
+                    cut += 1;
+                    break;
+                };
+                if element.type_number == 20 && answered(&run[place..element.value.end]) == 0 {
+                    found += 1;
+                    behind += usize::from(place > 0);
+                }
+                place = element.value.end;
+            }
+        }
+        assert!(
+            found > 800 && behind > 400 && cut > 300,
+            "{found} {behind} {cut}"
+        );
     }
 
     #[test]

@@ -50,7 +50,7 @@ pub struct History {
 pub fn history(random: &mut Random) -> History {
     let words = rising_table(random);
     let (sources, turns) = match random.one_in(12) {
-        true => (many_sources(random), random.between(200, 360)),
+        true => (many_sources(random), random.between(260, 420)),
         false => (few_sources(random, &words), random.between(1, 30)),
     };
     let node = (settings(random), good_block(random));
@@ -229,7 +229,7 @@ mod tests {
             table[0] > 1000 && table[55] > 100 && table[56] > 100,
             "{table:?}"
         );
-        assert!(full > 10, "{full}");
+        assert!(full > 20, "{full}");
     }
 
     #[test]

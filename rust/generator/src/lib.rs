@@ -26,7 +26,7 @@ mod table;
 
 pub use batch::batch;
 pub use block::{block, good_block, Block};
-pub use exchange::{exchange, exchanged_pdu, levels_down, short_exchange};
+pub use exchange::{exchange, exchanged_pdu, levels_down, sent_run, short_exchange};
 pub use history::{deed, history, source_near, Deed, Hearing, History};
 pub use job::{damaged_job, job, random_job, DamagedJob, JobParts};
 pub use lists::{any_eight_lists, bad_list, eight_lists, good_eight_lists, good_list, EightLists};

@@ -8,7 +8,7 @@ use crate::output::room;
 use crate::random::Random;
 use crate::settings::{setting, settings};
 use crate::shape::address;
-use pdus::{answer_to, heard, to_retain};
+use pdus::{heard, to_retain};
 pub use records::{retained_records, RetainedRecord};
 use reference::{Sending, Settings, Table, MOST_RETAINED};
 
@@ -23,8 +23,9 @@ pub enum ReliableDeed {
     /// A node hears these bytes, and then its table, with so much room for an
     /// acknowledgement.
     Hear(Settings, Vec<u8>, Sending, usize),
-    /// A node answered this delivery number for the valid PDU in these bytes.
-    Answer(Vec<u8>, u8, Sending, usize),
+    /// A node with this own address is said to have answered this delivery
+    /// number for these bytes, which may be of any kind.
+    Answer(u16, Vec<u8>, u8, Sending, usize),
 }
 
 /// What stays the same in a history.
@@ -70,10 +71,19 @@ pub fn reliable_deed(random: &mut Random, habits: &Habits, table: &Table) -> Rel
             ReliableDeed::Hear(node, bytes, sending(random), room)
         }
         7 => {
-            let bytes = answer_to(random, habits, table).bytes();
-            let delivery = random.pick(&[0, 0, 0, 30, 35, 39, 40, 42]);
+            let own = match random.below(8) {
+                0 => random.pick(&habits.others),
+                1 => 0,
+                2 => address(random),
+                _ => habits.own_address,
+            };
+            let mut bytes = heard(random, habits, table);
+            if random.one_in(4) {
+                bytes.truncate(random.below(bytes.len() + 1));
+            }
+            let delivery = random.pick(&[0, 0, 0, 0, 0, 30, 35, 39, 40, 42]);
             let room = random.between(0, 11);
-            ReliableDeed::Answer(bytes, delivery, sending(random), room)
+            ReliableDeed::Answer(own, bytes, delivery, sending(random), room)
         }
         _ => ReliableDeed::Retain(time(random, table.last()), to_retain(random, habits)),
     }
@@ -144,9 +154,23 @@ mod tests {
         step: Vec<u8>,
         heard: Vec<u8>,
         done: Vec<Done>,
+        /// Of answers that say delivered: for unreadable bytes, for a reliable
+        /// PDU to another address, for one with an added header.
+        strange: [usize; 3],
     }
 
     impl Seen {
+        fn strange(&mut self, own: u16, bytes: &[u8], delivery: u8) {
+            match reference::read(bytes) {
+                _ if delivery != 0 => {}
+                Err(_) => self.strange[0] += 1,
+                Ok(pdu) if pdu.protocol != 1 => {}
+                Ok(pdu) if pdu.destination != Some(own) => self.strange[1] += 1,
+                Ok(pdu) if pdu.added_header => self.strange[2] += 1,
+                Ok(_) => {}
+            }
+        }
+
         fn deed(&mut self, table: &mut Table, deed: ReliableDeed) {
             let (numbers, answered) = match deed {
                 ReliableDeed::Retain(time, pdu) => (&mut self.retain, table.retain(time, &pdu)),
@@ -157,12 +181,14 @@ mod tests {
                 ReliableDeed::Hear(settings, bytes, sending, room) => {
                     let answer = hear(&settings, &Lists::EMPTY, &bytes, &mut [0; 5_000]);
                     let mut out = vec![0; room];
-                    let answered = table.heard(&bytes, answer.delivery, &sending, &mut out);
+                    let (own, delivery) = (settings.own_address, answer.delivery);
+                    let answered = table.heard(own, &bytes, delivery, &sending, &mut out);
                     (&mut self.heard, answered)
                 }
-                ReliableDeed::Answer(bytes, delivery, sending, room) => {
+                ReliableDeed::Answer(own, bytes, delivery, sending, room) => {
+                    self.strange(own, &bytes, delivery);
                     let mut out = vec![0; room];
-                    let answered = table.heard(&bytes, delivery, &sending, &mut out);
+                    let answered = table.heard(own, &bytes, delivery, &sending, &mut out);
                     (&mut self.heard, answered)
                 }
             };
@@ -198,6 +224,11 @@ mod tests {
         assert!(seen.count(|done| matches!(done, Done::Failed(..))) > 500);
         assert!(seen.count(|done| matches!(done, Done::Freed(..))) > 500);
         assert!(seen.count(|done| matches!(done, Done::Answered(..))) > 500);
+        assert!(
+            seen.strange.iter().all(|count| *count > 50),
+            "{:?}",
+            seen.strange
+        );
     }
 
     #[test]

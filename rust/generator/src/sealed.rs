@@ -141,6 +141,16 @@ impl Openings {
         ToOpen { key, bytes, room }
     }
 
+    /// A source that is removed after an opening, if one is: mostly one of the
+    /// history, else any.
+    pub fn removed(&self, random: &mut Random) -> Option<u16> {
+        let source = match random.one_in(4) {
+            true => address(random),
+            false => random.pick(&self.sources),
+        };
+        random.one_in(12).then_some(source)
+    }
+
     /// A PDU sealed, repeated at some nodes and now and then damaged, or bytes
     /// of any kind.
     fn bytes(&self, random: &mut Random, source: u16, number: u64) -> Vec<u8> {
@@ -254,6 +264,7 @@ mod tests {
     #[test]
     fn every_number_of_opening_arises() {
         let (mut random, mut counts) = (Random::from_seed(1), [0; 256]);
+        let mut removed = [0; 2];
         for _ in 0..400 {
             let (openings, mut accepted) = (openings(&mut random), Accepted::empty());
             for turn in 0..openings.turns {
@@ -261,8 +272,12 @@ mod tests {
                 let mut out = vec![0; asked.room];
                 let (number, _) = open(&asked.key, &mut accepted, &asked.bytes, &mut out);
                 counts[usize::from(number)] += 1;
+                if let Some(source) = openings.removed(&mut random) {
+                    removed[usize::from(accepted.remove(source))] += 1;
+                }
             }
         }
+        assert!(removed.iter().all(|count| *count > 200), "{removed:?}");
         for number in [0, 80, 81, 82, 83, 84, 87] {
             assert!(counts[number] > 50, "{number}: {counts:?}");
         }

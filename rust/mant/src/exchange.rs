@@ -1,6 +1,6 @@
 //! PDUs exchanged with a separate decoder (02, W-202).
 
-use crate::raw::{self, EXCHANGE_LIMIT};
+use crate::raw::{self, EXCHANGE_LIMIT, EXCHANGE_TYPE};
 use crate::{length, Refusal};
 
 /// The two parts of a PDU in an exchange that was read.
@@ -15,7 +15,74 @@ pub struct Exchange<'a> {
 impl Exchange<'_> {
     /// An exchange that is written has so many bytes at most.
     pub const LIMIT: usize = EXCHANGE_LIMIT;
+    /// The type of the element that is an exchange.
+    pub const TYPE: u16 = EXCHANGE_TYPE;
 }
+
+/// An element of a run.
+#[derive(Clone, Copy, Debug, PartialEq, Eq)]
+pub struct Element<'a> {
+    /// Its type.
+    pub type_number: u16,
+    /// Its value, which is a run of its own for types 10, 11 and 20.
+    pub value: &'a [u8],
+    /// The element from its first byte to its last.
+    pub bytes: &'a [u8],
+}
+
+/// The elements of a run, made by [`elements`].
+#[derive(Clone, Debug)]
+pub struct Elements<'a> {
+    run: &'a [u8],
+    place: usize,
+}
+
+/// The elements of the run that the bytes are, one after the other. If one does
+/// not end within the bytes, 57 comes in its place and the walk ends.
+///
+/// A decoder sends other elements before the exchange (document 003, section
+/// 10.1), and so the exchange is found first:
+///
+/// ```
+/// use mant::{elements, read_exchange, Exchange};
+///
+/// let run = [0x75, 1, 1, 20, 12, 0x84, 0, 6, 0, 0, 0, 0, 3, 0xE8, 0x84, 1, 0];
+/// for element in elements(&run) {
+///     let element = element?;
+///     if element.type_number == Exchange::TYPE {
+///         assert_eq!(read_exchange(element.bytes)?.header, &run[8..14]);
+///     }
+/// }
+/// # Ok::<(), mant::Refusal>(())
+/// ```
+#[must_use]
+pub fn elements(run: &[u8]) -> Elements<'_> {
+    Elements { run, place: 0 }
+}
+
+impl<'a> Iterator for Elements<'a> {
+    type Item = Result<Element<'a>, Refusal>;
+
+    fn next(&mut self) -> Option<Self::Item> {
+        let start = self.place;
+        if start == self.run.len() {
+            return None;
+        }
+        let found = raw::element_at(self.run, start);
+        if let Err(refusal) = Refusal::check(found.number) {
+            self.place = self.run.len();
+            return Some(Err(refusal));
+        }
+        self.place = found.end;
+        Some(Ok(Element {
+            type_number: found.type_number,
+            value: &self.run[found.value_place..][..found.value_length],
+            bytes: &self.run[start..found.end],
+        }))
+    }
+}
+
+impl std::iter::FusedIterator for Elements<'_> {}
 
 /// The header and the payload in the exchange that the bytes are, all of them.
 /// Refusals: 57 to 59, 1 to 6 on header and payload joined, and 63 where bytes

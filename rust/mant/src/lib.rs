@@ -24,7 +24,8 @@
 //! The names are those of `include/mant.h` without `mant_`, but for what belongs
 //! to a type here: `mant_lay_lists` is [`Lists::lay`], whose error is what
 //! `mant_list_fault` returns, `mant_change_over` [`Node::change_over`],
-//! `mant_hear_and_count` [`Stations::hear`], `mant_station_of`
+//! `mant_hear_and_count` [`Stations::hear`], `mant_hear_reliably`
+//! [`Reliable::hear`], `mant_station_of`
 //! [`Stations::get`], `mant_stations_held` [`Stations::len`],
 //! `mant_stations_capacity` [`Stations::LIMIT`], `mant_count_heard`
 //! [`Stations::count`], `mant_queue_add` [`Queue::add`], `mant_retain`
@@ -73,7 +74,7 @@ mod sealed;
 mod stations;
 
 pub use edition::Bits;
-pub use exchange::{read_exchange, write_exchange, Exchange};
+pub use exchange::{elements, read_exchange, write_exchange, Element, Elements, Exchange};
 pub use lists::{list_holds, Choice, EightLists, List, ListFault, Lists, TwoLists};
 pub use node::{hear, step, Answer, Node, Step};
 pub use originating::{originate, Fresh};
@@ -83,7 +84,7 @@ pub use raw::{Cursor, Key, Level, Limits, Names, Retained, Sending};
 pub use raw::{EDITION_1_1, EDITION_1_2, PAYLOAD_LIMIT, PDU_LIMIT};
 pub use reading::{path_address, path_has, read, write_again, Header};
 pub use refusal::Refusal;
-pub use reliable::{Deed, Reliable};
+pub use reliable::{Deed, HeardReliably, Reliable};
 pub use sealed::{message_number, seal, Record};
 pub use stations::{Heard, Listened, Station, Stations};
 

@@ -48,7 +48,6 @@ refusals! {
     PayloadTooLong = 12, "the payload has more than 4,095 bytes";
     ReliableWithoutDestination = 13, "reliable service needs a destination";
     OutputTooShort = 14, "the output has no room for the PDU, or for its exchange";
-    ReservedAbove3 = 15, "reserved bits above 3: a number of this library's own, for a header put together by hand";
     NoEncryptedFlag = 16, "encryption is asked for, and edition 1.1 has no encrypted flag";
     UnknownEdition = 17, "the edition is neither 11, which is 1.1, nor 12, which is 1.2";
     LowAboveHigh = 20, "a list has a range whose low is above its high";

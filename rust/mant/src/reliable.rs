@@ -1,7 +1,7 @@
 //! Reliable messages (02, W-210).
 
 use crate::raw::{self, Outcome, Retained, RECORDS, RETAINED_LIMIT};
-use crate::{Answer, Names, Refusal, Sending};
+use crate::{Answer, Lists, Names, Node, Refusal, Sending};
 
 /// What was done with a table of retained PDUs. A place counts from 0.
 #[derive(Clone, Copy, Debug, PartialEq, Eq)]
@@ -20,6 +20,15 @@ pub enum Deed {
     /// The acknowledgement of the received PDU, known by these names, is in
     /// the output, to be sent, and has so many bytes.
     Acknowledged(Names, usize),
+}
+
+/// What a node answers for one PDU, and what was done with its table.
+#[derive(Clone, Debug, PartialEq, Eq)]
+pub struct HeardReliably {
+    /// The node's answer, which does not depend on the table.
+    pub answer: Answer,
+    /// What was done: the PDU freed a record, or is acknowledged, or neither.
+    pub deed: Result<Deed, Refusal>,
 }
 
 /// The reliable PDUs that wait for their acknowledgement, 16 of them at most,
@@ -99,35 +108,57 @@ impl Reliable {
         self.after(outcome)
     }
 
-    /// What the PDU at the start of the received bytes does, for which a node
-    /// has answered: it frees a record, or is acknowledged, or neither. Hand on
-    /// only what the node answered for these bytes. Refusals: 10 and 11 where an
-    /// acknowledgement is due, and 77 where the output has no room for it, 9
-    /// bytes or with a path 10.
+    /// A node hears the PDU at the start of the received bytes, as by
+    /// [`hear`](crate::hear), and the table with it. A reliable PDU that the
+    /// node delivers frees a record or is acknowledged; no other does anything.
+    /// The output has the repeated PDU or the acknowledgement: one PDU never
+    /// calls for both. Refusals: 10 and 11 where an acknowledgement is due, and
+    /// 77 where the output has no room for it, 9 bytes or with a path 10.
     ///
     /// ```
-    /// use mant::{hear, Deed, Lists, Node, Reliable, Sending};
+    /// use mant::{Deed, Lists, Node, Reliable, Sending};
     ///
     /// let command = [0x09, 0, 0x10, 0, 0x03, 0xE8, 0x06, 0x40, 7]; // 1000 to 1600, ID 7
     /// let (mut base, mut gate, mut reply) = (Reliable::new(), Reliable::new(), [0; 9]);
     /// base.retain(100, &command)?;
-    /// let answer_at = |own, pdu: &[u8]| hear(&Node::new(own), &Lists::none(), pdu, &mut []);
-    /// let sending = Sending { hop_limit: 1, ..Sending::default() };
-    /// let deed = gate.acknowledge(&command, &answer_at(1600, &command), &sending, &mut reply)?;
-    /// assert!(matches!(deed, Deed::Acknowledged(names, 9) if names.pdu_id == 7));
-    /// let deed = base.acknowledge(&reply, &answer_at(1000, &reply), &sending, &mut [])?;
-    /// assert!(matches!(deed, Deed::Freed(0, names) if names.pdu_id == 7));
+    /// let (lists, sending) = (Lists::none(), Sending { hop_limit: 1, ..Sending::default() });
+    /// let heard = gate.hear(&Node::new(1600), &lists, &command, &sending, &mut reply);
+    /// assert!(matches!(heard.deed?, Deed::Acknowledged(names, 9) if names.pdu_id == 7));
+    /// let heard = base.hear(&Node::new(1000), &lists, &reply, &sending, &mut []);
+    /// assert!(matches!(heard.deed?, Deed::Freed(0, names) if names.pdu_id == 7));
     /// # Ok::<(), mant::Refusal>(())
     /// ```
+    pub fn hear(
+        &mut self,
+        node: &Node,
+        lists: &Lists,
+        received: &[u8],
+        sending: &Sending,
+        output: &mut [u8],
+    ) -> HeardReliably {
+        let (node, last) = ((node.raw(), lists.words()), self.last);
+        let heard = raw::hear_reliably(node, &mut self.records, last, received, *sending, output);
+        HeardReliably {
+            answer: Answer::of(heard.answer),
+            deed: self.after(heard.outcome),
+        }
+    }
+
+    /// The second half of [`Reliable::hear`] alone, for a PDU that was heard by
+    /// another call with this answer, at the node with this own address. It goes
+    /// by the number for delivery and by the bytes: if they cannot be read, are
+    /// for another address or have the added header set, nothing is done,
+    /// whatever the answer says.
     pub fn acknowledge(
         &mut self,
+        own: u16,
         received: &[u8],
         answer: &Answer,
         sending: &Sending,
         output: &mut [u8],
     ) -> Result<Deed, Refusal> {
-        let (last, answer) = (self.last, answer.raw());
-        let outcome = raw::acknowledge(&mut self.records, last, received, answer, *sending, output);
+        let (last, heard) = (self.last, (received, answer.raw()));
+        let outcome = raw::acknowledge(&mut self.records, last, own, heard, *sending, output);
         self.after(outcome)
     }
 

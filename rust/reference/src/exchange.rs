@@ -32,11 +32,18 @@ pub struct Exchange {
 }
 
 /// An element, its value shown as places of the input.
-struct Element {
-    type_number: usize,
-    value: Range<usize>,
-    /// The elements of its value, if that is a run.
-    inner: Vec<Element>,
+#[derive(Clone, Debug, PartialEq, Eq)]
+pub struct Element {
+    /// Its type.
+    pub type_number: usize,
+    /// Its value, which ends where the element does.
+    pub value: Range<usize>,
+}
+
+/// An element, and those of its value if that is a run.
+struct Held {
+    element: Element,
+    inner: Vec<Held>,
 }
 
 /// Reads an exchange. The whole input is judged as a run first (57, 58), then
@@ -47,8 +54,8 @@ pub fn read_exchange(bytes: &[u8]) -> Result<Exchange, u8> {
     if elements.len() != 1 {
         return Err(NOT_AN_EXCHANGE);
     }
-    let header = only(&exchange.inner, PDU_HEADER)?.value.clone();
-    let payload = only(&exchange.inner, PDU_PAYLOAD)?.value.clone();
+    let header = only(&exchange.inner, PDU_HEADER)?.element.value.clone();
+    let payload = only(&exchange.inner, PDU_PAYLOAD)?.element.value.clone();
     let joined = [&bytes[header.clone()], &bytes[payload.clone()]].concat();
     let pdu = read(&joined)?;
     if pdu.pdu_length() != joined.len() || pdu.length() != header.len() {
@@ -59,29 +66,36 @@ pub fn read_exchange(bytes: &[u8]) -> Result<Exchange, u8> {
 
 /// The elements of a run, in their order, or the fault of the first of them
 /// that has one, those inside them counted where they begin.
-fn read_run(bytes: &[u8], part: Range<usize>, level: usize) -> Result<Vec<Element>, u8> {
-    let mut rest = Cursor::new(&bytes[..part.end], part.start, ELEMENT_CUT);
+fn read_run(bytes: &[u8], part: Range<usize>, level: usize) -> Result<Vec<Held>, u8> {
+    let mut place = part.start;
     let mut elements = vec![];
-    while rest.left() > 0 {
+    while place < part.end {
         if level > MOST_LEVELS {
             return Err(ELEMENT_TOO_DEEP);
         }
-        let type_number = read_number(&mut rest)?;
-        let length = read_number(&mut rest)?;
-        rest.take(length)?;
-        let end = part.end - rest.left();
-        let value = end - length..end;
-        let inner = match RUNS.contains(&type_number) {
-            true => read_run(bytes, value.clone(), level + 1)?,
+        let element = element_at(&bytes[..part.end], place)?;
+        place = element.value.end;
+        let inner = match RUNS.contains(&element.type_number) {
+            true => read_run(bytes, element.value.clone(), level + 1)?,
             false => vec![],
         };
-        elements.push(Element {
-            type_number,
-            value,
-            inner,
-        });
+        elements.push(Held { element, inner });
     }
     Ok(elements)
+}
+
+/// The element that begins at a place of the bytes, or 57 where none ends
+/// within them.
+pub fn element_at(bytes: &[u8], place: usize) -> Result<Element, u8> {
+    let mut rest = Cursor::new(bytes, place.min(bytes.len()), ELEMENT_CUT);
+    let type_number = read_number(&mut rest)?;
+    let length = read_number(&mut rest)?;
+    rest.take(length)?;
+    let end = bytes.len() - rest.left();
+    Ok(Element {
+        type_number,
+        value: end - length..end,
+    })
 }
 
 /// A type or a length: one byte, or two where the top bit is set.
@@ -95,12 +109,12 @@ fn read_number(rest: &mut Cursor) -> Result<usize, u8> {
 }
 
 /// The element of this type, there exactly once.
-fn only(elements: &[Element], type_number: usize) -> Result<&Element, u8> {
+fn only(elements: &[Held], type_number: usize) -> Result<&Held, u8> {
     let mut found = elements
         .iter()
-        .filter(|element| element.type_number == type_number);
+        .filter(|held| held.element.type_number == type_number);
     match (found.next(), found.next()) {
-        (Some(element), None) => Ok(element),
+        (Some(held), None) => Ok(held),
         _ => Err(NOT_AN_EXCHANGE),
     }
 }

@@ -24,7 +24,6 @@ numbers! {
     PAYLOAD_SIZE = 12, "the payload has more than 4,095 bytes";
     RELIABLE_WITHOUT_DESTINATION = 13, "reliable service needs a destination";
     OUTPUT_SHORT = 14, "the output has no room for the PDU, or for its exchange";
-    RESERVED_ABOVE_3 = 15, "reserved bits above 3: a number of this library's own, for a header put together by hand";
     NO_ENCRYPTED_FLAG = 16, "encryption is asked for, and edition 1.1 has no encrypted flag";
     UNKNOWN_EDITION = 17, "the edition is neither 11, which is 1.1, nor 12, which is 1.2";
     LOW_ABOVE_HIGH = 20, "a list has a range whose low is above its high";

@@ -150,17 +150,21 @@ impl Table {
         Ok(Done::SentAgain(place, names, length))
     }
 
-    /// A PDU at the start of the received bytes that a node answered with this
-    /// delivery number: 10 and 11, if an acknowledgement is due; 74; 77.
+    /// A PDU at the start of the received bytes that the node with the own
+    /// address answered with this delivery number: 10 and 11, if an
+    /// acknowledgement is due; 74; 77. A PDU of protocol 1 is delivered at its
+    /// destination alone, and not with an added header.
     pub fn heard(
         &mut self,
+        own: u16,
         received: &[u8],
         delivery: u8,
         sending: &Sending,
         out: &mut [u8],
     ) -> Result<Done, u8> {
         let delivered = read(received).ok().filter(|_| delivery == DONE);
-        let reliable = delivered.filter(|header| header.protocol == 1);
+        let here = |header: &Header| header.destination == Some(own) && !header.added_header;
+        let reliable = delivered.filter(|header| header.protocol == 1 && here(header));
         match reliable {
             Some(header) if header.ack => self.free_first(names(&header)),
             Some(header) => self.answer(names(&header), sending, out),

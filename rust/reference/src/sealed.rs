@@ -44,6 +44,11 @@ impl Accepted {
         self.numbers.get(&source).copied()
     }
 
+    /// Removes a source, and gives whether it was held.
+    pub fn remove(&mut self, source: u16) -> bool {
+        self.numbers.remove(&source).is_some()
+    }
+
     /// How many sources are held.
     pub fn len(&self) -> usize {
         self.numbers.len()
@@ -104,8 +109,14 @@ pub fn open(key: &Key, accepted: &mut Accepted, pdu: &[u8], out: &mut [u8]) -> (
     }
 }
 
-/// The header, the message number and the plain payload, but for the room.
-fn opened(key: &Key, accepted: &Accepted, pdu: &[u8]) -> Result<(Header, u32, Vec<u8>), u8> {
+/// The message number of the sealed PDU at the start of the bytes: 1 to 6, 80,
+/// 81. It is the payload's first three bytes.
+pub fn message_number(pdu: &[u8]) -> Result<u32, u8> {
+    Ok(numbered(pdu)?.1)
+}
+
+/// The header and the message number.
+fn numbered(pdu: &[u8]) -> Result<(Header, u32), u8> {
     let header = read(pdu)?;
     if !header.encrypted {
         return Err(NOT_ENCRYPTED);
@@ -114,8 +125,14 @@ fn opened(key: &Key, accepted: &Accepted, pdu: &[u8]) -> Result<(Header, u32, Ve
     if payload.len() < MORE {
         return Err(TOO_SHORT_TO_OPEN);
     }
-    let (number, enciphered) = payload.split_at(3);
-    let number = u32::from_be_bytes([0, number[0], number[1], number[2]]);
+    let number = u32::from_be_bytes([0, payload[0], payload[1], payload[2]]);
+    Ok((header, number))
+}
+
+/// The header, the message number and the plain payload, but for the room.
+fn opened(key: &Key, accepted: &Accepted, pdu: &[u8]) -> Result<(Header, u32, Vec<u8>), u8> {
+    let (header, number) = numbered(pdu)?;
+    let enciphered = &header.payload(pdu)[3..];
     let last = accepted.get(header.source);
     if last.is_some_and(|last| number <= last) {
         return Err(NUMBER_NOT_GREATER);

@@ -23,6 +23,12 @@ free-effect-requires c κs = search needs
 enum-told-4 : tie.Need-enum-told-4
 enum-told-4 c = search needs
 
+answer-effect-requires : tie.Need-answer-effect-requires
+answer-effect-requires c κs = search needs
+
+enum-told-5 : tie.Need-enum-told-5
+enum-told-5 c = search needs
+
 unchanged-requires : tie.Need-unchanged-requires
 unchanged-requires c κs = search needs
 
@@ -36,7 +42,10 @@ returns-3 : tie.Need-returns-3
 returns-3 c = rw (c .before .enum-told3 .given .1) (c .free-effect .ensures)
 
 returns-4 : tie.Need-returns-4
-returns-4 c = rw (c .before .enum-told4 .given .1) (c .unchanged .ensures)
+returns-4 c = rw (c .before .enum-told4 .given .1) (c .answer-effect .ensures)
+
+returns-5 : tie.Need-returns-5
+returns-5 c = rw (c .before .enum-told5 .given .1) (c .unchanged .ensures)
 
 pub effect-of-spec : {M : Type 1} → statement M
 effect-of-spec =
@@ -49,8 +58,11 @@ effect-of-spec =
     enum-told-3
     free-effect-requires
     enum-told-4
+    answer-effect-requires
+    enum-told-5
     unchanged-requires
     returns
     returns-2
     returns-3
-    returns-4)
+    returns-4
+    returns-5)

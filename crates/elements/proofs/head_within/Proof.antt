@@ -28,6 +28,7 @@ returns c =
       end-is _ _ _
           (at-type .number-at .ensures .1) _ _ (at-length .number-at2 .ensures .1) (at-length .number-at2 .ensures .0),
       omega arith,
+      at-type .number-at .ensures .2,
     )
 
 pub head-within-spec : {M : Type 1} → statement M

@@ -1,18 +1,21 @@
 use mathlib.Core.Path.{sym, _∙_}
-use denote.Ref.{now}
-use Rattle.writing.proofs.Encoding.{field-refused, no-room, header-done}
 use native.Mathlib.Omega.{arith}
+use denote.Ref.{now}
 use borrow.Author.Needs.{needs}
+use borrow.Author.Tests.{not-true, not-false}
+use Rattle.writing.proofs.Encoding.{not-put, not-writable, no-room, header-done}
 use Rattle.writing.proofs.put_header.Statement.{statement}
 use Rattle.writing.proofs.put_header.Tie as tie
 
-field-fault-requires : tie.Need-field-fault-requires
-field-fault-requires c κs = search needs
+is-writable-requires : tie.Need-is-writable-requires
+is-writable-requires c κs = search needs
 
 returns : tie.Need-returns
 returns c =
     let start = c .before .before .before in
-    field-refused (start .args .header) (now (start .args .output)) _ (c .before .field-fault .ensures) (c .if1 .taken)
+    let header = start .args .header in
+    let output = now (start .args .output) in
+    not-put header output (not-writable header output (sym (c .before .is-writable .ensures) ∙ not-true _ (c .if1 .taken)))
 
 path-start-requires : tie.Need-path-start-requires
 path-start-requires c κs = search needs
@@ -21,14 +24,16 @@ returns-2 : tie.Need-returns-2
 returns-2 c =
     let tested = c .before .before in
     let start = tested .before .before .before in
-    no-room (start .args .header) (now (start .args .output)) (sym (tested .before .field-fault .ensures) ∙ tested .if1 .left)
-    (omega (arith, c .before .path-start .ensures .0))
+    let header = start .args .header in
+    let output = now (start .args .output) in
+    not-put header output
+    (no-room header output (sym (tested .before .is-writable .ensures) ∙ not-false _ (tested .if1 .left)) (omega (arith, c .before .path-start .ensures .0)))
 
 put-fields-requires : tie.Need-put-fields-requires
 put-fields-requires c κs =
     let begins = c .before .before in
     let tested = begins .before in
-    (sym (tested .before .field-fault .ensures) ∙ tested .if1 .left, omega (arith, begins .path-start .ensures .0))
+    (sym (tested .before .is-writable .ensures) ∙ not-false _ (tested .if1 .left), omega (arith, begins .path-start .ensures .0))
 
 same-length : tie.Need-same-length
 same-length c = search needs
@@ -39,14 +44,14 @@ returns-3 c =
     let begins = put .before .before .before in
     let tested = begins .before in
     let start = tested .before .before .before in
-    header-done (start .args .header) (now (start .args .output)) (sym (tested .before .field-fault .ensures) ∙ tested .if1 .left)
+    header-done (start .args .header) (now (start .args .output)) (sym (tested .before .is-writable .ensures) ∙ not-false _ (tested .if1 .left))
     (omega (arith, begins .path-start .ensures .0)) _ _ (put .put-fields .ensures)
 
 pub put-header-spec : {M : Type 1} → statement M
 put-header-spec =
     tie.close
     (tie.spec
-    field-fault-requires
+    is-writable-requires
     returns
     path-start-requires
     returns-2

@@ -104,8 +104,10 @@ impl Repeater {
         }
         let delivered = done("delivery", answer.delivery.clone()).is_some();
         if delivered && self.deliver(bytes, &answer) {
-            let (sending, output) = (&self.sending, &mut self.output);
-            let deed = self.alarms.acknowledge(bytes, &answer, sending, output);
+            let (own, sending, output) = (self.node.own, &self.sending, &mut self.output);
+            let deed = self
+                .alarms
+                .acknowledge(own, bytes, &answer, sending, output);
             if let Some(Deed::Acknowledged(_, length)) = note(deed) {
                 self.enqueue("acknowledgement", length);
             }

@@ -1,6 +1,6 @@
 //! PDUs that are sent again until they are acknowledged.
 
-use super::Answer;
+use super::{Answer, Node};
 
 /// `MANT_RECORDS`.
 pub const RECORDS: usize = 16;
@@ -83,12 +83,25 @@ pub struct Sending {
     pub with_path: bool,
 }
 
+/// What [`hear_reliably`] answers: the node's answer, and what was done with
+/// the table and in the output.
+/// In C `MantHeardReliably`.
+#[repr(C)]
+#[derive(Clone, Copy, Debug, Default, PartialEq, Eq)]
+pub struct HeardReliably {
+    /// The node's answer.
+    pub answer: Answer,
+    /// What was done.
+    pub outcome: Outcome,
+}
+
 // The sizes that the header asserts.
 const _: () = {
     assert!(size_of::<Retained>() == 280);
     assert!(size_of::<Names>() == 6);
     assert!(size_of::<Outcome>() == 40);
     assert!(size_of::<Sending>() == 24);
+    assert!(size_of::<HeardReliably>() == 80);
 };
 
 #[rustfmt::skip]
@@ -98,9 +111,13 @@ extern "C" {
         table: *mut Retained, records: usize, last: u64, time: u64, delay: u64, tries: u64, output: *mut u8, output_length: usize,
     ) -> Outcome;
     fn mant_acknowledge(
-        table: *mut Retained, records: usize, last: u64, received: *const u8, received_length: usize, answer: Answer, sending: Sending,
-        output: *mut u8, output_length: usize,
+        table: *mut Retained, records: usize, last: u64, own: u16, received: *const u8, received_length: usize, answer: Answer,
+        sending: Sending, output: *mut u8, output_length: usize,
     ) -> Outcome;
+    fn mant_hear_reliably(
+        node: Node, lists: *const u16, lists_length: usize, table: *mut Retained, records: usize, last: u64, received: *const u8,
+        received_length: usize, sending: Sending, output: *mut u8, output_length: usize,
+    ) -> HeardReliably;
 }
 
 /// `mant_retain`.
@@ -148,8 +165,8 @@ pub fn retry(
 pub fn acknowledge(
     table: &mut [Retained],
     last: u64,
-    received: &[u8],
-    answer: Answer,
+    own: u16,
+    (received, answer): (&[u8], Answer),
     sending: Sending,
     output: &mut [u8],
 ) -> Outcome {
@@ -159,9 +176,38 @@ pub fn acknowledge(
             table.as_mut_ptr(),
             table.len(),
             last,
+            own,
             received.as_ptr(),
             received.len(),
             answer,
+            sending,
+            output.as_mut_ptr(),
+            output.len(),
+        )
+    }
+}
+
+/// `mant_hear_reliably`.
+#[inline]
+pub fn hear_reliably(
+    (node, lists): (Node, &[u16]),
+    table: &mut [Retained],
+    last: u64,
+    received: &[u8],
+    sending: Sending,
+    output: &mut [u8],
+) -> HeardReliably {
+    // SAFETY: as above.
+    unsafe {
+        mant_hear_reliably(
+            node,
+            lists.as_ptr(),
+            lists.len(),
+            table.as_mut_ptr(),
+            table.len(),
+            last,
+            received.as_ptr(),
+            received.len(),
             sending,
             output.as_mut_ptr(),
             output.len(),

@@ -26,6 +26,38 @@ fn the_exchange_of_document_003() {
 }
 
 #[test]
+fn the_elements_of_document_003() {
+    let front = [&[0x75, 1, 1, 0x18, 2, 0x1F, 0x40, 0x77, 5], &b"SACCO"[..]].concat();
+    let run = [&front[..], &EXCHANGE].concat();
+    assert_eq!(read_exchange(&run), Err(Refusal::NotAnExchange));
+    let found: Vec<Element> = elements(&run).map(Result::unwrap).collect();
+    let types: Vec<u16> = found.iter().map(|element| element.type_number).collect();
+    assert_eq!(types, [117, 24, 119, Exchange::TYPE]);
+    assert_eq!(found[1].value, [0x1F, 0x40]);
+    assert_eq!(found[2].value, b"SACCO");
+    assert_eq!(found[3].bytes, EXCHANGE);
+    assert_eq!(found[3].value, &EXCHANGE[2..]);
+    let inner: Vec<u16> = elements(found[3].value)
+        .map(|element| element.unwrap().type_number)
+        .collect();
+    assert_eq!(inner, [1024, 1025, 1026, 1027]);
+}
+
+#[test]
+fn a_walk_ends() {
+    assert_eq!(elements(&[]).next(), None);
+    let mut cut = elements(&[0x80, 5, 0, 20, 2, 9]);
+    let whole = Element {
+        type_number: 5,
+        value: &[],
+        bytes: &[0x80, 5, 0],
+    };
+    assert_eq!(cut.next(), Some(Ok(whole)));
+    assert_eq!(cut.next(), Some(Err(Refusal::ElementCut)));
+    assert_eq!(cut.next(), None);
+}
+
+#[test]
 fn exchanges_that_are_none() {
     let refused = |bytes: &[u8]| read_exchange(bytes).map_or_else(Refusal::number, |_| 0);
     assert_eq!(refused(&EXCHANGE[..37]), 57);

@@ -52,17 +52,52 @@ fn a_command_is_acknowledged() {
         hop_limit: 8,
         ..sending
     };
-    let refused = gate.acknowledge(&COMMAND, &answer, &wrong, &mut output);
+    let refused = gate.acknowledge(1600, &COMMAND, &answer, &wrong, &mut output);
     assert_eq!(refused, Err(Refusal::HopLimitAbove7));
-    let acknowledged = gate.acknowledge(&COMMAND, &answer, &sending, &mut output);
+    let acknowledged = gate.acknowledge(1600, &COMMAND, &answer, &sending, &mut output);
     assert_eq!(acknowledged, Ok(Deed::Acknowledged(NAMES, 9)));
     let wanted = [0x09, 1, 0x30, 0, 0x06, 0x40, 0x03, 0xE8, 7, 0xAA];
     assert_eq!((gate, output), (Reliable::new(), wanted));
     let answer = hear(&Node::new(1000), &lists, &output[..9], &mut []);
-    let freed = base.acknowledge(&output[..9], &answer, &sending, &mut []);
+    let freed = base.acknowledge(1000, &output[..9], &answer, &sending, &mut []);
     assert_eq!(freed, Ok(Deed::Freed(0, NAMES)));
-    let again = base.acknowledge(&output[..9], &answer, &sending, &mut []);
+    let again = base.acknowledge(1000, &output[..9], &answer, &sending, &mut []);
     assert_eq!((again, base.last()), (Ok(Deed::Nothing), 100));
+}
+
+#[test]
+fn no_other_is_acknowledged() {
+    let (mut gate, sending, mut output) = (Reliable::new(), Sending::default(), [0xAA; 10]);
+    let answer = hear(&Node::new(1600), &Lists::none(), &COMMAND, &mut []);
+    assert!(answer.delivery.is_ok());
+    let mut added = COMMAND;
+    added[2] |= 0x80;
+    for (own, bytes) in [
+        (2000, &COMMAND[..]),
+        (1600, &added[..]),
+        (0, &[8][..]),
+        (1600, &[]),
+    ] {
+        let deed = gate.acknowledge(own, bytes, &answer, &sending, &mut output);
+        assert_eq!((deed, output), (Ok(Deed::Nothing), [0xAA; 10]));
+    }
+}
+
+#[test]
+fn a_node_hears_reliably() {
+    let (mut base, mut gate) = (retaining(), Reliable::new());
+    let (lists, sending, mut output) = (Lists::none(), Sending::default(), [0xAA; 10]);
+    let elsewhere = gate.hear(&Node::new(2000), &lists, &COMMAND, &sending, &mut [0; 10]);
+    assert_eq!(elsewhere.answer.delivery, Err(Refusal::ForAnother));
+    assert_eq!(elsewhere.deed, Ok(Deed::Nothing));
+    let heard = gate.hear(&Node::new(1600), &lists, &COMMAND, &sending, &mut output);
+    assert_eq!(
+        heard.answer,
+        hear(&Node::new(1600), &lists, &COMMAND, &mut [])
+    );
+    assert_eq!(heard.deed, Ok(Deed::Acknowledged(NAMES, 9)));
+    let heard = base.hear(&Node::new(1000), &lists, &output[..9], &sending, &mut []);
+    assert_eq!(heard.deed, Ok(Deed::Freed(0, NAMES)));
 }
 
 #[test]

@@ -66,6 +66,22 @@ fn the_example_of_document_003() {
 }
 
 #[test]
+fn what_document_003_has_before_the_example() {
+    let front = [&[0x75, 1, 1, 0x18, 2, 0x1F, 0x40, 0x77, 5], &b"SACCO"[..]].concat();
+    let run = [&front[..], &EXAMPLE].concat();
+    assert_eq!(number(&run), 59);
+    let mut place = 0;
+    for (type_number, value) in [(117, 2..3), (24, 5..7), (119, 9..14), (20, 16..52)] {
+        let wanted = Element { type_number, value };
+        assert_eq!(element_at(&run, place), Ok(wanted.clone()));
+        place = wanted.value.end;
+    }
+    assert_eq!(element_at(&run, place), Err(57));
+    assert_eq!(element_at(&run[..51], 14), Err(57));
+    assert_eq!(element_at(&run, usize::MAX), Err(57));
+}
+
+#[test]
 fn either_order_and_either_form() {
     let parts_of = (HEADER_OF_1.to_vec(), vec![9]);
     let straight = exchange(&[header(&HEADER_OF_1), payload(&[9])]);

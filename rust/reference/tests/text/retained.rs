@@ -68,7 +68,7 @@ fn stepped(table: &mut Table, time: u64, delay: u64, most: u64) -> (Done, Vec<u8
 fn the_first_free_record_notes_the_time_and_count_0() {
     let mut table = holding(3, 7);
     assert_eq!(table.last(), 7);
-    let heard = table.heard(&acknowledgement(1, 0), 0, &SENDING, &mut []);
+    let heard = table.heard(1000, &acknowledgement(1, 0), 0, &SENDING, &mut []);
     assert_eq!(heard, Ok(Done::Freed(1, names(1))));
     let done = table.retain(9, &command(77, 0));
     assert_eq!(done, Ok(Done::Retained(1, names(77))));
@@ -88,7 +88,8 @@ fn not_16_records() {
         assert_eq!(refused(&table, |table, _| table.retain(0, &[])), 74);
         assert_eq!(refused(&table, |table, out| table.step(0, 0, 0, out)), 74);
         for bytes in [command(1, 0), acknowledgement(1, 0), vec![]] {
-            let heard = |table: &mut Table, out: &mut [u8]| table.heard(&bytes, 0, &SENDING, out);
+            let heard =
+                |table: &mut Table, out: &mut [u8]| table.heard(1600, &bytes, 0, &SENDING, out);
             assert_eq!(refused(&table, heard), 74);
         }
     }

@@ -137,6 +137,21 @@ fn the_steps_of_document_002() {
 }
 
 #[test]
+fn the_message_number_lies_in_clear() {
+    assert_eq!(message_number(&bytes(SEALED)), Ok(850));
+    assert_eq!(message_number(&bytes(SEALED)[..5]), Err(1));
+    assert_eq!(message_number(&bytes(PLAIN)), Err(80));
+    assert_eq!(message_number(&pdu([2, 8], &[0], &[9; 6])), Err(81));
+}
+
+#[test]
+fn a_removed_source_is_new() {
+    let mut record = accepted(850);
+    assert!(!record.remove(1001) && record.remove(1000) && !record.remove(1000));
+    assert_eq!(opened(&mut record, &bytes(SEALED)).0, 0);
+}
+
+#[test]
 fn sealing_and_opening_give_the_payload_back() {
     for (flags, fields) in [
         ([0x00, 0x00], vec![]),

@@ -1,5 +1,5 @@
--- `mant_retain` meets its contract: a walk of its MIR, by hand. `ask_retain` and `retained_record` read the PDU; the records are lent to `search`, and go to
--- `lay` for good. Assumes nothing.
+-- `mant_retain` meets its contract: a walk of its MIR, by hand. `ask_retain` and `retained_record` read the PDU; the records are lent to `find`, and go to
+-- `store` for good. Assumes nothing.
 use mathlib.Core.Path.{_≡_, refl}
 use Prim.Native.Nat.{ℕ, _<_, _^_}
 use mathlib.Core.List.{List, [], _∷_, _++_}
@@ -62,12 +62,12 @@ use Rattle.reliable.proofs.Locals.{Cell, bare, has, frame, Blocks, locals, begi
 use Rattle.reliable.proofs.Arguments.{arg, again}
 use Rattle.reliable.proofs.Values.{slice, pointer, tval, oval, qval, fval, IsO, IsQ, IsF}
 use Rattle.reliable.proofs.Values.{typed-t, typed-o, typed-q, typed-f, typed-word, typed-slice, own-word, own-o}
-use Rattle.reliable.proofs.Searched.{Search, searched}
-use Rattle.reliable.proofs.search.Symbol as search-def
-use Rattle.reliable.proofs.search.Met as search-thm
-use Rattle.reliable.proofs.Laid.{Lay, laid}
-use Rattle.reliable.proofs.lay.Symbol as lay-def
-use Rattle.reliable.proofs.lay.Met as lay-thm
+use Rattle.reliable.proofs.Found.{Find, found}
+use Rattle.reliable.proofs.find.Symbol as find-def
+use Rattle.reliable.proofs.find.Met as find-thm
+use Rattle.reliable.proofs.Stored.{Store, stored}
+use Rattle.reliable.proofs.store.Symbol as store-def
+use Rattle.reliable.proofs.store.Met as store-thm
 use Rattle.mant.proofs.reliable_messages.mant_retain.Key.{name as #retain}
 use Rattle.mant.proofs.reliable_messages.mant_retain as retain
 use Rattle.mant.proofs.reliable_messages.mant_retain.Statement as stated
@@ -88,9 +88,9 @@ module _ {M : Type 1} (𝓤 : URA M) (H : Heap 𝓤) (A : Atoms 𝓤) (mem : Mem
 -- the functions that are called meet their contracts
 pub record Known {M : Type 1} (𝓤 : URA M) (H : Heap 𝓤) (A : Atoms 𝓤) (mem : Memory → SProp 𝓤) (run : Routine → Fun 𝓤) (𝓣 : Tables 𝓤 H) : Type 2 where
   pub asks : Triple 𝓤 (𝓣 .C ask-def.name) (Asks 𝓤 H A mem run)
-  pub search : Triple 𝓤 (𝓣 .C search-def.name) (Search 𝓤 H A mem run)
+  pub find : Triple 𝓤 (𝓣 .C find-def.name) (Find 𝓤 H A mem run)
   pub records : Triple 𝓤 (𝓣 .C record-def.name) (Records 𝓤 H A mem run)
-  pub lay : Triple 𝓤 (𝓣 .C lay-def.name) (Lay 𝓤 H A mem run)
+  pub store : Triple 𝓤 (𝓣 .C store-def.name) (Store 𝓤 H A mem run)
 
 module _ {M : Type 1} (𝓤 : URA M) (H : Heap 𝓤) (A : Atoms 𝓤) (W : Given 𝓤 H A) (mem : Memory → SProp 𝓤) (run : Routine → Fun 𝓤) (κ κ′ : Lft)
     (q q′ : Share) (x : RefT (List Retained)) (y : RefT (List ℕ)) (last time : ℕ) where
@@ -167,27 +167,27 @@ module _ {M : Type 1} (𝓤 : URA M) (H : Heap 𝓤) (A : Atoms 𝓤) (W : Given
     abbrev fm : FmC 𝓤 H (W .laws) (𝓣 .C)
     fm = fmOf 𝓤 H (W .laws) 𝓣
 
-    -- the result and the parameters; the effect and what `search` was called with; what `lay` was called with
+    -- the result and the parameters; the effect and what `find` was called with; what `store` was called with
     abbrev cells : Cell → List Cell → List Cell
     cells r cs = r ∷ has (slice x) ∷ has (vint w64 last) ∷ has (vint w64 time) ∷ has (slice y) ∷ cs
 
     abbrev lent : Cell → Ask → List Cell → List Cell
     lent e a cs = e ∷ has (pointer x) ∷ has (slice x) ∷ has (qval a) ∷ cs
 
-    abbrev stored : Retained → List Cell
-    stored r = has vunit ∷ has (pointer x) ∷ has (slice x) ∷ has (tval r) ∷ []
+    abbrev given : Retained → List Cell
+    given r = has vunit ∷ has (pointer x) ∷ has (slice x) ∷ has (tval r) ∷ []
 
     ends : (a : Ask) (e : Effect) (r : Retained) (zs : List Retained) → IsF e → Retains (e .outcome) zs → length zs ≡ length ys
-        → Sq W (Left zs ++ frame En (cells bare (lent (has (fval e)) a (stored r)))) (Runs mir.t-9)
+        → Sq W (Left zs ++ frame En (cells bare (lent (has (fval e)) a (given r)))) (Runs mir.t-9)
     ends a e r zs ge p l =
         assigns ! (of-opd ! (load ! (from ! (fld ! refl (stop !))) (look-in ! 8 (sub ! 2 refl (whole !))))) (from ! (stop !))
         (init ! 3 refl (typed-o W (e .outcome) go)) $ returns ! (look ! 3 refl) $
-        freed W En (cells (has (oval (e .outcome))) (lent (has (fval e)) a (stored r))) (Left zs) $ by ! (exits (e .outcome) zs go p l)
+        freed W En (cells (has (oval (e .outcome))) (lent (has (fval e)) a (given r))) (Left zs) $ by ! (exits (e .outcome) zs go p l)
       where
         go : IsO (e .outcome)
         go = LL.owed F.the-type F′.the-laws e _ ge .1 .1 .0
 
-    -- after `search`: the `&mut` is back
+    -- after `find`: the `&mut` is back
     stores : (a : Ask) (e : Effect) → IsF e → a ≡ askRetain last time bs → e ≡ effectOn a ys
         → Sq W (‵ Own ∷ ‵ (flft κ q) ∷ Token′ ∷ ‵ Shr ∷ frame En (cells bare (lent (has (fval e)) a []))) (Runs mir.t-5)
     stores a e ge e₀ e₁ =
@@ -197,8 +197,8 @@ module _ {M : Type 1} (𝓤 : URA M) (H : Heap 𝓤) (A : Atoms 𝓤) (W : Given
         calls-at ! fm (Records 𝓤 H A mem run) (known .records) to-record (arg ! 3 refl (arg ! 3 refl (no-more !))) (λ u.
         told ! T.the-row tval (LL.tells T.the-type T′.the-laws) Token′ _ (λ r. r ≡ retainedRecord time bs) record-said u (id⊢ 𝓤 _) (λ r gr e₂.
         land ! (from ! (stop !)) (init ! 15 refl (typed-t W r gr)) $ move ! (2 ∷ 1 ∷ []) $
-        laid 𝓤 H A W mem run κ q x (e .place) r ! fm (known .lay) (LL.owed F.the-type F′.the-laws e _ ge .0 .1) gr
-        -- [what `lay` asks; κ′'s token; the locals]
+        stored 𝓤 H A W mem run κ q x (e .place) r ! fm (known .store) (LL.owed F.the-type F′.the-laws e _ ge .0 .1) gr
+        -- [what `store` asks; κ′'s token; the locals]
         (arg ! 2 refl (and-then ! (load ! (from ! (fld ! refl (stop !))) (look-in ! 7 (sub ! 0 refl (whole !)))) (arg ! 2 refl (no-more !)))) (λ zs p l.
         land ! (from ! (stop !)) (init ! 12 refl (tt, tt)) $ ends a e r zs ge (retain-tied ys last time bs a e r zs e₀ e₁ e₂ p) l)))
 
@@ -206,8 +206,8 @@ module _ {M : Type 1} (𝓤 : URA M) (H : Heap 𝓤) (A : Atoms 𝓤) (W : Given
     searches : (a : Ask) → IsQ a → a ≡ askRetain last time bs
         → Sq W (Token′ ∷ ‵ Shr ∷ ‵ (flft κ q) ∷ ‵ Own ∷ frame En (cells bare (lent bare a []))) (Runs mir.t-4)
     searches a ga e₀ =
-        move ! (2 ∷ 3 ∷ []) $ searched 𝓤 H A W mem run κ q x a ! fm (known .search) ga gn
-        -- [what `search` asks; what is kept; κ′'s token; pdu's; the locals]
+        move ! (2 ∷ 3 ∷ []) $ found 𝓤 H A W mem run κ q x a ! fm (known .find) ga gn
+        -- [what `find` asks; what is kept; κ′'s token; pdu's; the locals]
         (λ α δ. arg ! 4 refl (arg ! 4 refl (no-more !)))
         (λ e ge e₁. land ! (from ! (stop !)) (init ! 9 refl (typed-f W e ge)) $ stores a e ge e₀ e₁)
 
@@ -254,7 +254,7 @@ mant-retain-spec 𝓤 H 𝓜 𝓖 𝓡 =
     )
     (retain-walks 𝓤 H (𝓖 .A) W (𝓜 .mem) (𝓡 .run) (tablesOf 𝓤 H 𝓜 (tables 𝓤 H 𝓜 𝓡 code.env)) (record {
       asks = cited 𝓤 H _ 𝓜 𝓡 code.env ask-def.name ask-def.routine code.calls-deciding·ask-retain (ask-thm.met 𝓤 H 𝓜 𝓖 𝓡);
-      search = cited 𝓤 H _ 𝓜 𝓡 code.env search-def.name search-def.routine code.calls-reliable·search (search-thm.met 𝓤 H 𝓜 𝓖 𝓡);
+      find = cited 𝓤 H _ 𝓜 𝓡 code.env find-def.name find-def.routine code.calls-reliable·find (find-thm.met 𝓤 H 𝓜 𝓖 𝓡);
       records = cited 𝓤 H _ 𝓜 𝓡 code.env record-def.name record-def.routine code.calls-retained·retained-record (record-thm.met 𝓤 H 𝓜 𝓖 𝓡);
-      lay = cited 𝓤 H _ 𝓜 𝓡 code.env lay-def.name lay-def.routine code.calls-reliable·lay (lay-thm.met 𝓤 H 𝓜 𝓖 𝓡);
+      store = cited 𝓤 H _ 𝓜 𝓡 code.env store-def.name store-def.routine code.calls-reliable·store (store-thm.met 𝓤 H 𝓜 𝓖 𝓡);
     }))

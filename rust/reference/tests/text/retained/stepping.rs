@@ -63,7 +63,7 @@ fn no_room_to_send() {
         Ok(Done::SentAgain(1, names(1), 9))
     );
     let mut out = [0; 10];
-    let heard = table.heard(&command(1, 0), 0, &SENDING, &mut out[..8]);
+    let heard = table.heard(1600, &command(1, 0), 0, &SENDING, &mut out[..8]);
     assert_eq!((heard, out), (Err(77), [0; 10]));
 }
 
