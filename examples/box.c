@@ -24,7 +24,7 @@ static const MantKey key = {{'k', 'e', 'e', 'p', ' ', 'm', 'e', ' ', 's', 'e', '
 
 /* What the box remembers, all of it empty at first. The record and alarm_id are kept over a restart (save). */
 static uint16_t stations[MANT_STATION_WORDS];
-static uint8_t queue[MANT_QUEUE_LENGTH];
+static MantQueue queue;
 static MantRetained alarms[MANT_RECORDS];
 static uint64_t last_time; /* in seconds since the start, so that no time is earlier than the last */
 static uint32_t record[MANT_SOURCE_WORDS];
@@ -68,7 +68,7 @@ static void enqueue(const char *name, const uint8_t *pdu, size_t length)
 {
     if (length > SLOT_BYTES) {
         printf("    %s dropped: its %zu bytes are more than a slot has room for\n", name, length);
-    } else if (done("queue", mant_queue_add(queue, sizeof queue, pdu, length))) {
+    } else if (done("queue", mant_queue_add(&queue, pdu, length))) {
         print_hex(name, pdu, length);
     }
 }
@@ -169,7 +169,7 @@ static void send_slot(uint64_t now)
         note(outcome);
         used += outcome.length;
     } while (outcome.deed != MANT_DEED_NONE);
-    MantBatch batch = mant_queue_take(queue, sizeof queue, slot + used, sizeof slot - used);
+    MantBatch batch = mant_queue_take(&queue, slot + used, sizeof slot - used);
     done("queue", batch.number);
     used += batch.bytes;
     if (used > 0) {

@@ -28,9 +28,9 @@
  *
  * What a caller owes, since no code can look whether it holds. A pointer with a length other than 0 points to that many elements, aligned as C aligns their
  * type, which nothing else changes during the call; with length 0 it may be anything, NULL too, and is not followed. An output shares no memory with another
- * slice of the call, nor does memory that is lent. Structs are those declared here. They are passed by value and so aligned by the compiler. MantLists and
- * MantListBlock are passed by address, and only that of a MantLists may be NULL. A bool in a struct holds 0 or 1, as C's does unless it was written by other
- * means, such as memcpy.
+ * slice of the call, nor does memory that is lent. Structs are those declared here. They are passed by value and so aligned by the compiler. MantLists,
+ * MantListBlock and MantQueue are passed by address, and only that of a MantLists may be NULL. A bool in a struct holds 0 or 1, as C's does unless it was
+ * written by other means, such as memcpy.
  *
  * Slices. A slice is passed as a pointer and then a length, which counts elements: bytes, the values of a list, the words of a block of lists or of a table,
  * records. Only so many elements are ever read or written.
@@ -596,21 +596,25 @@ MantListened mant_hear_and_count(MantNode node, const uint16_t *lists, size_t li
 /* ---- The transmit queue ----
  *
  * PDUs wait there for the modem's next slot (document 02, W-206 and W-207), and come out whole and in order, as many as fit.
- * Memory: a queue that the caller lends: MANT_QUEUE_LENGTH bytes, for MANT_QUEUE_PDUS PDUs that have MANT_QUEUE_BYTES bytes together; more have room for no
- *     more, fewer for all but four of them. It is empty where its first four bytes are 0, whatever stands behind them. They are two numbers of two bytes, most
- *     significant first, how many PDUs are held and how many bytes they have together; then come the PDUs back to back, the oldest first. Where a call
- *     changes the queue it writes the PDUs then held and before them their two numbers, and keeps the bytes behind them; where it does not, no byte changes.
- *     So in a queue that began empty the numbers are at all times those of the PDUs held. Of bytes put together by hand held are the PDUs that can be read
- *     there one after the other, 32 at most, within as many bytes as the second number tells, or as there is room for where it tells more;
- *     mant_queue_clear does not look at them, and mant_queue_level answers the two numbers as they stand. So clear memory first that was not zeroed, or
- *     what it happens to hold is sent.
+ * Memory: a MantQueue that the caller lends, for MANT_QUEUE_PDUS PDUs that have MANT_QUEUE_BYTES bytes together. It is empty if its first four bytes are 0,
+ *     whatever stands behind them. Three numbers of two bytes come first, most significant byte first: how many PDUs are held, how many bytes they have
+ *     together, and how many bytes behind these six the oldest begins. From there the PDUs lie back to back. Adding writes the new PDU behind the last one.
+ *     Taking moves the third number on; once it is above 512, the PDUs left are moved to the front. No other byte changes, and with a refusal none does.
+ *     Every call is defined for arbitrary bytes. A number above 32, 2,048 or 512 counts as that. Held are the PDUs that can be read one after the other, as
+ *     many as the first number and within as many bytes as the second. mant_queue_level and mant_queue_add go by the numbers, which in a queue that began
+ *     empty are at all times those of the PDUs held. So clear a MantQueue that was not zeroed.
  * Numbers: 60 to 62.
- * Stack: mant_queue_add 144, mant_queue_level 8, mant_queue_take 224, mant_queue_clear 8.
+ * Stack: mant_queue_add 24, mant_queue_level 8, mant_queue_take 80, mant_queue_clear 8.
  */
 
 #define MANT_QUEUE_PDUS 32
 #define MANT_QUEUE_BYTES 2048
-#define MANT_QUEUE_LENGTH 2052
+
+/* A queue's memory: 6 bytes of numbers, 2,048 for PDUs and 512 to spare. */
+typedef struct MantQueue {
+    uint8_t bytes[2566];
+} MantQueue;
+MANT_SIZE(MantQueue, 2566);
 
 /* How many PDUs a queue holds, and how many bytes they have together. */
 typedef struct MantLevel {
@@ -627,34 +631,32 @@ typedef struct MantBatch {
 } MantBatch;
 MANT_SIZE(MantBatch, 24);
 
-/* How many PDUs and bytes a queue holds: the two numbers that it keeps, without a look at its PDUs, so that the cost is the same for any number of
-   them. A byte of the four that is not there counts as 0. */
-MantLevel mant_queue_level(const uint8_t *queue, size_t queue_length);
+/* How many PDUs and bytes a queue holds: the two numbers that it keeps, without a look at its PDUs. */
+MantLevel mant_queue_level(const MantQueue *queue);
 
 /* Adds a PDU to a queue, behind those that it holds. Answers 61 where the bytes are not one PDU and nothing else, whatever the queue holds; then 60 where
-   it holds MANT_QUEUE_PDUS PDUs, or where their bytes and the new ones are more than it has room for. With both it leaves the queue alone; else it answers
-   0. A PDU of more than MANT_QUEUE_BYTES bytes, which a node may well repeat, gets 60 from an empty queue too, so to wait for room does not help it. */
-uint8_t mant_queue_add(uint8_t *queue, size_t queue_length, const uint8_t *pdu, size_t pdu_length);
+   it holds MANT_QUEUE_PDUS PDUs, or where their bytes and the new ones exceed MANT_QUEUE_BYTES. With both it leaves the queue alone; else it answers 0.
+   A PDU of more than MANT_QUEUE_BYTES bytes, which a node may well repeat, gets 60 from an empty queue too, so to wait for room does not help it. */
+uint8_t mant_queue_add(MantQueue *queue, const uint8_t *pdu, size_t pdu_length);
 
 /* Takes PDUs from a queue, from the oldest on, up to the first that the output has no room for: writes them to the output back to back, as one batch
    for mant_step, and releases them. Answers 62 where there is no room for the oldest. Where the queue holds none, the number is 0 and nothing is taken.
    In these two cases queue and output are left alone. A PDU that no slot has room for holds up all behind it, so do not add one (examples/box.c). */
-MantBatch mant_queue_take(uint8_t *queue, size_t queue_length, uint8_t *output, size_t output_length);
+MantBatch mant_queue_take(MantQueue *queue, uint8_t *output, size_t output_length);
 
-/* Drops all PDUs that a queue holds: both numbers are 0 then, and every byte behind them is kept. Fewer than four bytes, which hold none, are left
-   alone. */
-void mant_queue_clear(uint8_t *queue, size_t queue_length);
+/* Drops all PDUs that a queue holds: its three numbers are 0 then, and every byte behind them is kept. */
+void mant_queue_clear(MantQueue *queue);
 
 /* Example: two PDUs wait, and the slot has room for one.
 
-       static uint8_t queue[MANT_QUEUE_LENGTH];
+       static MantQueue queue;
        const uint8_t first[] = {0x02, 0x00, 0x10, 0x01, 0x03, 0xE8, 0x00, 0x2A}, second[] = {0x00, 0x00, 0x00, 0x01, 0x03, 0xE9, 0x2B};
        uint8_t slot[12];
-       assert(mant_queue_add(queue, sizeof queue, first, sizeof first) == MANT_DONE);
-       assert(mant_queue_add(queue, sizeof queue, second, sizeof second) == MANT_DONE);
-       MantBatch batch = mant_queue_take(queue, sizeof queue, slot, sizeof slot);
+       assert(mant_queue_add(&queue, first, sizeof first) == MANT_DONE);
+       assert(mant_queue_add(&queue, second, sizeof second) == MANT_DONE);
+       MantBatch batch = mant_queue_take(&queue, slot, sizeof slot);
        assert(batch.number == MANT_DONE && batch.pdus == 1 && batch.bytes == sizeof first); // the first batch.bytes bytes of slot are to be sent
-       MantLevel level = mant_queue_level(queue, sizeof queue);
+       MantLevel level = mant_queue_level(&queue);
        assert(level.pdus == 1 && level.bytes == sizeof second); */
 
 /* ---- The serial exchange ----

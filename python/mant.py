@@ -35,7 +35,8 @@ Traceback (most recent call last):
     ...
 ValueError: source is 70000; it can be 0 to 65535
 
-What a box keeps from call to call, the table of stations, the queue and the PDUs that wait for their acknowledgement, is for C and Rust."""
+A `Queue` holds the PDUs that wait for the modem's next slot. What else a box keeps from call to call, the table of stations and the PDUs that wait for their
+acknowledgement, is for C and Rust."""
 import ctypes
 import dataclasses
 from typing import Iterator
@@ -44,19 +45,20 @@ import mant_c
 import mant_given as given
 from mant_c import LibraryMissing, library
 from mant_numbers import Number, Refused
+from mant_queue import Level, Queue
 from mant_reach import ProgramMissing, Reach, Reached, reach
 from mant_types import (ADDRESS, BYTE, EDITION_1_1, EDITION_1_2, EXCHANGE_LIMIT, EXCHANGE_TYPE, FIRST_LIST, NO_LIST, SECOND_LIST, SOURCE_WORDS, WORD_64,
                         Answer, Element, Exchange, Header, Limits, ListFault, Lists, Node, Record, Step, flag, whole)
 
 # `open` is left out, so that `from mant import *` does not take the place of Python's own
-__all__ = ['Answer', 'EDITION_1_1', 'EDITION_1_2', 'EXCHANGE_TYPE', 'Element', 'Exchange', 'FIRST_LIST', 'Header', 'LibraryMissing', 'Limits', 'ListFault',
-           'Lists', 'NO_LIST', 'Node', 'Number', 'ProgramMissing', 'Reach', 'Reached', 'Record', 'Refused', 'SECOND_LIST', 'Step', 'change_over', 'elements',
-           'hear', 'limits', 'list_fault', 'list_holds', 'message_number', 'most_bytes', 'most_transmissions', 'originate', 'path', 'reach', 'read',
-           'read_exchange', 'remove_source', 'seal', 'walk', 'write_exchange']
+__all__ = ['Answer', 'EDITION_1_1', 'EDITION_1_2', 'EXCHANGE_TYPE', 'Element', 'Exchange', 'FIRST_LIST', 'Header', 'Level', 'LibraryMissing', 'Limits',
+           'ListFault', 'Lists', 'NO_LIST', 'Node', 'Number', 'ProgramMissing', 'Queue', 'Reach', 'Reached', 'Record', 'Refused', 'SECOND_LIST', 'Step',
+           'change_over', 'elements', 'hear', 'limits', 'list_fault', 'list_holds', 'message_number', 'most_bytes', 'most_transmissions', 'originate', 'path',
+           'reach', 'read', 'read_exchange', 'remove_source', 'seal', 'walk', 'write_exchange']
 
 # known by this module's name, whichever file they stand in
-for _known in (Answer, Element, Exchange, Header, LibraryMissing, Limits, ListFault, Lists, Node, Number, ProgramMissing, Reach, Reached, Record, Refused, Step,
-               reach):
+for _known in (Answer, Element, Exchange, Header, Level, LibraryMissing, Limits, ListFault, Lists, Node, Number, ProgramMissing, Queue, Reach, Reached, Record,
+               Refused, Step, reach):
     _known.__module__ = 'mant'
 
 

@@ -37,6 +37,9 @@ Answer = struct(
 Cursor = struct('MantCursor', place=c_size_t, ended=c_bool)
 Step = struct('MantStep', kind=c_uint8, answer=Answer, next=Cursor)
 Element = struct('MantElement', number=c_uint8, type_number=c_uint16, value_place=c_size_t, value_length=c_size_t, end=c_size_t)
+Queue = struct('MantQueue', bytes=c_uint8 * 2566)
+Level = struct('MantLevel', pdus=c_size_t, bytes=c_size_t)
+Batch = struct('MantBatch', number=c_uint8, pdus=c_size_t, bytes=c_size_t)
 Exchange = struct(
     'MantExchange', number=c_uint8, header_place=c_size_t, header_length=c_size_t, payload_place=c_size_t, payload_length=c_size_t)
 Key = struct('MantKey', bytes=c_uint8 * 16)
@@ -59,6 +62,10 @@ FUNCTIONS = {
     'mant_hear': (Answer, Node, *SLICE, *SLICE, *SLICE),
     'mant_step': (Step, Node, *SLICE, *SLICE, Cursor, *SLICE),
     'mant_element_at': (Element, *SLICE, c_size_t),
+    'mant_queue_level': (Level, ctypes.POINTER(Queue)),
+    'mant_queue_add': (c_uint8, ctypes.POINTER(Queue), *SLICE),
+    'mant_queue_take': (Batch, ctypes.POINTER(Queue), *SLICE),
+    'mant_queue_clear': (None, ctypes.POINTER(Queue)),
     'mant_read_exchange': (Exchange, *SLICE),
     'mant_write_exchange': (Written, *SLICE, *SLICE),
     'mant_seal': (Written, Key, c_uint64, *SLICE, *SLICE),

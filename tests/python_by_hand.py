@@ -186,6 +186,21 @@ def exchanging():
         same(f'an exchange that is refused with {number}', number_of(mant.read_exchange, bytes.fromhex(text)), number)
 
 
+def queueing():
+    queue, pdu = mant.Queue(), mant.originate(bytes(58), source=1, hop_limit=3)
+    same('none held', (queue.take(0), queue.level), (b'', (0, 0)))
+    for _ in range(32):
+        queue.add(pdu)
+    full = queue.memory
+    same('full', (queue.level, number_of(queue.add, pdu), number_of(queue.add, pdu[1:]), number_of(queue.take, 63)), ((32, 2048), 60, 61, 62))
+    same('refused', queue.memory, full)
+    same('taken', (queue.take(130), queue.level, queue.memory[:6]), (2 * pdu, (30, 1920), bytes([0, 30, 7, 128, 0, 128])))
+    same('kept elsewhere', mant.Queue(queue.memory).take(4000), 30 * pdu)
+    queue.clear()
+    same('cleared', (queue.level, queue.memory[:6], queue.memory[6:]), ((0, 0), bytes(6), full[6:]))
+    same('arbitrary bytes', (mant.Queue(b'\xFF' * 2566).level, mant.Queue(b'\xFF' * 2566).take(9)), ((32, 2048), b''))
+
+
 def sealing():
     record = mant.Record()
     same('sealed', mant.seal(EXAMPLE, KEY, 850), SEALED)
@@ -202,6 +217,6 @@ def sealing():
 
 
 def by_hand():
-    for part in (reading, originating, hearing, changing, walking, planning, flooding, exchanging, sealing):
+    for part in (reading, originating, hearing, changing, walking, planning, flooding, exchanging, queueing, sealing):
         part()
     return tally.told('python: by hand')

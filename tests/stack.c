@@ -21,7 +21,6 @@
 #define LENT pdu, sizeof pdu, output, sizeof output
 #define PDU_LENGTH 4613
 #define PLAIN_LENGTH (MANT_PAYLOAD_LIMIT - MANT_SEAL_LENGTH)
-#define QUEUE queue, sizeof queue
 #define TABLE records, MANT_RECORDS, 160
 
 static const MantNode node = MANT_NODE(2000);
@@ -40,7 +39,8 @@ static const MantCursor start = {0, false};
 static uint16_t list[MANT_LIST_LIMIT], table[MANT_STATION_WORDS];
 static const MantLists wanted = {TWO, TWO, TWO, TWO};
 static MantListBlock lists;
-static uint8_t pdu[MANT_PDU_LIMIT], output[MANT_PDU_LIMIT + 2], exchange[MANT_EXCHANGE_LIMIT], queue[MANT_QUEUE_LENGTH];
+static uint8_t pdu[MANT_PDU_LIMIT], output[MANT_PDU_LIMIT + 2], exchange[MANT_EXCHANGE_LIMIT];
+static MantQueue queue;
 static uint8_t command[MANT_RETAINED_LIMIT] = {0x09, 0, 0x30, 0xF7, 0x03, 0xE8, 0x06, 0x40, 7};
 static MantRetained records[MANT_RECORDS];
 static MantAnswer answer;
@@ -101,12 +101,12 @@ CALL(acknowledge_freed_call, mant_acknowledge(TABLE, 1000, acknowledgement, size
 CALL(hear_reliably_call, mant_hear_reliably(node, NO_LISTS, TABLE, pdu, sizeof pdu, sending, output, sizeof output).answer.repeat == 0)
 CALL(hear_reliably_listed_call, mant_hear_reliably(listing, LISTS, TABLE, pdu, sizeof pdu, sending, output, sizeof output).answer.repeat == 0)
 CALL(hear_reliably_answered_call, mant_hear_reliably(gate, NO_LISTS, TABLE, short_command, sizeof short_command, sending, output, 10).outcome.length == 10)
-CALL(queue_full_call, mant_queue_add(QUEUE, pdu, PDU_LENGTH) == MANT_QUEUE_FULL)
-CALL(queue_add_call, mant_queue_add(QUEUE, shortest, sizeof shortest) == 0)
-CALL(queue_level_call, mant_queue_level(QUEUE).pdus == 2)
-CALL(queue_too_long_call, mant_queue_take(QUEUE, output, 5).number == MANT_OLDEST_TOO_LONG)
-CALL(queue_take_call, mant_queue_take(QUEUE, output, 6).pdus == 1)
-CALL(queue_clear_call, (mant_queue_clear(QUEUE), queue[1] == 0))
+CALL(queue_full_call, mant_queue_add(&queue, pdu, PDU_LENGTH) == MANT_QUEUE_FULL)
+CALL(queue_add_call, mant_queue_add(&queue, shortest, sizeof shortest) == 0)
+CALL(queue_level_call, mant_queue_level(&queue).pdus == 2)
+CALL(queue_too_long_call, mant_queue_take(&queue, output, 5).number == MANT_OLDEST_TOO_LONG)
+CALL(queue_take_call, mant_queue_take(&queue, output, 6).pdus == 1)
+CALL(queue_clear_call, (mant_queue_clear(&queue), queue.bytes[1] == 0))
 CALL(seal_call, mant_seal(key, 850, plain, sizeof plain, sealed, sizeof sealed).length == sizeof sealed)
 CALL(seal_short_call, mant_seal(key, 850, plain, sizeof plain, sealed, 99).number == MANT_NO_ROOM_FOR_PAYLOAD)
 CALL(open_short_call, mant_open(key, record, MANT_SOURCE_WORDS, sealed, sizeof sealed, output, 99).number == MANT_NO_ROOM_FOR_PAYLOAD)

@@ -1,175 +1,138 @@
--- The queue in a memory, and a memory that a queue was laid into.
-use Prim.Native.Nat.{ℕ, _-_, _≤_, _<_}
+-- The queue in a memory, and a memory that was given other numbers.
+use Prim.Native.Nat.{ℕ, _+_, _≤_, min}
 use native.Mathlib.Omega.{arith}
-use mathlib.Core.Bool.{Bool, true, false}
 use mathlib.Core.List.{List, [], _++_, flatten}
 use mathlib.Core.Path.{_≡_, refl, ap, ap₂, sym, _∙_}
-use lib.Dec.{leb}
-use lib.ListN.{length, take, drop, length-append, length-drop, length-take}
-use lib.Seq.{take-all, take-take, take-at}
-use borrow.Author.Tests.{leb-true, leb-false}
-use Rattle.octets.specs.Octets.{wordAt, over}
+use lib.ListN.{length, take, drop, length-take}
+use lib.Seq.{take-take, take-at, drop-drop}
+use Rattle.octets.specs.Octets.{wordAt, wordBytes}
 use Rattle.octets.proofs.Words.{word-back}
-use Rattle.octets.proofs.Placing.{not-placed, is-placed, length-placed, length-over}
+use Rattle.octets.proofs.Placing.{is-placed, length-placed}
 use Rattle.queue.specs.declared.Level.{Level}
-use Rattle.queue.specs.declared.Split.{Split}
-use Rattle.queue.specs.Queue.{capacity, claimedLength, claimed, pdusIn, heldIn, levelBytes, memoryOf, levelOf, Kept, memoryAfterClear}
-use Rattle.queue.specs.Queue.{fitting, front, back, splitOf}
-use Rattle.queue.proofs.Runs.{AllExact, pdus-front, pdus-within, pdus-few, pdus-behind, pdus-exact, exact-long, pdus-again}
-use Rattle.queue.proofs.Runs.{nothing-in, nothing-read, fitting-few, front-few, front-length, all-fit}
+use Rattle.queue.specs.declared.QueueNumbers.{QueueNumbers}
+use Rattle.queue.specs.Queue.{memoryLength, numbersIn, claimed, pdusIn, heldIn, numbered, levelOf, keptLevel, Empty, Kept, memoryAfterClear}
+use Rattle.queue.proofs.Runs.{AllExact, pdus-front, pdus-within, pdus-few, pdus-exact, pdus-again, no-more}
 
--- the level of what is held, and of its two parts, as a walk gives them
-module _ (memory part : List ℕ) (is : part ≡ claimed memory) where
-  held-is : pdusIn 32 part ≡ heldIn memory
-  unfolding heldIn
-  held-is = ap (pdusIn 32) is
+-- the numbers, each by itself
+module _ (memory : List ℕ) (held : QueueNumbers) (e : held ≡ numbersIn memory) where
+  pub pdus-is : held .pdus ≡ numbersIn memory .pdus
+  pdus-is = ap (λ (n : QueueNumbers). n .pdus) e
 
-  all-held : (bytes : List ℕ) (most : ℕ) → front (length bytes) (pdusIn most bytes) ≡ pdusIn most bytes
-  all-held bytes most = all-fit (length bytes) (pdusIn most bytes) (pdus-within most bytes)
+  pub bytes-is : held .bytes ≡ numbersIn memory .bytes
+  bytes-is = ap (λ (n : QueueNumbers). n .bytes) e
 
-  pub level-held : (level : Level) → level ≡ levelOf (front (length part) (pdusIn 32 part)) → level ≡ levelOf (heldIn memory)
-  level-held level e = e ∙ ap (λ (pdus : List (List ℕ)). levelOf pdus) (all-held part 32 ∙ held-is)
+  pub place-is : held .place ≡ numbersIn memory .place
+  place-is = ap (λ (n : QueueNumbers). n .place) e
 
-  module _ (room : ℕ) (first : Level) (e : first ≡ levelOf (front room (pdusIn 32 part))) where
-    pub first-few : first .pdus ≤ 32
-    first-few =
-        omega (arith, ap (λ (level : Level). level .pdus) e, front-few room (pdusIn 32 part), pdus-few 32 part)
-
-    pub split-held : (rest : List ℕ) (second : Level) → rest ≡ take (length part) (drop (first .bytes) part)
-        → second ≡ levelOf (front (length rest) (pdusIn (32 - first .pdus) rest))
-        → _≡_ {A = Split} (record { front = first; back = second }) (splitOf room (heldIn memory))
-    split-held rest second er es =
-        let pdus = pdusIn 32 part in
-        let size : first .bytes ≡ length (flatten (front room pdus)) = ap (λ (level : Level). level .bytes) e in
-        let count : first .pdus ≡ fitting room pdus = ap (λ (level : Level). level .pdus) e ∙ front-length room pdus in
-        let whole : rest ≡ drop (length (flatten (front room pdus))) part =
-        er ∙ take-all (length part) (drop (first .bytes) part) (simp length-drop (omega arith)) ∙ ap (λ (k : ℕ). drop k part) size in
-        let behind : pdusIn (32 - first .pdus) rest ≡ back room pdus =
-        ap₂ (λ (k : ℕ) (bytes : List ℕ). pdusIn (32 - k) bytes) count whole
-        ∙ pdus-behind (fitting room pdus) 32 part (fitting-few room pdus) in
-        let front-is = e ∙ ap (λ (l : List (List ℕ)). levelOf (front room l)) held-is in
-        let back-is =
-        es ∙ ap (λ (l : List (List ℕ)). levelOf l) (all-held rest (32 - first .pdus) ∙ behind ∙ ap (back room) held-is) in
-        λ i. record { front = front-is i; back = back-is i }
-
--- what is held: at most 32, all exactly PDUs, within the room for them; their bytes are those behind the memory's first four
+-- what is held, in any memory: at most 32, all exactly PDUs, within the room for them; their bytes are those from the oldest's place on
 pub record Holds (memory : List ℕ) : Type 0 where
-  pub few : length (heldIn memory) ≤ 32
+  pub few : length (heldIn memory) ≤ numbersIn memory .pdus
   pub exact : AllExact (heldIn memory)
-  pub short : length (flatten (heldIn memory)) ≤ capacity memory
-  pub bytes : flatten (heldIn memory) ≡ take (length (flatten (heldIn memory))) (drop 4 memory)
+  pub short : length (flatten (heldIn memory)) ≤ numbersIn memory .bytes
+  pub bytes : flatten (heldIn memory) ≡ take (length (flatten (heldIn memory))) (drop (6 + numbersIn memory .place) memory)
 
 pub holds : (memory : List ℕ) → Holds memory
 unfolding heldIn
 holds memory =
+    let most = numbersIn memory .pdus in
     let joined = flatten (heldIn memory) in
     let bytes = claimed memory in
     let size = length joined in
-    let within : size ≤ length bytes = pdus-within 32 bytes in
-    let claims : length bytes ≤ claimedLength memory = omega (arith, length-take (claimedLength memory) (drop 4 memory)) in
+    let within : size ≤ length bytes = pdus-within most bytes in
+    let claims : length bytes ≤ numbersIn memory .bytes =
+    omega (arith, length-take (numbersIn memory .bytes) (drop (6 + numbersIn memory .place) memory)) in
     record {
-      few = pdus-few 32 bytes;
-      exact = pdus-exact 32 bytes;
+      few = pdus-few most bytes;
+      exact = pdus-exact most bytes;
       short = omega (arith, within, claims);
       bytes =
-          sym (take-at joined (drop size bytes) size refl) ∙ ap (take size) (pdus-front 32 bytes)
-          ∙ take-take size (claimedLength memory) (drop 4 memory) (omega (arith, within, claims));
+          sym (take-at joined (drop size bytes) size refl) ∙ ap (take size) (pdus-front most bytes)
+          ∙ take-take size (numbersIn memory .bytes) (drop (6 + numbersIn memory .place) memory) (omega (arith, within, claims));
     }
 
--- a memory that holds any has four bytes and more
-pub four-first : (memory : List ℕ) → (length (heldIn memory) ≡ 0 → ⊥) → 4 ≤ length memory
-four-first memory some = let h = holds memory in omega (arith, h .short, exact-long (heldIn memory) (h .exact))
+-- where the level is kept
+module _ (memory : List ℕ) (k : Kept memory) where
+  pub kept-pdus : numbersIn memory .pdus ≡ length (heldIn memory)
+  kept-pdus = ap (λ (l : Level). l .pdus) (k .level)
 
--- a queue laid into a memory with room for it is what the memory then holds, and its first four bytes say so
-module _ (memory : List ℕ) (pdus : List (List ℕ)) (four : 4 ≤ length memory) (short : length (flatten pdus) ≤ capacity memory) where
-  pub length-laid : length (memoryOf pdus memory) ≡ length memory
-  unfolding memoryOf
-  length-laid =
-      let level = levelBytes (length pdus) (length (flatten pdus)) in
-      length-over (level ++ flatten pdus) memory (omega (arith, length-append level (flatten pdus)))
+  pub kept-bytes : numbersIn memory .bytes ≡ length (flatten (heldIn memory))
+  kept-bytes = ap (λ (l : Level). l .bytes) (k .level)
 
-  pub count-laid : wordAt (memoryOf pdus memory) 0 ≡ length pdus
-  unfolding memoryOf over
-  count-laid = word-back (length pdus)
+  -- the bytes held are all that are said to be
+  pub kept-claimed : claimed memory ≡ flatten (heldIn memory)
+  kept-claimed = ap (λ (n : ℕ). take n (drop (6 + numbersIn memory .place) memory)) kept-bytes ∙ sym (holds memory .bytes)
 
-  pub size-laid : wordAt (memoryOf pdus memory) 2 ≡ length (flatten pdus)
-  unfolding memoryOf over
-  size-laid = word-back (length (flatten pdus))
+  -- and a walk over them finds just the PDUs held
+  pub kept-walk : pdusIn 32 (claimed memory) ≡ heldIn memory
+  kept-walk = ap (pdusIn 32) kept-claimed ∙ pdus-again 32 (heldIn memory) (holds memory .exact) (omega (arith, holds memory .few))
 
-  in-place : take (length (flatten pdus)) (drop 4 (memoryOf pdus memory)) ≡ flatten pdus
-  unfolding memoryOf over
-  in-place = take-at (flatten pdus) _ (length (flatten pdus)) refl
+-- a memory that was given numbers: what it then holds and keeps
+module _ (memory : List ℕ) (long : length memory ≡ memoryLength) (pdus bytes place : ℕ) where
+  abbrev after : List ℕ
+  after = numbered pdus bytes place memory
 
-  claimed-laid : claimed (memoryOf pdus memory) ≡ flatten pdus
-  claimed-laid =
-      let size : claimedLength (memoryOf pdus memory) ≡ length (flatten pdus) = omega (arith, size-laid, length-laid) in
-      ap (λ (n : ℕ). take n (drop 4 (memoryOf pdus memory))) size ∙ in-place
+  pub length-numbered : length after ≡ memoryLength
+  unfolding numbered
+  length-numbered = length-placed memory 0 (wordBytes pdus ++ wordBytes bytes ++ wordBytes place) ∙ long
 
-  pub held-laid : AllExact pdus → length pdus ≤ 32 → heldIn (memoryOf pdus memory) ≡ pdus
-  unfolding heldIn
-  held-laid exact few = ap (pdusIn 32) claimed-laid ∙ pdus-again 32 pdus exact few
+  after-is : after ≡ wordBytes pdus ++ wordBytes bytes ++ wordBytes place ++ drop 6 memory
+  unfolding numbered
+  after-is = is-placed memory 0 (wordBytes pdus ++ wordBytes bytes ++ wordBytes place) (omega (arith, long))
 
-  pub level-laid : AllExact pdus → length pdus ≤ 32 → Kept (memoryOf pdus memory)
-  level-laid exact few =
-      let held = sym (held-laid exact few) in
-      let pdus-is = count-laid ∙ ap length held in
-      let bytes-is = size-laid ∙ ap (λ (l : List (List ℕ)). length (flatten l)) held in
-      λ i. record { pdus = pdus-is i; bytes = bytes-is i }
+  pub behind-numbers : (n : ℕ) → drop (6 + n) after ≡ drop (6 + n) memory
+  behind-numbers n = sym (drop-drop n 6 after) ∙ ap (λ (m : List ℕ). drop n (drop 6 m)) after-is ∙ drop-drop n 6 memory
 
--- a memory that says that no bytes are held holds no PDU
-pub empty-held : (memory : List ℕ) → wordAt memory 2 ≡ 0 → heldIn memory ≡ []
+  module _ (few : pdus ≤ 32) (short : bytes ≤ 2048) (within : place ≤ 512) where
+    numbers-back : numbersIn after ≡ record { pdus = pdus; bytes = bytes; place = place }
+    numbers-back =
+        let first : wordAt after 0 ≡ pdus = ap (λ (m : List ℕ). wordAt m 0) after-is ∙ word-back pdus in
+        let second : wordAt after 2 ≡ bytes = ap (λ (m : List ℕ). wordAt m 2) after-is ∙ word-back bytes in
+        let third : wordAt after 4 ≡ place = ap (λ (m : List ℕ). wordAt m 4) after-is ∙ word-back place in
+        let p : min (wordAt after 0) 32 ≡ pdus = omega (arith, first) in
+        let b : min (wordAt after 2) 2048 ≡ bytes = omega (arith, second) in
+        let l : min (wordAt after 4) 512 ≡ place = omega (arith, third) in
+        λ i. record { pdus = p i; bytes = b i; place = l i }
+
+    pub now-level : keptLevel after ≡ record { pdus = pdus; bytes = bytes }
+    now-level = λ i. record { pdus = numbers-back i .pdus; bytes = numbers-back i .bytes }
+
+    pub now-held : heldIn after ≡ pdusIn pdus (take bytes (drop (6 + place) memory))
+    unfolding heldIn
+    now-held =
+        ap₂ pdusIn (ap (λ (n : QueueNumbers). n .pdus) numbers-back)
+        (ap (λ (n : QueueNumbers). take (n .bytes) (drop (6 + n .place) after)) numbers-back ∙ ap (take bytes) (behind-numbers place))
+
+-- an empty queue
+none-held : (memory : List ℕ) → numbersIn memory .pdus ≡ 0 → heldIn memory ≡ []
 unfolding heldIn
-empty-held memory e =
-    let none : claimedLength memory ≡ 0 = omega (arith, e) in
-    ap (λ (n : ℕ). pdusIn 32 (take n (drop 4 memory))) none ∙ nothing-read 32
+none-held memory e = ap (λ (n : ℕ). pdusIn n (claimed memory)) e ∙ no-more (claimed memory)
 
-pub empty-kept : (memory : List ℕ) → wordAt memory 0 ≡ 0 → wordAt memory 2 ≡ 0 → Kept memory
-unfolding flatten
-empty-kept memory e0 e2 =
-    let held = sym (empty-held memory e2) in
-    let pdus-is : wordAt memory 0 ≡ length (heldIn memory) = e0 ∙ ap length held in
-    let bytes-is : wordAt memory 2 ≡ length (flatten (heldIn memory)) = e2 ∙ ap (λ (l : List (List ℕ)). length (flatten l)) held in
-    λ i. record { pdus = pdus-is i; bytes = bytes-is i }
+module _ (memory : List ℕ) (empty : Empty memory) where
+  pub empty-held : heldIn memory ≡ []
+  empty-held = none-held memory (omega (arith, empty .pdus))
+
+  pub empty-kept : Kept memory
+  unfolding flatten
+  empty-kept =
+      let pdus : numbersIn memory .pdus ≡ length (heldIn memory) = omega (arith, empty .pdus, ap length empty-held) in
+      let bytes : numbersIn memory .bytes ≡ length (flatten (heldIn memory)) =
+      omega (arith, empty .bytes, ap (λ (l : List (List ℕ)). length (flatten l)) empty-held) in
+      record { long = empty .long; level = λ i. record { pdus = pdus i; bytes = bytes i } }
 
 -- what clearing leaves
-module _ (memory : List ℕ) where
-  pub clear-none : length memory < 4 → memoryAfterClear memory ≡ memory
+module _ (memory : List ℕ) (long : length memory ≡ memoryLength) where
+  pub clear-level : keptLevel (memoryAfterClear memory) ≡ record { pdus = 0; bytes = 0 }
   unfolding memoryAfterClear
-  clear-none h = sym (not-placed memory 0 (levelBytes 0 0) h .1)
-
-  pub clear-is : 4 ≤ length memory → memoryAfterClear memory ≡ levelBytes 0 0 ++ drop 4 memory
-  unfolding memoryAfterClear
-  clear-is h = is-placed memory 0 (levelBytes 0 0) h
-
-  pub clear-length : length (memoryAfterClear memory) ≡ length memory
-  unfolding memoryAfterClear
-  clear-length = length-placed memory 0 (levelBytes 0 0)
-
-  pub cleared-kept : 4 ≤ length memory → Kept (memoryAfterClear memory)
-  cleared-kept h = rw (clear-is h) (empty-kept (levelBytes 0 0 ++ drop 4 memory) refl refl)
-
-  pub clear-kept : Kept memory → Kept (memoryAfterClear memory)
-  clear-kept k = go (leb 4 (length memory)) refl
-    where
-      go : (t : Bool) → leb 4 (length memory) ≡ t → Kept (memoryAfterClear memory)
-      go true e = cleared-kept (leb-true 4 (length memory) e)
-      go false e = rw (clear-none (leb-false 4 (length memory) e)) k
-
-  short-held : length memory < 4 → heldIn memory ≡ []
-  short-held h = nothing-in (heldIn memory) (omega (arith, holds memory .short, exact-long (heldIn memory) (holds memory .exact)))
+  clear-level = now-level memory long 0 0 0 (omega arith) (omega arith) (omega arith)
 
   pub clear-held : heldIn (memoryAfterClear memory) ≡ []
-  clear-held = go (leb 4 (length memory)) refl
-    where
-      go : (t : Bool) → leb 4 (length memory) ≡ t → heldIn (memoryAfterClear memory) ≡ []
-      go true e = ap heldIn (clear-is (leb-true 4 (length memory) e)) ∙ empty-held (levelBytes 0 0 ++ drop 4 memory) refl
-      go false e =
-          let short = leb-false 4 (length memory) e in
-          ap heldIn (clear-none short) ∙ short-held short
+  clear-held = none-held (memoryAfterClear memory) (ap (λ (l : Level). l .pdus) clear-level)
 
-  pub clear-behind : drop 4 (memoryAfterClear memory) ≡ drop 4 memory
-  clear-behind = go (leb 4 (length memory)) refl
-    where
-      go : (t : Bool) → leb 4 (length memory) ≡ t → drop 4 (memoryAfterClear memory) ≡ drop 4 memory
-      go true e = ap (drop 4) (clear-is (leb-true 4 (length memory) e))
-      go false e = ap (drop 4) (clear-none (leb-false 4 (length memory) e))
+  pub clear-behind : drop 6 (memoryAfterClear memory) ≡ drop 6 memory
+  unfolding memoryAfterClear
+  clear-behind = behind-numbers memory long 0 0 0 0
+
+  pub clear-kept : Kept (memoryAfterClear memory)
+  unfolding memoryAfterClear flatten
+  clear-kept =
+      record { long = length-numbered memory long 0 0 0; level = clear-level ∙ ap (λ (l : List (List ℕ)). levelOf l) (sym clear-held) }

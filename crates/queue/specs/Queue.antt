@@ -1,34 +1,41 @@
 -- Document 02, W-206 and W-207: the transmit queue as a list of PDUs, the oldest first, the memory that holds it, and the level kept there.
-use Prim.Native.Nat.{ℕ, zero, suc, _-_, min}
+use Prim.Native.Nat.{ℕ, zero, suc, _+_, _-_, min}
 use mathlib.Core.Bool.{cond}
 use mathlib.Core.List.{List, [], _∷_, _++_, flatten}
 use mathlib.Core.Path.{_≡_}
 use lib.Dec.{eqb, leb}
 use lib.ListN.{length, take, drop}
-use Rattle.octets.specs.Octets.{wordAt, wordBytes, over, placed}
+use Rattle.octets.specs.Octets.{wordAt, wordBytes, placed}
 use Rattle.pdu.specs.Header.{headerOf}
 use Rattle.pdu.specs.Sizes.{pduLength}
 use Rattle.pdu.specs.Reading.{readOf, readingNumber}
 use Rattle.queue.specs.declared.Level.{Level}
-use Rattle.queue.specs.declared.Split.{Split}
+use Rattle.queue.specs.declared.QueueNumbers.{QueueNumbers}
 
 -- up to 32 PDUs
 abbrev pub pdusLimit : ℕ
 pdusLimit = 32
 
--- and 2,048 bytes, or fewer in a memory that is too short for them
+-- and 2,048 bytes
 abbrev pub bytesLimit : ℕ
 bytesLimit = 2048
 
-abbrev pub capacity : List ℕ → ℕ
-capacity memory = min (length memory - 4) bytesLimit
+-- the memory, 2,566 bytes: three numbers of two bytes, how many PDUs are held, how many bytes they have and where the oldest begins; then room for the
+-- PDUs, and 512 bytes to spare
+abbrev pub spare : ℕ
+spare = 512
 
--- the memory: two numbers of two bytes, how many PDUs are held and how many bytes they have; then these, PDUs back to back
-abbrev pub claimedLength : List ℕ → ℕ
-claimedLength memory = min (wordAt memory 2) (capacity memory)
+abbrev pub memoryLength : ℕ
+memoryLength = 6 + bytesLimit + spare
 
+-- the numbers in any memory, each no more than it can be
+abbrev pub numbersIn : List ℕ → QueueNumbers
+numbersIn memory =
+    record { pdus = min (wordAt memory 0) pdusLimit; bytes = min (wordAt memory 2) bytesLimit; place = min (wordAt memory 4) spare }
+
+-- the bytes held lie back to back, from the oldest's place on
 abbrev pub claimed : List ℕ → List ℕ
-claimed memory = take (claimedLength memory) (drop 4 memory)
+claimed memory = take (numbersIn memory .bytes) (drop (6 + numbersIn memory .place) memory)
 
 -- the PDUs that lie back to back from the start of bytes on, at most so many, up to where none can be read
 unfoldable pub pdusIn : ℕ → List ℕ → List (List ℕ)
@@ -40,30 +47,34 @@ pdusIn (suc most) bytes =
 
 -- the queue in a memory: any memory holds one
 unfoldable pub heldIn : List ℕ → List (List ℕ)
-heldIn memory = pdusIn pdusLimit (claimed memory)
+heldIn memory = pdusIn (numbersIn memory .pdus) (claimed memory)
 
--- the memory that a queue leaves: what stands behind its PDUs stays
-abbrev pub levelBytes : ℕ → ℕ → List ℕ
-levelBytes pdus bytes = wordBytes pdus ++ wordBytes bytes
-
-unfoldable pub memoryOf : List (List ℕ) → List ℕ → List ℕ
-memoryOf pdus memory = over (levelBytes (length pdus) (length (flatten pdus)) ++ flatten pdus) memory
+-- a memory that keeps other numbers; what stands behind them stays
+unfoldable pub numbered : ℕ → ℕ → ℕ → List ℕ → List ℕ
+numbered pdus bytes place memory = placed memory 0 (wordBytes pdus ++ wordBytes bytes ++ wordBytes place)
 
 -- how many PDUs there are, and how many bytes they have
 abbrev pub levelOf : List (List ℕ) → Level
 levelOf pdus = record { pdus = length pdus; bytes = length (flatten pdus) }
 
--- the level that a memory keeps (W-207), whatever else is in it; a byte that is not there counts as 0
+-- the level that a memory keeps (W-207)
 abbrev pub keptLevel : List ℕ → Level
-keptLevel memory = record { pdus = wordAt memory 0; bytes = wordAt memory 2 }
+keptLevel memory = record { pdus = numbersIn memory .pdus; bytes = numbersIn memory .bytes }
 
--- it is the level that the walk gives
-abbrev pub Kept : List ℕ → Type 0
-Kept memory = keptLevel memory ≡ levelOf (heldIn memory)
+-- an empty queue: both numbers are 0, whatever stands behind them
+pub record Empty (memory : List ℕ) : Type 0 where
+  pub long : length memory ≡ memoryLength
+  pub pdus : wordAt memory 0 ≡ 0
+  pub bytes : wordAt memory 2 ≡ 0
 
--- clearing (W-207): both numbers are 0, and every other byte stays; a memory too short for them holds none, and stays
+-- a queue whose level is that of what is held, as every queue's is that began empty
+pub record Kept (memory : List ℕ) : Type 0 where
+  pub long : length memory ≡ memoryLength
+  pub level : keptLevel memory ≡ levelOf (heldIn memory)
+
+-- clearing (W-207): the numbers are 0, and every other byte stays
 unfoldable pub memoryAfterClear : List ℕ → List ℕ
-memoryAfterClear memory = placed memory 0 (levelBytes 0 0)
+memoryAfterClear memory = numbered 0 0 0 memory
 
 -- how many of the oldest fit a room together, whole and in order, none passed over
 unfoldable pub fitting : ℕ → List (List ℕ) → ℕ
@@ -76,6 +87,3 @@ front room pdus = take (fitting room pdus) pdus
 
 abbrev pub back : ℕ → List (List ℕ) → List (List ℕ)
 back room pdus = drop (fitting room pdus) pdus
-
-abbrev pub splitOf : ℕ → List (List ℕ) → Split
-splitOf room pdus = record { front = levelOf (front room pdus); back = levelOf (back room pdus) }

@@ -1,14 +1,14 @@
-// The transmit queue: PDUs back to back in memory that the caller lends, and its level, kept there and found by a walk.
+// The transmit queue: PDUs back to back in memory of one size that the caller lends, and the numbers kept in front of them.
 ghost use mathlib.Core.Path.{_≡_};
 ghost use mathlib.Core.Bool.{cond, _&&_};
-ghost use Prim.Native.Nat.{_-_, _≤_};
+ghost use Prim.Native.Nat.{_≤_, min};
 ghost use lib.Dec.{eqb, leb};
 ghost use lib.ListN.{length};
-ghost use Rattle.octets.specs.Octets.{placed, IsPart};
+ghost use Rattle.octets.specs.Octets.{wordAt};
 ghost use Rattle.pdu.specs.Header.{headerOf};
 ghost use Rattle.pdu.specs.Sizes.{pduLength};
 ghost use Rattle.pdu.specs.Reading.{readOf, readingNumber};
-ghost use Rattle.queue.specs.Queue.{capacity, claimedLength, pdusIn, heldIn, levelBytes, levelOf, keptLevel, memoryAfterClear, front, splitOf};
+ghost use Rattle.queue.specs.Queue.{memoryLength, numbersIn, pdusIn, levelOf, keptLevel, numbered, memoryAfterClear, front};
 
 // How many PDUs there are, and how many bytes they have.
 #[repr(C)]
@@ -17,46 +17,52 @@ pub struct Level {
     pub bytes: usize,
 }
 
-// The level of the oldest that fit a room, and of those after them.
-pub struct Split {
-    pub front: Level,
-    pub back: Level,
+// What a queue's memory keeps in front: how many PDUs are held, how many bytes they have, and how far behind these numbers the oldest begins.
+pub struct QueueNumbers {
+    pub pdus: usize,
+    pub bytes: usize,
+    pub place: usize,
 }
 
 impl Level {
     pub const PDUS_LIMIT: usize = 32;
 
     pub const BYTES_LIMIT: usize = 2048;
+
+    // The oldest begins at most so far behind the numbers.
+    pub const SPARE: usize = 512;
+
+    // A queue's memory: 6 bytes of numbers, 2,048 for PDUs and 512 to spare.
+    pub const MEMORY: usize = 2566;
 }
 
-// How many bytes of PDUs a memory has room for: 2,048 in 2,052 bytes or more, fewer in less. Document 02, W-206.
-pub fn capacity(memory: &[u8]) -> usize
-    ensures { λ r. ⌜ (r ≡ capacity (now (memory .entry))) × (r ≤ 2048) × (r ≤ length (now (memory .entry)) - 4) ⌝ }
+fn least(number: usize, limit: usize) -> usize
+    ensures { λ r. ⌜ r ≡ min number limit ⌝ }
 {
-    let size = memory.len();
-    if size < 4 {
-        return 0;
-    }
-    if size - 4 < Level::BYTES_LIMIT {
-        size - 4
-    } else {
-        Level::BYTES_LIMIT
-    }
+    if number < limit { number } else { limit }
 }
 
-fn claimed_length(memory: &[u8]) -> usize
-    ensures { λ r. ⌜ (r ≡ claimedLength (now (memory .entry))) × (r ≤ 2048) × (r ≤ length (now (memory .entry)) - 4) ⌝ }
+// The number in the two bytes from `place` on, and no more than a limit. The first byte is cut by itself, so that each is read as it was written, alone:
+// one read of two bytes would wait for both to be stored.
+fn number_at(memory: &[u8], place: usize, limit: usize) -> usize
+    requires { ⌜ (place ≤ 4) × (limit ≤ 2048) ⌝ }
+    ensures { λ r. ⌜ r ≡ min (wordAt (now (memory .entry)) place) limit ⌝ }
 {
-    let most = capacity(memory);
-    let said = octets::word_value(octets::word(memory, 2));
-    if said < most { said } else { most }
+    let high = octets::byte_value(octets::byte(memory, place));
+    let low = octets::byte_value(octets::byte(memory, place + 1));
+    least(least(high, limit / 256 + 1) * 256 + low, limit)
 }
 
-// The bytes that the memory says are held, as that part of it.
-fn claimed(memory: &[u8]) -> &[u8]
-    ensures { λ r. ⌜ IsPart (memory .entry) 4 (claimedLength (now (memory .entry))) r ⌝ }
+// The numbers that a memory keeps, each no more than it can be, so that any memory holds a queue; and a memory is as long as is said of one.
+// Document 02, W-207.
+pub fn numbers_in(memory: &[u8; Level::MEMORY]) -> QueueNumbers
+    ensures { λ r. ⌜ (r ≡ numbersIn (now (memory .entry))) × (r .pdus ≤ 32) × (r .bytes ≤ 2048) × (r .place ≤ 512)
+        × (length (now (memory .entry)) ≡ memoryLength) ⌝ }
 {
-    octets::part(memory, 4, claimed_length(memory))
+    let pdus = number_at(memory, 0, Level::PDUS_LIMIT);
+    let bytes = number_at(memory, 2, Level::BYTES_LIMIT);
+    let place = number_at(memory, 4, Level::SPARE);
+    QueueNumbers { pdus, bytes, place }
 }
 
 // The length of the PDU at the start of `bytes`; 0 where none can be read, or where it does not fit the room.
@@ -64,10 +70,11 @@ fn fitting_length(bytes: &[u8], room: usize) -> usize
     ensures { λ r. ⌜ r ≡ cond (eqb (readingNumber (readOf (now (bytes .entry)))) 0 && leb (pduLength (headerOf (now (bytes .entry)))) room)
         (pduLength (headerOf (now (bytes .entry)))) 0 ⌝ }
 {
-    if pdu::fault(bytes) != 0 {
+    let extent = pdu::extent_of(bytes);
+    if extent.number != 0 {
         return 0;
     }
-    let size = pdu::pdu_length_in(bytes);
+    let size = extent.pdu_length;
     if size <= room { size } else { 0 }
 }
 
@@ -88,50 +95,35 @@ pub fn level_in(bytes: &[u8], most: usize, room: usize) -> Level
     Level { pdus, bytes: place }
 }
 
-// The level of the oldest PDUs held that fit a room, and of those after them; any memory holds a queue. Document 02, W-206.
-pub fn split_for(memory: &[u8], room: usize) -> Split
-    ensures { λ r. ⌜ r ≡ splitOf room (heldIn (now (memory .entry))) ⌝ }
-{
-    let held = claimed(memory);
-    let front = level_in(held, Level::PDUS_LIMIT, room);
-    let rest = octets::part(held, front.bytes, held.len());
-    let back = level_in(rest, Level::PDUS_LIMIT - front.pdus, rest.len());
-    Split { front, back }
-}
-
-// How many PDUs are held, and how many bytes they have, found by a walk; any memory holds a queue. Document 02, W-206.
-pub fn level_of(memory: &[u8]) -> Level
-    ensures { λ r. ⌜ r ≡ levelOf (heldIn (now (memory .entry))) ⌝ }
-{
-    let bytes = claimed(memory);
-    level_in(bytes, Level::PDUS_LIMIT, bytes.len())
-}
-
-// The level that the memory keeps, without a look at a PDU; a byte that is not there counts as 0. Document 02, W-207.
-pub fn kept_level(memory: &[u8]) -> Level
+// The level that the memory keeps, without a look at a PDU. Document 02, W-207.
+pub fn kept_level(memory: &[u8; Level::MEMORY]) -> Level
     ensures { λ r. ⌜ r ≡ keptLevel (now (memory .entry)) ⌝ }
 {
-    let pdus = octets::word_value(octets::word(memory, 0));
-    let bytes = octets::word_value(octets::word(memory, 2));
-    Level { pdus, bytes }
+    let held = numbers_in(memory);
+    Level {
+        pdus: held.pdus,
+        bytes: held.bytes,
+    }
 }
 
-// Keeps a level in the memory's first four bytes; nothing changes where there are fewer. Document 02, W-207.
-pub fn keep_level(memory: &mut [u8], pdus: u16, bytes: u16)
-    ensures { λ _. ⌜ now (memory .exit) ≡ placed (now (memory .entry)) 0 (levelBytes pdus bytes) ⌝ }
+// Keeps the numbers in the memory's first six bytes.
+pub fn keep(memory: &mut [u8; Level::MEMORY], pdus: u16, bytes: u16, place: u16)
+    ensures { λ _. ⌜ now (memory .exit) ≡ numbered pdus bytes place (now (memory .entry)) ⌝ }
 {
-    let level = [
+    let numbers = [
         octets::high(pdus),
         octets::low(pdus),
         octets::high(bytes),
         octets::low(bytes),
+        octets::high(place),
+        octets::low(place),
     ];
-    octets::put(memory, 0, &level);
+    octets::put(memory, 0, &numbers);
 }
 
 // Drops all PDUs held. Document 02, W-207.
-pub fn clear(memory: &mut [u8])
+pub fn clear(memory: &mut [u8; Level::MEMORY])
     ensures { λ _. ⌜ now (memory .exit) ≡ memoryAfterClear (now (memory .entry)) ⌝ }
 {
-    keep_level(memory, 0, 0);
+    keep(memory, 0, 0, 0);
 }

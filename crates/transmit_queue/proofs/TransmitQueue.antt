@@ -4,38 +4,38 @@ use native.Mathlib.Omega.{arith}
 use mathlib.Core.Bool.{Bool, true, false}
 use mathlib.Core.List.{List, [], _∷_, _++_, flatten}
 use mathlib.Core.Logic.{_⊎_, inl, inr}
-use mathlib.Core.Path.{_≡_, refl, ap}
+use mathlib.Core.Path.{_≡_, refl}
 use lib.Dec.{ltb, leb}
-use lib.ListN.{length, replicate}
+use lib.ListN.{length, take, replicate}
 use borrow.Author.Tests.{ltb-true, ltb-false, leb-true, leb-false}
 use Rattle.octets.specs.Numbers.{_gives_, _orElse_}
-use Rattle.octets.specs.Octets.{over}
+use Rattle.octets.specs.Octets.{placed}
 use Rattle.pdu.specs.Header.{headerOf}
 use Rattle.pdu.specs.Reading.{readOf, exactlyOne}
 use Rattle.node.proofs.Faults.{no-fault}
-use Rattle.queue.specs.declared.Level.{Level}
-use Rattle.queue.specs.Queue.{heldIn, pdusIn, memoryOf, fitting, front}
+use Rattle.queue.specs.Queue.{memoryLength, heldIn, pdusIn, numbered, Kept, fitting, front}
 use Rattle.queue.proofs.Runs.{exact-at, exact-take, front-back, front-fits, front-longest}
 use Rattle.queue.proofs.Memory.{holds, empty-held}
-use Rattle.transmit.specs.Adding.{addNumber, memoryAfterAdd}
-use Rattle.transmit.specs.Taking.{takeNumber, batchOf, memoryAfterTake}
+use Rattle.transmit.specs.Adding.{addNumber, withAdded, memoryAfterAdd}
+use Rattle.transmit.specs.Taking.{takeNumber, batchOf, released, memoryAfterTake}
 use Rattle.transmit.specs.History.{Adding, Taking, memoryAfter, accepted, takenAndCleared}
-use Rattle.transmit.proofs.Answers.{not-one, full, full-pdus, full-bytes, none-held, oldest-too-long, oldest-fits, written-first}
-use Rattle.transmit.proofs.Histories.{added-held, released-held, queued}
+use Rattle.transmit.proofs.Answers.{not-one, none-held, oldest-too-long, oldest-fits, written-first}
+use Rattle.transmit.proofs.Kept.{full-of-pdus, full-of-bytes, add-held, take-held}
+use Rattle.transmit.proofs.Histories.{queued}
 use Rattle.transmit.proofs.Batches.{walk-reads, front-short}
-use Rattle.transmit_queue.specs.TransmitQueue.{of6, of7, of8, of2042, of2043, queueOf, batch, TransmitQueue}
+use Rattle.transmit_queue.specs.TransmitQueue.{of6, of7, of8, of2042, of2043, emptyMemory, queueOf, batch, TransmitQueue}
 
 -- the cases that compute, each by itself
 module _ where
   in-order-there : let deeds = Taking 14 ∷ Adding of8 ∷ Adding of7 ∷ Adding of6 ∷ [] in
-      (takenAndCleared (replicate 50 0) deeds ≡ of6 ∷ of7 ∷ []) × (heldIn (memoryAfter (replicate 50 0) deeds) ≡ of8 ∷ [])
-  unfolding heldIn pdusIn memoryOf over flatten fitting exactlyOne readOf headerOf _gives_ _orElse_ addNumber memoryAfterAdd memoryAfterTake memoryAfter
-      takenAndCleared
+      (takenAndCleared emptyMemory deeds ≡ of6 ∷ of7 ∷ []) × (heldIn (memoryAfter emptyMemory deeds) ≡ of8 ∷ [])
+  unfolding heldIn pdusIn numbered placed flatten fitting exactlyOne readOf headerOf _gives_ _orElse_ addNumber withAdded memoryAfterAdd released
+      memoryAfterTake memoryAfter takenAndCleared
   in-order-there = (refl, refl)
 
   accepted-there :
-      accepted (replicate 17 0) (Adding of7 ∷ Adding of6 ∷ Adding [] ∷ Adding (of6 ++ of6) ∷ Adding (0 ∷ []) ∷ Adding of7 ∷ []) ≡ of7 ∷ of6 ∷ []
-  unfolding heldIn pdusIn memoryOf over flatten exactlyOne readOf headerOf _gives_ _orElse_ addNumber memoryAfterAdd memoryAfter accepted
+      accepted emptyMemory (Adding of7 ∷ Adding of2042 ∷ Adding [] ∷ Adding (of6 ++ of6) ∷ Adding (0 ∷ []) ∷ Adding of6 ∷ []) ≡ of6 ∷ of2042 ∷ []
+  unfolding heldIn pdusIn numbered placed flatten exactlyOne readOf headerOf _gives_ _orElse_ addNumber withAdded memoryAfterAdd memoryAfter accepted
   accepted-there = refl
 
   none-passed-there : (batchOf 7 (of8 ∷ of6 ∷ []) ≡ batch 62 0 0) × (batchOf 14 (of7 ∷ of8 ∷ of6 ∷ []) ≡ batch 0 1 7)
@@ -43,27 +43,37 @@ module _ where
   none-passed-there = (refl, refl)
 
   add-31 : addNumber of6 (queueOf (replicate 31 of6)) ≡ 0
-  unfolding heldIn pdusIn memoryOf over flatten exactlyOne readOf headerOf _gives_ _orElse_ addNumber
+  unfolding numbered placed flatten exactlyOne readOf headerOf _gives_ _orElse_ addNumber
   add-31 = refl
 
   add-32 : (addNumber of6 (queueOf (replicate 32 of6)) ≡ 60) × (addNumber (0 ∷ []) (queueOf (replicate 32 of6)) ≡ 61)
-  unfolding heldIn pdusIn memoryOf over flatten exactlyOne readOf headerOf _gives_ _orElse_ addNumber
+  unfolding numbered placed flatten exactlyOne readOf headerOf _gives_ _orElse_ addNumber
   add-32 = (refl, refl)
 
   add-2048 : addNumber of6 (queueOf (of2042 ∷ [])) ≡ 0
-  unfolding heldIn pdusIn memoryOf over flatten exactlyOne readOf headerOf _gives_ _orElse_ addNumber
+  unfolding numbered placed flatten exactlyOne readOf headerOf _gives_ _orElse_ addNumber
   add-2048 = refl
 
   add-2049 : addNumber of6 (queueOf (of2043 ∷ [])) ≡ 60
-  unfolding heldIn pdusIn memoryOf over flatten exactlyOne readOf headerOf _gives_ _orElse_ addNumber
+  unfolding numbered placed flatten exactlyOne readOf headerOf _gives_ _orElse_ addNumber
   add-2049 = refl
 
-  held-by-hand : heldIn (0xFF ∷ 0xFF ∷ 0xFF ∷ 0xFF ∷ of6 ++ of7 ++ (0x40 ∷ of6)) ≡ of6 ∷ of7 ∷ []
-  unfolding heldIn pdusIn readOf headerOf
+  stayed-there : take 19 (memoryAfter emptyMemory (Taking 6 ∷ Adding of7 ∷ Adding of6 ∷ [])) ≡ 0 ∷ 1 ∷ 0 ∷ 7 ∷ 0 ∷ 6 ∷ of6 ++ of7
+  unfolding heldIn pdusIn numbered placed flatten fitting exactlyOne readOf headerOf _gives_ _orElse_ addNumber withAdded memoryAfterAdd released
+      memoryAfterTake memoryAfter
+  stayed-there = refl
+
+  moved-there : let memory = numbered 2 13 512 (placed emptyMemory 518 (of6 ++ of7)) in
+      take 13 (memoryAfterTake 6 memory) ≡ 0 ∷ 1 ∷ 0 ∷ 7 ∷ 0 ∷ 0 ∷ of7
+  unfolding heldIn pdusIn numbered placed flatten fitting readOf headerOf released memoryAfterTake
+  moved-there = refl
+
+  held-by-hand : heldIn (placed (replicate memoryLength 0xFF) 518 (of6 ++ of7 ++ (0x40 ∷ of6))) ≡ of6 ∷ of7 ∷ []
+  unfolding heldIn pdusIn placed readOf headerOf
   held-by-hand = refl
 
--- 60 in memory for 2,048 bytes
-module _ (pdu memory : List ℕ) (one : exactlyOne pdu ≡ true) (long : 2052 ≤ length memory) where
+-- 60, in a queue that began empty
+module _ (pdu memory : List ℕ) (k : Kept memory) (one : exactlyOne pdu ≡ true) where
   abbrev bytes : ℕ
   bytes = length (flatten (heldIn memory)) + length pdu
 
@@ -77,28 +87,28 @@ module _ (pdu memory : List ℕ) (one : exactlyOne pdu ≡ true) (long : 2052 �
       go true m over-full o = inl (leb-true 32 (length (heldIn memory)) m)
       go false m true o = inr (ltb-true 2048 bytes o)
       go false m false o =
-          let few = leb-false 32 (length (heldIn memory)) m in
-          let short = ltb-false 2048 bytes o in
-          let none : addNumber pdu memory ≡ 0 = added-held pdu memory one few (omega arith) .0 in
+          let none : addNumber pdu memory ≡ 0 =
+          add-held pdu memory k one (leb-false 32 (length (heldIn memory)) m) (ltb-false 2048 bytes o) .0 in
           absurd (omega arith)
 
   sixty-there : Full → addNumber pdu memory ≡ 60
-  sixty-there (inl many) = full pdu memory one (full-pdus pdu memory many) .0
-  sixty-there (inr much) = full pdu memory one (full-bytes pdu memory (omega arith)) .0
+  sixty-there (inl many) = full-of-pdus pdu memory k one many .0
+  sixty-there (inr much) = full-of-bytes pdu memory k one much .0
 
 pub transmit-queue : TransmitQueue
 unfolding batchOf
 transmit-queue =
     record {
-      room-for-2048 = λ memory h. omega arith;
+      sized = refl;
       empty = empty-held;
-      limits = λ memory. (holds memory .few, omega (arith, holds memory .short));
+      always = λ memory empty deeds. queued memory empty deeds .level;
+      limits = λ memory. (omega (arith, holds memory .few), omega (arith, holds memory .short));
       whole = λ memory. exact-at (heldIn memory) (holds memory .exact);
       not-one = not-one;
-      full-of-pdus = λ pdu memory one h. full pdu memory one (full-pdus pdu memory h);
-      full-of-bytes = λ pdu memory one h. full pdu memory one (full-bytes pdu memory h);
-      added = added-held;
-      sixty-exactly = λ pdu memory one long. (sixty-only pdu memory one long, sixty-there pdu memory one long);
+      full-of-pdus = full-of-pdus;
+      full-of-bytes = full-of-bytes;
+      added = add-held;
+      sixty-exactly = λ pdu memory k one. (sixty-only pdu memory k one, sixty-there pdu memory k one);
       none-held = none-held;
       too-long = oldest-too-long;
       taken = oldest-fits;
@@ -107,9 +117,8 @@ transmit-queue =
       longest = front-longest;
       counted = λ room pdus. (refl, refl);
       written = written-first;
-      released = released-held;
-      in-order = λ memory e0 e2 deeds. queued memory e0 e2 deeds .kept;
-      says = λ memory e0 e2 deeds. let q = queued memory e0 e2 deeds in (q .long, ap (λ (l : Level). l .bytes) (q .level));
+      released = take-held;
+      in-order = λ memory empty deeds. queued memory empty deeds .kept;
       walked = λ memory room node output named clean.
           let pdus = front room (heldIn memory) in
           let exact = exact-take (fitting room (heldIn memory)) (heldIn memory) (holds memory .exact) in
@@ -122,5 +131,7 @@ transmit-queue =
       at-32 = add-32;
       at-2048 = add-2048;
       at-2049 = add-2049;
+      stayed = stayed-there;
+      moved = moved-there;
       by-hand = held-by-hand;
     }

@@ -1,18 +1,18 @@
 -- Document 02, W-206, as one record, with W-207's clears in its histories; `proofs/TransmitQueue.antt` gives it from its parts. "Any memory" is any
--- bytes at all.
+-- bytes at all; `Kept` is asked of a queue that began empty, and every such queue has it (`always`).
 use Prim.Native.Nat.{ℕ, _+_, _≤_, _<_}
 use mathlib.Core.Bool.{true, false}
 use mathlib.Core.List.{List, [], _∷_, _++_, flatten}
 use mathlib.Core.Logic.{_⊎_}
 use mathlib.Core.Path.{_≡_}
 use lib.ListN.{length, getD, take, drop, replicate}
-use Rattle.octets.specs.Octets.{wordAt}
+use Rattle.octets.specs.Octets.{placed}
 use Rattle.pdu.specs.Reading.{exactlyOne}
 use Rattle.lists.specs.Lists.{listFault}
 use Rattle.decision.specs.Decision.{Node}
 use Rattle.editions.specs.Editions.{known}
 use Rattle.batch.specs.Walk.{walk}
-use Rattle.queue.specs.Queue.{capacity, heldIn, memoryOf, front, back}
+use Rattle.queue.specs.Queue.{memoryLength, heldIn, numbered, Empty, Kept, front, back}
 use Rattle.transmit.specs.declared.Batch.{Batch}
 use Rattle.transmit.specs.Adding.{addNumber, memoryAfterAdd}
 use Rattle.transmit.specs.Taking.{batchOf, outputAfterTake, memoryAfterTake}
@@ -22,7 +22,7 @@ use Rattle.transmit.specs.History.{Deed, Adding, Taking, memoryAfter, accepted,
 abbrev pub batch : ℕ → ℕ → ℕ → Batch
 batch number pdus bytes = record { number = number; pdus = pdus; bytes = bytes }
 
--- For the worked cases: PDUs of 6, 7 and 8 bytes, one of 2,042 and one of 2,043; a memory for 2,048 bytes, with a queue in it
+-- For the worked cases: PDUs of 6, 7 and 8 bytes, one of 2,042 and one of 2,043; the empty memory, and one with a queue in it
 abbrev pub of6 : List ℕ
 of6 = 0x00 ∷ 0x00 ∷ 0x00 ∷ 0x00 ∷ 0x00 ∷ 0x05 ∷ []
 
@@ -38,30 +38,35 @@ of2042 = 0x00 ∷ 0x00 ∷ 0x07 ∷ 0xF4 ∷ 0x00 ∷ 0x05 ∷ replicate 2036 0
 abbrev pub of2043 : List ℕ
 of2043 = 0x00 ∷ 0x00 ∷ 0x07 ∷ 0xF5 ∷ 0x00 ∷ 0x05 ∷ replicate 2037 0
 
+abbrev pub emptyMemory : List ℕ
+emptyMemory = replicate memoryLength 0
+
 abbrev pub queueOf : List (List ℕ) → List ℕ
-queueOf pdus = memoryOf pdus (replicate 2052 0)
+queueOf pdus = numbered (length pdus) (length (flatten pdus)) 0 (placed emptyMemory 6 (flatten pdus))
 
 pub record TransmitQueue : Type 0 where
   -- I. WHAT 02 ASKS
-  -- a memory of 2,052 bytes or more has room for 2,048; one that keeps 0 for the bytes held, its bytes 2 and 3, holds none
-  pub room-for-2048 : (memory : List ℕ) → 2052 ≤ length memory → capacity memory ≡ 2048
-  pub empty : (memory : List ℕ) → wordAt memory 2 ≡ 0 → heldIn memory ≡ []
+  -- a memory is 2,566 bytes; one whose first four bytes are 0 holds none
+  pub sized : memoryLength ≡ 2566
+  pub empty : (memory : List ℕ) → Empty memory → heldIn memory ≡ []
+  -- its level is that of what is held, and still is after any adds, takes and clears
+  pub always : (memory : List ℕ) → Empty memory → (deeds : List Deed) → Kept (memoryAfter memory deeds)
   -- any memory holds at most 32, of at most 2,048 bytes, and each is exactly one PDU
   pub limits : (memory : List ℕ) → (length (heldIn memory) ≤ 32) × (length (flatten (heldIn memory)) ≤ 2048)
   pub whole : (memory : List ℕ) (i : ℕ) → i < length (heldIn memory) → exactlyOne (getD (heldIn memory) i []) ≡ true
   -- adding what is not exactly one PDU: 61, whatever is held
   pub not-one : (pdu memory : List ℕ) → exactlyOne pdu ≡ false → (addNumber pdu memory ≡ 61) × (memoryAfterAdd pdu memory ≡ memory)
-  -- adding one PDU: 60 where 32 are held or the bytes held and the new ones exceed the room, and nothing changes
-  pub full-of-pdus : (pdu memory : List ℕ) → exactlyOne pdu ≡ true → 32 ≤ length (heldIn memory)
+  -- adding one PDU to a queue that began empty: 60 where 32 are held or the bytes held and the new ones exceed 2,048, and nothing changes
+  pub full-of-pdus : (pdu memory : List ℕ) → Kept memory → exactlyOne pdu ≡ true → 32 ≤ length (heldIn memory)
       → (addNumber pdu memory ≡ 60) × (memoryAfterAdd pdu memory ≡ memory)
-  pub full-of-bytes : (pdu memory : List ℕ) → exactlyOne pdu ≡ true → capacity memory < length (flatten (heldIn memory)) + length pdu
+  pub full-of-bytes : (pdu memory : List ℕ) → Kept memory → exactlyOne pdu ≡ true → 2048 < length (flatten (heldIn memory)) + length pdu
       → (addNumber pdu memory ≡ 60) × (memoryAfterAdd pdu memory ≡ memory)
   -- and only there: else it is held, behind the others
-  pub added : (pdu memory : List ℕ) → exactlyOne pdu ≡ true → length (heldIn memory) < 32
-      → length (flatten (heldIn memory)) + length pdu ≤ capacity memory
+  pub added : (pdu memory : List ℕ) → Kept memory → exactlyOne pdu ≡ true → length (heldIn memory) < 32
+      → length (flatten (heldIn memory)) + length pdu ≤ 2048
       → (addNumber pdu memory ≡ 0) × (heldIn (memoryAfterAdd pdu memory) ≡ heldIn memory ++ pdu ∷ [])
-  -- so in memory for 2,048 bytes, in 02's words: 60 exactly if 32 are held or the bytes held and the new ones exceed 2,048
-  pub sixty-exactly : (pdu memory : List ℕ) → exactlyOne pdu ≡ true → 2052 ≤ length memory
+  -- so in 02's words, in a queue that began empty: 60 exactly if 32 are held or the bytes held and the new ones exceed 2,048
+  pub sixty-exactly : (pdu memory : List ℕ) → Kept memory → exactlyOne pdu ≡ true
       → let full = (32 ≤ length (heldIn memory)) ⊎ (2048 < length (flatten (heldIn memory)) + length pdu) in
       (addNumber pdu memory ≡ 60 → full) × (full → addNumber pdu memory ≡ 60)
   -- taking with none held: 0, and nothing changes, whatever the room
@@ -86,15 +91,10 @@ pub record TransmitQueue : Type 0 where
   pub written : (memory output : List ℕ) → let size = batchOf (length output) (heldIn memory) .bytes in
       (take size (outputAfterTake memory output) ≡ flatten (front (length output) (heldIn memory)))
       × (drop size (outputAfterTake memory output) ≡ drop size output)
-  pub released : (room : ℕ) (memory : List ℕ) → heldIn (memoryAfterTake room memory) ≡ back room (heldIn memory)
-  -- after any adds, takes and clears from an empty queue, both numbers of its memory 0: what was accepted is what was taken and cleared, as the sequence
-  -- goes, and then what is held
-  pub in-order : (memory : List ℕ) → wordAt memory 0 ≡ 0 → wordAt memory 2 ≡ 0 → (deeds : List Deed)
+  pub released : (room : ℕ) (memory : List ℕ) → length memory ≡ memoryLength → heldIn (memoryAfterTake room memory) ≡ back room (heldIn memory)
+  -- after any adds, takes and clears from an empty queue: what was accepted is what was taken and cleared, as the sequence goes, and then what is held
+  pub in-order : (memory : List ℕ) → Empty memory → (deeds : List Deed)
       → accepted memory deeds ≡ takenAndCleared memory deeds ++ heldIn (memoryAfter memory deeds)
-  -- the memory is as long as it was, and its bytes 2 and 3 say how many bytes are held
-  pub says : (memory : List ℕ) → wordAt memory 0 ≡ 0 → wordAt memory 2 ≡ 0 → (deeds : List Deed)
-      → (length (memoryAfter memory deeds) ≡ length memory)
-      × (wordAt (memoryAfter memory deeds) 2 ≡ length (flatten (heldIn (memoryAfter memory deeds))))
   -- 01's walk, no list at fault and the edition 1.1 or 1.2 (W-209), reads each batch taken to its end: it comes to just the PDUs' places, and none of its
   -- answers is 1 to 6
   pub walked : (memory : List ℕ) (room : ℕ) (node : Node) (output : ℕ) → known (node .settings .edition) ≡ true → listFault (node .lists) ≡ 0
@@ -103,10 +103,10 @@ pub record TransmitQueue : Type 0 where
   -- IV. WORKED CASES
   -- the oldest first: of 6, 7 and 8 bytes, 14 are room for two, and the third stays
   pub oldest-first : let deeds = Taking 14 ∷ Adding of8 ∷ Adding of7 ∷ Adding of6 ∷ [] in
-      (takenAndCleared (replicate 50 0) deeds ≡ of6 ∷ of7 ∷ []) × (heldIn (memoryAfter (replicate 50 0) deeds) ≡ of8 ∷ [])
-  -- what is refused is not accepted: with 61 bytes that are no PDU, two PDUs joined and none; with 60 one more than there is room for
+      (takenAndCleared emptyMemory deeds ≡ of6 ∷ of7 ∷ []) × (heldIn (memoryAfter emptyMemory deeds) ≡ of8 ∷ [])
+  -- what is refused is not accepted. 61: bytes that are no PDU, two PDUs joined, and no byte; 60: one more than there is room for
   pub accepted-only :
-      accepted (replicate 17 0) (Adding of7 ∷ Adding of6 ∷ Adding [] ∷ Adding (of6 ++ of6) ∷ Adding (0 ∷ []) ∷ Adding of7 ∷ []) ≡ of7 ∷ of6 ∷ []
+      accepted emptyMemory (Adding of7 ∷ Adding of2042 ∷ Adding [] ∷ Adding (of6 ++ of6) ∷ Adding (0 ∷ []) ∷ Adding of6 ∷ []) ≡ of6 ∷ of2042 ∷ []
   -- a later one that would fit is not taken past an older one that does not
   pub none-passed : (batchOf 7 (of8 ∷ of6 ∷ []) ≡ batch 62 0 0) × (batchOf 14 (of7 ∷ of8 ∷ of6 ∷ []) ≡ batch 0 1 7)
   -- 60 at 32 held and not at 31, at 2,049 bytes and not at 2,048; 61 before 60
@@ -114,5 +114,9 @@ pub record TransmitQueue : Type 0 where
   pub at-32 : (addNumber of6 (queueOf (replicate 32 of6)) ≡ 60) × (addNumber (0 ∷ []) (queueOf (replicate 32 of6)) ≡ 61)
   pub at-2048 : addNumber of6 (queueOf (of2042 ∷ [])) ≡ 0
   pub at-2049 : addNumber of6 (queueOf (of2043 ∷ [])) ≡ 60
-  -- bytes put together by hand: those held end where none can be read, whatever the first four bytes say
-  pub by-hand : heldIn (0xFF ∷ 0xFF ∷ 0xFF ∷ 0xFF ∷ of6 ++ of7 ++ (0x40 ∷ of6)) ≡ of6 ∷ of7 ∷ []
+  -- what is left stays where it stands while 2,048 bytes still fit behind its place, here 6 bytes behind the numbers, and else is moved to the front
+  pub stayed : take 19 (memoryAfter emptyMemory (Taking 6 ∷ Adding of7 ∷ Adding of6 ∷ [])) ≡ 0 ∷ 1 ∷ 0 ∷ 7 ∷ 0 ∷ 6 ∷ of6 ++ of7
+  pub moved : let memory = numbered 2 13 512 (placed emptyMemory 518 (of6 ++ of7)) in
+      take 13 (memoryAfterTake 6 memory) ≡ 0 ∷ 1 ∷ 0 ∷ 7 ∷ 0 ∷ 0 ∷ of7
+  -- arbitrary bytes: numbers above what they can be count as that, and those held end where none can be read
+  pub by-hand : heldIn (placed (replicate memoryLength 0xFF) 518 (of6 ++ of7 ++ (0x40 ∷ of6))) ≡ of6 ∷ of7 ∷ []

@@ -60,7 +60,7 @@ const KINDS: [Kind; 21] = [
     ("histories of retained PDUs", 6, retaining::compare),
     ("two nodes and a channel that loses", 1, lossy::compare),
     ("histories of a queue", 6, queueing::compare_history),
-    ("queues put together by hand", 2, queueing::compare_by_hand),
+    ("arbitrary memory of a queue", 2, queueing::compare_by_hand),
     ("PDUs sealed", 6, sealing::compare_sealing),
     ("histories of openings", 3, sealing::compare_history),
     ("records put together by hand", 1, sealing::compare_by_hand),

@@ -1,5 +1,4 @@
-//! Transmit queues: histories from an empty one, and queues put together by
-//! hand.
+//! Transmit queues: histories from an empty one, and arbitrary memory.
 
 use crate::memory::Memory;
 use crate::output::Output;
@@ -9,23 +8,27 @@ use differential::level;
 use generator::{
     any_queue, empty_queue, good_block, pace, queue_deed, settings_for, Pace, QueueDeed, Random,
 };
-use mant::raw::{self, QUEUE_LENGTH};
+use mant::raw;
 use mant::Cursor;
 use reference::{Queue, Taken, MOST_PDU};
 
-/// A queue in the library and in the reference, and in the wrapper where it
-/// has the wrapper's size.
+/// A queue in the library and in the wrapper, and its history where its numbers
+/// are those of the PDUs held.
 struct Queues {
     library: Memory,
-    reference: Queue,
-    wrapper: Option<mant::Queue>,
-    /// What the queue held at first, and then what was accepted.
+    wrapper: mant::Queue,
+    history: Option<History>,
+}
+
+/// A queue in the reference since its numbers are those of the PDUs held.
+#[derive(Default)]
+struct History {
+    /// What it held at first, and then what was accepted.
     accepted: Vec<Vec<u8>>,
     /// The batches taken and what was cleared, as the history goes.
     gone: Vec<u8>,
-    /// The level is that of the PDUs held: it was so at first, or the queue
-    /// has been changed since.
-    kept: bool,
+    /// What it holds.
+    held: Vec<Vec<u8>>,
 }
 
 /// Compares a history from an empty queue.
@@ -34,15 +37,15 @@ pub fn compare_history(random: &mut Random) -> Compared {
     compare(random, &memory, pace)
 }
 
-/// Compares a few deeds with a queue put together by hand.
+/// Compares a few deeds with arbitrary memory.
 pub fn compare_by_hand(random: &mut Random) -> Compared {
     let (memory, pace) = (any_queue(random), pace(random, 8));
     compare(random, &memory, pace)
 }
 
-/// Compares all that is answered, and the whole memory after each deed. What
-/// was accepted is at last what was taken and cleared, followed by what is
-/// held.
+/// Compares all that is answered, and the whole memory after each deed. From
+/// where the numbers are those of the PDUs held, what was accepted is at last
+/// what was taken and cleared, followed by what is held.
 fn compare(random: &mut Random, memory: &[u8], pace: Pace) -> Compared {
     let mut queues = Queues::of(random, memory);
     queues.compare_shown(&Input {
@@ -50,127 +53,114 @@ fn compare(random: &mut Random, memory: &[u8], pace: Pace) -> Compared {
         rest: &"a queue's memory",
     })?;
     for _ in 0..pace.turns {
-        let deed = queue_deed(random, pace, &queues.reference);
         let before = queues.library.clone();
+        let deed = queue_deed(random, pace, &Queue::holding(&before.held()));
         let input = Input {
             bytes: before.bytes(),
             rest: &deed,
         };
-        let changes = queues.done(random, &input, &deed)?;
-        let left = match changes {
-            true => before.holding(queues.reference.held()),
-            false => before.clone(),
-        };
-        input.same("memory", &queues.library, &left)?;
-        queues.kept |= changes;
+        queues.done(random, &input, &deed)?;
+        input.same("memory", &queues.library, &before.after(&deed))?;
         queues.compare_shown(&input)?;
     }
     let input = Input {
         bytes: queues.library.bytes(),
         rest: &"a queue after its history",
     };
-    let held = queues.library.held().concat();
-    let left = [&queues.gone[..], &held].concat();
-    input.same_bytes("gone and held", &left, &queues.accepted.concat())
+    let Some(history) = queues.history else {
+        return Ok(());
+    };
+    let left = [&history.gone[..], &queues.library.held().concat()].concat();
+    input.same_bytes("gone and held", &left, &history.accepted.concat())
 }
 
 impl Queues {
-    /// The three queues in the memory.
+    /// The queues in the memory.
     fn of(random: &mut Random, memory: &[u8]) -> Queues {
         let library = Memory::of(random, memory);
-        let wrapper = <[u8; QUEUE_LENGTH]>::try_from(memory).ok();
         let held = library.held();
-        let reference = Queue::holding(library.capacity(), &held);
+        let is_kept = library.told() == level(&Queue::holding(&held));
         Queues {
-            kept: library.told() == level(&reference),
-            reference,
-            wrapper: wrapper.map(mant::Queue::from_memory),
+            wrapper: mant::Queue::from_memory(*library.bytes()),
             library,
-            accepted: held,
-            gone: vec![],
+            history: is_kept.then(|| History {
+                accepted: held.clone(),
+                held,
+                ..History::default()
+            }),
         }
     }
 
-    /// Does a deed in all queues, and tells whether it is one that changes
-    /// them.
-    fn done(
-        &mut self,
-        random: &mut Random,
-        input: &Input,
-        deed: &QueueDeed,
-    ) -> Result<bool, String> {
+    /// Does a deed in all queues.
+    fn done(&mut self, random: &mut Random, input: &Input, deed: &QueueDeed) -> Compared {
         match deed {
             QueueDeed::Add(bytes) => self.added(input, bytes),
             QueueDeed::Take(room) => {
-                let held = self.reference.held().to_vec();
+                let held = self.library.held();
                 let output = Output::of(random, *room);
-                let batch = self.took(input, &output)?;
-                let pdus = held.len() - self.reference.held().len();
+                let (batch, pdus) = self.took(input, &output)?;
                 compare_walk(random, input, &batch, &held[..pdus])?;
-                self.gone.extend(batch);
-                Ok(pdus > 0)
+                if let Some(history) = &mut self.history {
+                    history.held.drain(..pdus);
+                    history.gone.extend(batch);
+                }
+                Ok(())
             }
             QueueDeed::Clear => {
-                self.cleared();
-                Ok(self.library.has_numbers())
+                raw::queue_clear(self.library.change());
+                self.wrapper.clear();
+                let history = self.history.get_or_insert_with(History::default);
+                history.gone.extend(history.held.concat());
+                history.held.clear();
+                Ok(())
             }
         }
     }
 
     /// Bytes are added.
-    fn added(&mut self, input: &Input, bytes: &[u8]) -> Result<bool, String> {
+    fn added(&mut self, input: &Input, bytes: &[u8]) -> Compared {
+        let wanted = self.library.add_number(bytes);
         let added = raw::queue_add(self.library.change(), bytes);
-        let wanted = self.reference.add(bytes);
         input.same("number of adding", added, wanted)?;
-        if let Some(queue) = &mut self.wrapper {
-            input.same("wrapped adding", number(queue.add(bytes)), wanted)?;
+        input.same("wrapped adding", number(self.wrapper.add(bytes)), wanted)?;
+        if let Some(history) = &mut self.history {
+            let by_reference = Queue::holding(&history.held).add(bytes);
+            input.same("number of adding by what is held", added, by_reference)?;
+            if added == 0 {
+                history.held.push(bytes.to_vec());
+                history.accepted.push(bytes.to_vec());
+            }
         }
-        if wanted == 0 {
-            self.accepted.push(bytes.to_vec());
-        }
-        Ok(wanted == 0)
+        Ok(())
     }
 
-    /// PDUs are taken: the batch.
-    fn took(&mut self, input: &Input, output: &Output) -> Result<Vec<u8>, String> {
+    /// PDUs are taken: the batch, and how many.
+    fn took(&mut self, input: &Input, output: &Output) -> Result<(Vec<u8>, usize), String> {
         let (mut library, mut reference) = (output.clone(), output.clone());
         let mut wrapper = output.clone();
+        let wanted = Queue::holding(&self.library.held()).take(reference.room());
         let batch = raw::queue_take(self.library.change(), library.room());
-        let wanted = self.reference.take(reference.room());
         input.same("batch", batch, differential::batch(wanted))?;
         input.same_bytes("output", library.all(), reference.all())?;
-        if let Some(queue) = &mut self.wrapper {
-            let taken = queue.take(wrapper.room()).map_err(mant::Refusal::number);
-            input.same("wrapped batch", taken, in_wrapper(wanted))?;
-            input.same_bytes("wrapped output", wrapper.all(), reference.all())?;
-        }
-        Ok(library.room()[..batch.bytes].to_vec())
-    }
-
-    /// All PDUs are dropped.
-    fn cleared(&mut self) {
-        self.gone.extend(self.library.held().concat());
-        raw::queue_clear(self.library.change());
-        self.reference.clear();
-        if let Some(queue) = &mut self.wrapper {
-            queue.clear();
-        }
+        let taken = self.wrapper.take(wrapper.room());
+        let taken = taken.map_err(mant::Refusal::number);
+        input.same("wrapped batch", taken, in_wrapper(wanted))?;
+        input.same_bytes("wrapped output", wrapper.all(), reference.all())?;
+        Ok((library.room()[..batch.bytes].to_vec(), batch.pdus))
     }
 
     /// The level, and the PDUs that the wrapper shows.
     fn compare_shown(&self, input: &Input) -> Compared {
-        let memory = self.library.bytes();
+        let (memory, held) = (self.library.bytes(), self.library.held());
         let told = raw::queue_level(memory);
         input.same("level as it stands", told, self.library.told())?;
-        if self.kept {
-            input.same("level", told, level(&self.reference))?;
+        if let Some(history) = &self.history {
+            input.same("held", &held, &history.held)?;
+            input.same("level", told, level(&Queue::holding(&held)))?;
         }
-        let Some(queue) = &self.wrapper else {
-            return Ok(());
-        };
+        let queue = &self.wrapper;
         input.same_bytes("wrapper's memory", queue.memory(), memory)?;
         input.same("wrapped level", queue.level(), told)?;
-        let held = self.reference.held();
         input.same("wrapper's is_empty", queue.is_empty(), held.is_empty())?;
         let shown: Vec<&[u8]> = queue.iter().collect();
         let wanted: Vec<&[u8]> = held.iter().map(Vec::as_slice).collect();

@@ -6,8 +6,12 @@ use crate::received::{cut, damaged, random_bytes};
 use crate::shape::shape;
 use reference::{Queue, MOST_HELD, MOST_HELD_BYTES};
 
-/// The two numbers before the PDUs have so many bytes.
-const NUMBERS: usize = 4;
+/// The three numbers before the PDUs have so many bytes.
+const NUMBERS: usize = 6;
+/// So far behind them the oldest PDU begins at most.
+const MOST_PLACE: usize = 512;
+/// The bytes of a queue's memory.
+const LENGTH: usize = NUMBERS + MOST_HELD_BYTES + MOST_PLACE;
 
 /// What is done with a queue.
 #[derive(Clone, Debug, PartialEq, Eq)]
@@ -121,39 +125,35 @@ fn not_one_pdu(random: &mut Random) -> Vec<u8> {
     }
 }
 
-/// Memory that holds an empty queue, any bytes behind its first four.
+/// Memory that holds an empty queue: zeros, or any bytes behind its first four.
 pub fn empty_queue(random: &mut Random) -> Vec<u8> {
-    let length = match random.below(9) {
-        0..=4 => NUMBERS + MOST_HELD_BYTES,
-        5 => random.between(2_040, 2_300),
-        6 => random.between(0, 20),
-        7 => random.between(0, 200),
-        _ => random.between(0, 2_051),
-    };
-    let mut memory = random.bytes(length);
-    for byte in memory.iter_mut().take(NUMBERS) {
-        *byte = 0;
+    if random.flag() {
+        return vec![0; LENGTH];
     }
+    let mut memory = random.bytes(LENGTH);
+    memory[..4].fill(0);
     memory
 }
 
-/// Memory put together by hand: any bytes, or PDUs back to back, at times more
-/// than 32, with a bit turned over or the last one cut, and any two numbers
-/// before them.
+/// Arbitrary memory: any bytes, or PDUs back to back from some place on, at
+/// times more than 32, with a bit turned over or the last one cut, and any
+/// three numbers before them.
 pub fn any_queue(random: &mut Random) -> Vec<u8> {
-    let mut memory = empty_queue(random);
-    if memory.len() < NUMBERS || random.one_in(6) {
-        return random.bytes(memory.len());
+    let mut memory = random.bytes(LENGTH);
+    if random.one_in(6) {
+        return memory;
     }
     let (count, mut pdus) = back_to_back(random);
     if random.one_in(3) {
         let place = random.below(pdus.len().min(60));
         pdus[place] ^= 1 << random.below(8);
     }
-    pdus.truncate(memory.len() - NUMBERS);
+    let start = random.pick(&[0, 0, 1, 64, 511, 512, 512, 513]);
+    pdus.truncate(LENGTH - NUMBERS - start);
     memory[..2].copy_from_slice(&number_before(random, count));
-    memory[2..NUMBERS].copy_from_slice(&number_before(random, pdus.len()));
-    memory[NUMBERS..NUMBERS + pdus.len()].copy_from_slice(&pdus);
+    memory[2..4].copy_from_slice(&number_before(random, pdus.len()));
+    memory[4..NUMBERS].copy_from_slice(&number_before(random, start));
+    memory[NUMBERS + start..][..pdus.len()].copy_from_slice(&pdus);
     memory
 }
 
@@ -168,15 +168,15 @@ fn back_to_back(random: &mut Random) -> (usize, Vec<u8>) {
     (count, pdus.collect::<Vec<_>>().concat())
 }
 
-/// Two bytes that tell how many PDUs or bytes follow: just so many, one more or
-/// less, fewer, or any number.
+/// Two bytes that tell how many PDUs or bytes follow, or where: just so many, one
+/// more or less, fewer, or any number.
 fn number_before(random: &mut Random, follow: usize) -> [u8; 2] {
     let number = match random.below(8) {
         0..=2 => follow,
         3 => follow.saturating_sub(1),
         4 => follow + 1,
         5 => random.between(0, follow),
-        6 => random.pick(&[0, 5, 6, 31, 32, 33, 255, 256, 2_047, 2_048, 2_049, 65_535]),
+        6 => random.pick(&[0, 6, 31, 32, 33, 511, 512, 513, 2_047, 2_048, 2_049, 65_535]),
         _ => usize::from(random.word()),
     };
     (number as u16).to_be_bytes()
@@ -277,15 +277,5 @@ mod tests {
             let read = reference::read(&pdu).map(|header| header.pdu_length());
             assert_eq!((pdu.len(), read), (length, Ok(length)));
         }
-    }
-
-    #[test]
-    fn memory_keeps_its_length() {
-        let mut random = Random::from_seed(1);
-        let lengths: Vec<usize> = (0..5_000).map(|_| any_queue(&mut random).len()).collect();
-        for length in [0, 1, 2, 3, 4, 5, 2_051, 2_052, 2_053] {
-            assert!(lengths.contains(&length), "{length}");
-        }
-        assert!(lengths.iter().all(|length| *length <= 2_300));
     }
 }

@@ -4,8 +4,11 @@ use crate::raw::{self, EDITION_1_2, QUEUE_BYTES, QUEUE_LENGTH, QUEUE_PDUS};
 use crate::{Level, Refusal};
 use std::fmt;
 
-/// The two numbers before the PDUs have so many bytes.
-const NUMBERS: usize = QUEUE_LENGTH - QUEUE_BYTES;
+/// The three numbers before the PDUs have so many bytes.
+const NUMBERS: usize = 6;
+
+/// The third number is no more than this.
+const SPARE: usize = QUEUE_LENGTH - NUMBERS - QUEUE_BYTES;
 
 /// What was taken from a queue.
 #[derive(Clone, Copy, Debug, Default, PartialEq, Eq)]
@@ -38,8 +41,8 @@ impl Queue {
     }
 
     /// The queue in this memory, which `include/mant.h` describes. Any bytes
-    /// hold one; where the numbers before its PDUs are not theirs, its level
-    /// is what they say.
+    /// hold one; if the numbers before its PDUs are not theirs, its level is
+    /// what they say.
     pub const fn from_memory(memory: [u8; QUEUE_LENGTH]) -> Queue {
         Queue { memory }
     }
@@ -62,15 +65,16 @@ impl Queue {
 
     /// The PDUs that are held, the oldest first.
     pub fn iter(&self) -> impl Iterator<Item = &[u8]> + '_ {
-        let bytes = self.level().bytes.min(QUEUE_BYTES);
-        let mut rest = &self.memory[NUMBERS..NUMBERS + bytes];
+        let (level, memory) = (self.level(), &self.memory);
+        let place = usize::from(u16::from_be_bytes([memory[4], memory[5]])).min(SPARE);
+        let mut rest = &memory[NUMBERS + place..][..level.bytes];
         let pdus = std::iter::from_fn(move || {
             let length = raw::read(EDITION_1_2, rest).pdu_length;
             let (pdu, behind) = rest.split_at(length);
             rest = behind;
             (length > 0).then_some(pdu)
         });
-        pdus.take(QUEUE_PDUS)
+        pdus.take(level.pdus)
     }
 
     /// Adds a PDU, or answers 61 where the bytes are not exactly one, and then

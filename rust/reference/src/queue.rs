@@ -13,7 +13,6 @@ pub const MOST_HELD_BYTES: usize = 2_048;
 #[derive(Clone, Debug, PartialEq, Eq)]
 pub struct Queue {
     held: Vec<Vec<u8>>,
-    most_bytes: usize,
 }
 
 /// What was taken from a queue: with 62 nothing was.
@@ -28,17 +27,15 @@ pub struct Taken {
 }
 
 impl Queue {
-    /// An empty queue of 2,048 bytes at most.
+    /// An empty queue.
     pub fn empty() -> Queue {
-        Queue::holding(MOST_HELD_BYTES, &[])
+        Queue::holding(&[])
     }
 
-    /// A queue of so many bytes at most that holds these PDUs, which have no
-    /// more.
-    pub fn holding(most_bytes: usize, held: &[Vec<u8>]) -> Queue {
+    /// A queue that holds these PDUs, which have no more than 2,048 bytes.
+    pub fn holding(held: &[Vec<u8>]) -> Queue {
         Queue {
             held: held.to_vec(),
-            most_bytes,
         }
     }
 
@@ -54,7 +51,7 @@ impl Queue {
 
     /// How many more bytes there is room for.
     pub fn left(&self) -> usize {
-        self.most_bytes - self.bytes()
+        MOST_HELD_BYTES - self.bytes()
     }
 
     /// Adds a PDU: 0, or 61 and then 60, and nothing changes.

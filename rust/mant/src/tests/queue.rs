@@ -57,13 +57,14 @@ fn a_queue_keeps_its_level() {
     for pdu in [&example()[..], &repeated(), &[0, 0, 0, 0, 0, 5]] {
         assert_eq!(queue.add(pdu), Ok(()));
     }
-    assert_eq!(queue.memory()[..4], [0, 3, 0, 48]);
+    assert_eq!(queue.memory()[..6], [0, 3, 0, 48, 0, 0]);
     assert_eq!(queue.add(&[]), Err(Refusal::NotOnePdu));
     assert_eq!(queue.level(), Level { pdus: 3, bytes: 48 });
     assert_eq!(queue.take(&mut [0; 42]).map(|taken| taken.pdus), Ok(2));
     assert_eq!(queue.level(), Level { pdus: 1, bytes: 6 });
     let mut left = *queue.memory();
-    left[..4].fill(0);
+    assert_eq!(left[..6], [0, 1, 0, 6, 0, 42]);
+    left[..6].fill(0);
     queue.clear();
     assert_eq!(queue.level(), Level::default());
     assert!(queue.is_empty() && queue == Queue::new());
@@ -71,13 +72,13 @@ fn a_queue_keeps_its_level() {
 }
 
 #[test]
-fn a_level_put_together_by_hand() {
+fn arbitrary_memory_is_a_queue() {
     let mut memory = [0; Queue::LENGTH];
-    memory[..4].fill(0xFF);
+    memory[..6].fill(0xFF);
     let mut queue = Queue::from_memory(memory);
     let told = Level {
-        pdus: 65_535,
-        bytes: 65_535,
+        pdus: Queue::PDUS,
+        bytes: Queue::BYTES,
     };
     assert_eq!((queue.level(), queue.is_empty()), (told, false));
     assert_eq!(queue.iter().count(), Queue::PDUS);
@@ -87,7 +88,11 @@ fn a_level_put_together_by_hand() {
     assert_eq!(queue.take(&mut [0; 6]), Ok(Taken { pdus: 1, bytes: 6 }));
     let rest = Level {
         pdus: 31,
-        bytes: 186,
+        bytes: 2042,
     };
     assert_eq!((queue.level(), queue.iter().count()), (rest, 31));
+    assert_eq!(queue.memory()[..6], [0, 31, 0x07, 0xFA, 0, 0]);
+    let unreadable = Queue::from_memory([0xFF; Queue::LENGTH]);
+    assert_eq!((unreadable.level(), unreadable.is_empty()), (told, true));
+    assert_eq!(unreadable.clone().take(&mut []), Ok(Taken::default()));
 }
