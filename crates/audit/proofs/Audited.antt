@@ -10,6 +10,7 @@ use Rattle.last_sender.proofs.LastSender.{last-sender}
 use Rattle.transmit_queue.proofs.TransmitQueue.{transmit-queue}
 use Rattle.queue_level.proofs.QueueLevel.{queue-level}
 use Rattle.least_reach.proofs.LeastReach.{least-reach}
+use Rattle.own_network.proofs.OwnNetwork.{own-network}
 use Rattle.two_editions.proofs.TwoEditions.{two-editions}
 use Rattle.reliable_messages.proofs.ReliableMessages.{reliable-messages}
 use Rattle.two_lists.proofs.TwoLists.{two-lists}
@@ -36,4 +37,5 @@ audited =
       w210 = reliable-messages;
       w211 = two-lists;
       w212 = encrypted-payloads;
+      own-network = own-network;
     }

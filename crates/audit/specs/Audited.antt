@@ -12,6 +12,7 @@ use Rattle.last_sender.specs.LastSender.{LastSender}
 use Rattle.transmit_queue.specs.TransmitQueue.{TransmitQueue}
 use Rattle.queue_level.specs.QueueLevel.{QueueLevel}
 use Rattle.least_reach.specs.LeastReach.{LeastReach}
+use Rattle.own_network.specs.OwnNetwork.{OwnNetwork}
 use Rattle.two_editions.specs.TwoEditions.{TwoEditions}
 use Rattle.reliable_messages.specs.ReliableMessages.{ReliableMessages}
 use Rattle.two_lists.specs.TwoLists.{TwoLists}
@@ -37,3 +38,5 @@ pub record Audited : Type 0 where
   pub w210 : ReliableMessages
   pub w211 : TwoLists
   pub w212 : EncryptedPayloads
+  -- and how often one message goes out on a network of which it is known who hears whom
+  pub own-network : OwnNetwork

@@ -1,3 +1,4 @@
+pub mod Bytes
 pub mod Steps
 pub mod Fewer
 pub mod Rounds

@@ -1,15 +1,16 @@
 -- A round as the code plays it, pair by pair. Assumes nothing.
 use mathlib.Core.Path.{_≡_, refl, sym, ap, subst, _∙_}
 use mathlib.Core.Bool.{Bool, true, false, not, and-false}
-use mathlib.Core.List.{List, [], _∷_, _++_, append-nil}
+use mathlib.Core.List.{List, [], _∷_}
 use Prim.Native.Nat.{ℕ, zero, suc, _+_, _≤_, _<_}
 use native.Mathlib.Omega.{arith}
 use borrow.Author.Tests.{lt-ltb, le-ltb, not-true, not-false}
 use lib.Dec.{eqb}
-use lib.ListN.{length, drop, set, replicate, drop-of-length-le}
+use lib.ListN.{length, drop, set, drop-of-length-le}
 use Rattle.octets.specs.Octets.{at}
 use Rattle.chains.specs.Lengths.{noChain}
 use Rattle.chains.specs.Rounds.{isTold, noted, afterRound}
+use Rattle.chains.proofs.Bytes.{two}
 use Rattle.chains.proofs.Rounds.{told-is}
 
 pub told-here : (lengths : List ℕ) (place value : ℕ) → place < length lengths → eqb (at lengths place) value ≡ isTold lengths place value
@@ -36,13 +37,6 @@ one-more k a b lengths s t s-is s-yes t-is t-yes = rw (sym s-is ∙ not-false s 
 pub told-below : (lengths : List ℕ) (b : ℕ) (t : Bool) → t ≡ isTold lengths b noChain → not t ≡ false → b < length lengths
 told-below lengths b t is so = told-is lengths b noChain (sym is ∙ not-false t so) .0
 
--- the first two bytes of a rest
-two : (bytes : List ℕ) (i : ℕ) → suc i < length bytes → drop i bytes ≡ at bytes i ∷ at bytes (suc i) ∷ drop (suc (suc i)) bytes
-two [] i h = absurd (omega arith)
-two (x ∷ []) i h = absurd (omega arith)
-two (x ∷ y ∷ bytes) zero h = refl
-two (x ∷ y ∷ bytes) (suc i) h = two (y ∷ bytes) i (omega arith)
-
 round-step : (k : ℕ) (pairs lengths : List ℕ) (i j m : ℕ) → j ≡ suc i → m ≡ suc j → j < length pairs
     → afterRound k (drop i pairs) lengths ≡ afterRound k (drop m pairs) (noted k (at pairs i) (at pairs j) lengths)
 unfolding afterRound
@@ -68,22 +62,3 @@ round-over k (x ∷ []) lengths (suc i) few =
     ap (λ (rest : List ℕ). afterRound k rest lengths) (drop-of-length-le (x ∷ []) {i = suc i} (omega arith))
 round-over k (x ∷ y ∷ pairs) lengths zero few = absurd (omega arith)
 round-over k (x ∷ y ∷ pairs) lengths (suc i) few = round-over k (y ∷ pairs) lengths i (omega arith)
-
--- the lengths cleared up to a place
-clear-one : (value : ℕ) (lengths : List ℕ) (i : ℕ) → i < length lengths
-    → set (replicate i value ++ drop i lengths) i value ≡ replicate (suc i) value ++ drop (suc i) lengths
-clear-one value [] i h = absurd (omega arith)
-clear-one value (x ∷ lengths) zero h = refl
-clear-one value (x ∷ lengths) (suc i) h = ap (λ (l : List ℕ). value ∷ l) (clear-one value lengths i (omega arith))
-
-pub clear-next : (lengths now : List ℕ) (i m : ℕ) → i < length lengths → now ≡ replicate i noChain ++ drop i lengths → m ≡ suc i
-    → set now i noChain ≡ replicate m noChain ++ drop m lengths
-clear-next lengths now i m h is next =
-    ap (λ (l : List ℕ). set l i noChain) is ∙ clear-one noChain lengths i h
-    ∙ ap (λ (x : ℕ). replicate x noChain ++ drop x lengths) (sym next)
-
-pub clear-over : (lengths now : List ℕ) (i : ℕ) → i ≡ length lengths → now ≡ replicate i noChain ++ drop i lengths
-    → now ≡ replicate (length lengths) noChain
-clear-over lengths now i all is =
-    is ∙ ap (λ (l : List ℕ). replicate i noChain ++ l) (drop-of-length-le lengths {i = i} (omega (arith, all)))
-    ∙ append-nil (replicate i noChain) ∙ ap (λ (x : ℕ). replicate x noChain) all

@@ -3,7 +3,7 @@ use mathlib.Core.Path.{_≡_, refl, sym, ap, subst, _∙_}
 use mathlib.Core.Logic.{_≢_, _⊎_, inl, inr, by-cases, ⊎-elim}
 use mathlib.Core.Bool.{Bool, true, false, cond, _&&_, _||_, or-true, false≢true}
 use mathlib.Core.List.{List, [], _∷_}
-use Prim.Native.Nat.{ℕ, zero, suc, _+_, _≤_, _<_}
+use Prim.Native.Nat.{ℕ, zero, suc, _+_, _-_, _≤_, _<_}
 use native.Mathlib.Omega.{arith}
 use native.Mathlib.Decide.{decLt, ℕ-discrete}
 use borrow.Author.Tests.{eqb-true, eq-eqb, ltb-true, lt-ltb}
@@ -14,8 +14,8 @@ use Rattle.octets.specs.Octets.{at}
 use Rattle.octets.proofs.Tests.{both}
 use Rattle.chains.specs.Chains.{Chain, Shortest, Beyond}
 use Rattle.chains.specs.Lengths.{isHeard, placesOfNodes, noChain, Tells}
-use Rattle.chains.specs.Rounds.{beforeRounds, isTold, noted, afterRound}
-use Rattle.chains.proofs.Steps.{chain-none, chain-is-none, chain-next, chain-last, chain-known}
+use Rattle.chains.specs.Rounds.{beforeRounds, isTold, noted, afterRound, NoneTold}
+use Rattle.chains.proofs.Steps.{chain-none, chain-is-none, chain-next, chain-last, chain-known, shortest-before, shortest-one}
 use Rattle.chains.proofs.Fewer.{in-places, below-places, shortest-below}
 
 pub told-is : (lengths : List ℕ) (place value : ℕ) → isTold lengths place value ≡ true → (place < length lengths) × (at lengths place ≡ value)
@@ -240,9 +240,10 @@ module _ (pairs : List ℕ) (n from : ℕ) where
           subst (λ (x : ℕ). Reached x 0) (sym same)
           (record { chain = chain-none hears (placesOfNodes n) from; none-shorter = λ j below c. omega (arith, below) })
 
-  -- after as many rounds as there are nodes, less one, all is told
-  pub all-told : from < n → (k : ℕ) (lengths : List ℕ) → n ≤ noChain → n ≤ k + 1 → Known k lengths → (to : ℕ) → to < n → Tells pairs n from to (at lengths to)
-  all-told begins k lengths few enough known to below =
+  -- where no shortest chain is longer, all is told
+  pub all-told : from < n → (k : ℕ) (lengths : List ℕ) → n ≤ noChain → ((to j : ℕ) → k < j → ¬ Shortest hears (placesOfNodes n) from to j)
+      → Known k lengths → (to : ℕ) → to < n → Tells pairs n from to (at lengths to)
+  all-told begins k lengths few none known to below =
       ⊎-elim {C = Tells pairs n from to (at lengths to)}
       (λ t. inl (omega (arith, few, shortest-below hears n from begins (at lengths to) to (t .1)), t .1))
       (λ t. inr (t .0, λ j c. never (t .1) j j (omega arith) c))
@@ -257,7 +258,30 @@ module _ (pairs : List ℕ) (n from : ℕ) where
         where
           long : Beyond hears (placesOfNodes n) from to k → (m j : ℕ) → j ≡ suc m → ((i : ℕ) → i ≤ m → ¬ Chain hears (placesOfNodes n) from to i)
               → ¬ Chain hears (placesOfNodes n) from to j
-          long beyond m j is none c =
-              let s : Reached to j = record { chain = c; none-shorter = λ i less. none i (omega (arith, less, is)) } in
-              let short = shortest-below hears n from begins j to s in
-              beyond j (omega (arith, short, enough)) c
+          long beyond m j is no-shorter c =
+              let s : Reached to j = record { chain = c; none-shorter = λ i less. no-shorter i (omega (arith, less, is)) } in
+              by-cases (decLt k j) (λ past. none to j past s) (λ within. beyond j (omega (arith, within)) c)
+
+  -- after as many rounds as there are nodes, less one, none is
+  pub none-by-count : from < n → (k : ℕ) → n ≤ k + 1 → (to j : ℕ) → k < j → ¬ Shortest hears (placesOfNodes n) from to j
+  none-by-count begins k enough to j past s = omega (arith, shortest-below hears n from begins j to s, past, enough)
+
+  -- nor where no node has a shortest chain of k hearings, since the one before the last has one of a hearing less
+  pub none-by-value : from < n → (k : ℕ) (lengths : List ℕ) → k ≢ noChain → NoneTold lengths k → Known k lengths
+      → (to j : ℕ) → k < j → ¬ Shortest hears (placesOfNodes n) from to j
+  none-by-value begins k lengths few none known to j past s = descend (j - k) to j (omega arith) s
+    where
+      at-k : (to : ℕ) → ¬ Shortest hears (placesOfNodes n) from to k
+      at-k to s =
+          let below = below-places n to (chain-known hears (placesOfNodes n) from k (in-places n from begins) (s .chain)) in
+          ⊎-elim {C = ⊥}
+          (λ t. none to (omega (arith, known .size, below)) (shortest-one hears (placesOfNodes n) from (at lengths to) k (t .1) s))
+          (λ t. t .1 k (omega arith) (s .chain))
+          (known .each to below)
+
+      descend : (d to j : ℕ) → j ≡ k + d → ¬ Shortest hears (placesOfNodes n) from to j
+      descend zero to j is s = at-k to (subst (Shortest hears (placesOfNodes n) from to) (omega (arith, is)) s)
+      descend (suc d) to j is s =
+          let one-more : j ≡ suc (k + d) = omega (arith, is) in
+          let s′ = subst (Shortest hears (placesOfNodes n) from to) one-more s in
+          descend d (chain-last hears (placesOfNodes n) from (k + d) (s′ .chain) .via) (k + d) refl (shortest-before hears (placesOfNodes n) from (k + d) s′)

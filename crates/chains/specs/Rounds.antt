@@ -1,7 +1,8 @@
 -- How the lengths are found: round k tells the nodes that hear one at the end of a shortest chain of k hearings. Assumes nothing.
 use mathlib.Core.Bool.{Bool, cond, _&&_}
 use mathlib.Core.List.{List, [], _∷_}
-use Prim.Native.Nat.{ℕ, _+_}
+use mathlib.Core.Logic.{_≢_}
+use Prim.Native.Nat.{ℕ, _+_, _<_}
 use lib.Dec.{eqb, ltb}
 use lib.ListN.{length, set, replicate}
 use Rattle.octets.specs.Octets.{at}
@@ -24,3 +25,7 @@ unfoldable pub afterRound : ℕ → List ℕ → List ℕ → List ℕ
 afterRound k [] lengths = lengths
 afterRound k (last ∷ []) lengths = lengths
 afterRound k (sender ∷ node ∷ pairs) lengths = afterRound k pairs (noted k sender node lengths)
+
+-- no node is told that value: after round k, of k + 1, the rounds are over
+abbrev pub NoneTold : List ℕ → ℕ → Type 0
+NoneTold lengths value = (place : ℕ) → place < length lengths → at lengths place ≢ value

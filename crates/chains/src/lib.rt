@@ -1,10 +1,11 @@
 // Shortest chains of hearings in a network of up to 255 nodes, and how far a report reaches.
+ghost use mathlib.Core.Bool.{false};
 ghost use mathlib.Core.Path.{_≡_};
 ghost use Prim.Native.Nat.{_<_};
 ghost use lib.ListN.{length, replicate};
 ghost use Rattle.chains.specs.Lengths.{noChain, LengthsFound};
 ghost use Rattle.chains.specs.Reach.{isDelivered, isMissed, missed, leastHop};
-ghost use Rattle.chains.specs.Rounds.{beforeRounds, isTold, noted, afterRound};
+ghost use Rattle.chains.specs.Rounds.{beforeRounds, isTold, noted, afterRound, NoneTold};
 use octets::byte_value;
 use octets::flag;
 
@@ -33,6 +34,9 @@ pub fn find_lengths(pairs: &[u8], from: usize, lengths: &mut [u8]) -> bool
     while k < last {
         round(pairs, k, lengths);
         k += 1;
+        if !is_anywhere(lengths, k) {
+            return true;
+        }
     }
     true
 }
@@ -94,6 +98,20 @@ fn is_told(lengths: &[u8], place: usize, value: u8) -> bool
     } else {
         false
     }
+}
+
+// Whether some node has that length. Where none has, none has a greater one.
+fn is_anywhere(lengths: &[u8], value: u8) -> bool
+    ensures { λ r. ⌜ (r ≡ false → NoneTold (now (lengths .entry)) value) ⌝ }
+{
+    let mut i: usize = 0;
+    while i < lengths.len() {
+        if lengths[i] == value {
+            return true;
+        }
+        i += 1;
+    }
+    false
 }
 
 // The least hop limit that reaches all nodes, or that none of 0 to 6 does.

@@ -28,6 +28,7 @@ use Rattle.node.proofs.Repeating.{Ready}
 use Rattle.flood.specs.Air.{Repeater, Open, address, sends, pathOf, hopOf}
 use Rattle.flood.proofs.Exact.{passes}
 use Rattle.flood.proofs.Network.{Lawful}
+use Rattle.flood.proofs.Repeaters.{open-passes}
 use Rattle.flood.proofs.Sent.{Sound, sent-is, node-lawful}
 use Rattle.coverage.specs.Delivery.{Delivers}
 
@@ -92,7 +93,7 @@ module _ (first received : List ℕ) (n : Repeater) (free : Open (n .node)) (ech
   not-stopped =
       let clean = no-fault (n .node) (free .edition-known) (free .no-list-fault) in
       orElse-later _ _ (is-readable (n .node) received [] clean (headerOf received) (carries .sound .reads))
-      ∙ orElse-later _ _ (passes first received n free echo (carries .sound) not-own new) ∙ room-enough
+      ∙ orElse-later _ _ (passes first received n (open-passes (n .node) (headerOf first) free) echo (carries .sound) not-own new) ∙ room-enough
 
   for-all : deliveryFault (n .node .settings) (headerOf received) ≡ 0
   unfolding deliveryFault _gives_ _orElse_

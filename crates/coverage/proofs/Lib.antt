@@ -2,9 +2,9 @@ pub mod Carried
 pub mod Cases
 pub mod Chaining
 pub mod Checked
-pub mod Chosen
 pub mod Covered
 pub mod Places
 pub mod Reach
 pub mod Schedule
+pub mod Takers
 pub mod Told

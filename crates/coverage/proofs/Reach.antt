@@ -30,10 +30,12 @@ use Rattle.flood.proofs.Invariant.{Fact, Invariant, flooded}
 use Rattle.flood.proofs.Lists.{mem-at, at-mem}
 use Rattle.flood.proofs.Network.{Network}
 use Rattle.flood.proofs.Others.{are-others}
+use Rattle.flood.proofs.Repeaters.{open-can}
 use Rattle.flood.proofs.Runs.{stays, heard-said}
 use Rattle.coverage.specs.Hearing.{senderOf, TakenByAll, ByNoOther}
 use Rattle.coverage.specs.Delivery.{Delivered}
 use Rattle.coverage.proofs.Carried.{Carries, node-carries, delivers}
+use Rattle.coverage.proofs.Takers.{taker-hears}
 
 -- a node at the source address of what it received, echo on, delivers nothing
 not-to-originator : (n : Repeater) (received : List ℕ) → n .node .settings .echo ≡ true → sourceOf received ≡ address n
@@ -87,17 +89,6 @@ module _ (hears : ℕ → ℕ → Bool) (nodes : List Repeater) (all : Nodes nod
     sent-again : (t : List ℕ) (p : List ℕ) (a : ℕ) → pathOf t ≡ p ++ (a ∷ []) → senderOf t ≡ a
     sent-again t p a e = ap (lastOr (sourceOf t)) e ∙ last-behind (sourceOf t) p a
 
-    -- a node that takes a transmission hears its sender
-    taker-hears : ByNoOther hears nodes first receptions
-        → (r : Reception) → List·Memᴰ r receptions → (n : Repeater) → getElem? nodes (r .node) ≡ some n
-        → (t : List ℕ) → getElem? log (r .transmission) ≡ some t → hears (senderOf t) (address n) ≡ true
-    taker-hears only r m n n-at t t-at =
-        let w = only r m in
-        let same-n : w .node ≡ n = Option·some-injective _ _ (sym (w .node-at) ∙ n-at) in
-        let same-t : w .sent ≡ t = Option·some-injective _ _ (sym (w .sent-at) ∙ t-at) in
-        ap (λ (x : List ℕ). hears (senderOf x) (address n)) (sym same-t) ∙ ap (λ (x : Repeater). hears (senderOf (w .sent)) (address x)) (sym same-n)
-        ∙ w .hears-sender
-
     -- EVERY SENDER IS AT THE END OF A CHAIN as long as its path
     sender-chain : ByNoOther hears nodes first receptions
         → (k : ℕ) (t : List ℕ) → List·Memᴰ t log → length (pathOf t) ≡ k → Chain hears known (sourceOf first) (senderOf t) k
@@ -113,7 +104,7 @@ module _ (hears : ℕ → ℕ → Bool) (nodes : List Repeater) (all : Nodes nod
         let from-in = at-mem log (o .by .transmission) (o .from-at) in
         let shorter : length (pathOf (o .from)) ≡ k =
         omega (arith, ap length (o .path-is), length-append (pathOf (o .from)) (address (o .node) ∷ [])) in
-        let heard = taker-hears only (o .by) (facts .2 (o .by) (o .was-heard)) (o .node) (o .node-at) (o .from) (o .from-at) in
+        let heard = taker-hears hears nodes first receptions only (o .by) (facts .2 (o .by) (o .was-heard)) (o .node) (o .node-at) (o .from) (o .from-at) in
         Memᴰ·cast {b = address (o .node)} (sent-again t (pathOf (o .from)) (address (o .node)) (o .path-is))
         (chain-next hears known (sourceOf first) k (sender-chain only k (o .from) from-in shorter)
         (Memᴰ·map address (at-mem nodes (o .by .node) (o .node-at))) heard))
@@ -127,7 +118,7 @@ module _ (hears : ℕ → ℕ → Bool) (nodes : List Repeater) (all : Nodes nod
     taker-chain only r m n n-at t t-at =
         chain-next hears known (sourceOf first) (length (pathOf t))
         (sender-chain only (length (pathOf t)) t (at-mem log (r .transmission) t-at) refl)
-        (Memᴰ·map address (at-mem nodes (r .node) n-at)) (taker-hears only r m n n-at t t-at)
+        (Memᴰ·map address (at-mem nodes (r .node) n-at)) (taker-hears hears nodes first receptions only r m n n-at t t-at)
 
     -- a reception that was taken happens
     taken-happens : (r : Reception) → HasHeard sends nodes (first ∷ []) receptions (r .node) (r .transmission) → List·Memᴰ r receptions
@@ -213,8 +204,8 @@ module _ (hears : ℕ → ℕ → Bool) (nodes : List Repeater) (all : Nodes nod
             let (r, r-lt, n-at) = mem-at n-in in
             let (i, i-lt, t-at) = mem-at (t .in-log) in
             let c = carries (t .sent) (t .in-log) in
-            let sends-it = willing first (t .sent) n (free n counts) (all .echo-on n n-in) (c .sound) not-own new
-            (λ none. omega (arith, hop-is)) (omega (arith, t .long)) (for-everyone (address n) (headerOf first .destination) everyone)
+            let can = open-can (headerOf first) n (free n counts) not-own (for-everyone (address n) (headerOf first .destination) everyone) in
+            let sends-it = willing first (t .sent) n can (all .echo-on n n-in) (c .sound) new (λ none. omega (arith, hop-is)) (omega (arith, t .long))
             (omega (arith, roomy n counts, t .long)) in
             let next = repeated (address n) (t .sent) in
             let keeps = carried .lawful n n-in (t .sent) next c sends-it .1 in

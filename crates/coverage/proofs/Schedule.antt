@@ -13,16 +13,16 @@ use Rattle.pdu.specs.Header.{sourceOf}
 use Rattle.bound.specs.Bound.{bound}
 use Rattle.flood.specs.Air.{Repeater, address, sends, pathOf, hopOf, onTheAir, Nodes, Begins}
 use Rattle.flood.specs.Complete.{HasHeard}
-use Rattle.flood.specs.Flood.{Reception, flood, answer, others}
+use Rattle.flood.specs.Flood.{Reception, flood, answer, others, keep}
 use Rattle.flood.proofs.Bounded.{flood-bounded}
 use Rattle.flood.proofs.Demand.{network}
+use Rattle.flood.proofs.Kept.{keep-here, keep-not, keep-append, kept-are, kept-once}
 use Rattle.flood.proofs.Lists.{at-append, at-past}
 use Rattle.flood.proofs.Network.{Network}
 use Rattle.flood.proofs.Rounds.{rounds, rounds-once}
 use Rattle.flood.proofs.Runs.{flood-grows, rounds-complete}
 use Rattle.flood.proofs.Sent.{Sound}
 use Rattle.coverage.specs.Hearing.{senderOf, InHearing, TakenByAll, ByNoOther}
-use Rattle.coverage.proofs.Chosen.{chosen, chosen-here, chosen-not, chosen-append, chosen-are, chosen-once}
 
 -- one reception, by what it answers
 module _ (repeats : Repeater → List ℕ → Option (List ℕ)) (nodes : List Repeater) (log : List (List ℕ)) (r : Reception) (later : List Reception) where
@@ -67,7 +67,7 @@ module _ (hears : ℕ → ℕ → Bool) (nodes : List Repeater) where
     abbrev pub heardIn : Reception → Bool
     heardIn r = within (getElem? nodes (r .node)) (getElem? whole (r .transmission))
 
-    -- what is sent at a reception that is chosen, and at one that is not, where the log so far is the beginning of the whole
+    -- what is sent at a reception that is kept, and at one that is not, where the log so far is the beginning of the whole
     module _ (log : List (List ℕ)) (r : Reception)
         (begins : (t : List ℕ) → getElem? log (r .transmission) ≡ some t → getElem? whole (r .transmission) ≡ some t) where
       same-said : heardIn r ≡ true
@@ -98,8 +98,8 @@ module _ (hears : ℕ → ℕ → Bool) (nodes : List Repeater) where
 
     -- leaving out the receptions by nodes that do not hear the sender changes nothing
     same-run : (rs later : List Reception) (log : List (List ℕ)) → flood onHearing nodes log (rs ++ later) ≡ whole
-        → flood sends nodes log (chosen heardIn rs) ≡ flood onHearing nodes log rs
-    unfolding chosen flood
+        → flood sends nodes log (keep heardIn rs) ≡ flood onHearing nodes log rs
+    unfolding keep flood
     same-run [] later log e = refl
     same-run (r ∷ rs) later log e =
         go (heardIn r) refl (answer onHearing (getElem? nodes (r .node)) (getElem? log (r .transmission))) refl (λ log′. same-run rs later log′)
@@ -112,18 +112,18 @@ module _ (hears : ℕ → ℕ → Bool) (nodes : List Repeater) where
         go : (h : Bool) → heardIn r ≡ h → (o : Option (List ℕ))
             → answer onHearing (getElem? nodes (r .node)) (getElem? log (r .transmission)) ≡ o
             → ((log′ : List (List ℕ)) → flood onHearing nodes log′ (rs ++ later) ≡ whole
-            → flood sends nodes log′ (chosen heardIn rs) ≡ flood onHearing nodes log′ rs)
-            → flood sends nodes log (chosen heardIn (r ∷ rs)) ≡ flood onHearing nodes log (r ∷ rs)
+            → flood sends nodes log′ (keep heardIn rs) ≡ flood onHearing nodes log′ rs)
+            → flood sends nodes log (keep heardIn (r ∷ rs)) ≡ flood onHearing nodes log (r ∷ rs)
         go true h none o below =
-            ap (flood sends nodes log) (chosen-here heardIn r rs h)
-            ∙ said-none sends nodes log r (chosen heardIn rs) (same-said log r begins h ∙ o)
+            ap (flood sends nodes log) (keep-here heardIn r rs h)
+            ∙ said-none sends nodes log r (keep heardIn rs) (same-said log r begins h ∙ o)
             ∙ below log (sym (said-none onHearing nodes log r (rs ++ later) o) ∙ e) ∙ sym (said-none onHearing nodes log r rs o)
         go true h (some s) o below =
-            ap (flood sends nodes log) (chosen-here heardIn r rs h)
-            ∙ said-some sends nodes log r (chosen heardIn rs) s (same-said log r begins h ∙ o)
+            ap (flood sends nodes log) (keep-here heardIn r rs h)
+            ∙ said-some sends nodes log r (keep heardIn rs) s (same-said log r begins h ∙ o)
             ∙ below (log ++ (s ∷ [])) (sym (said-some onHearing nodes log r (rs ++ later) s o) ∙ e) ∙ sym (said-some onHearing nodes log r rs s o)
         go false h none o below =
-            ap (flood sends nodes log) (chosen-not heardIn r rs h)
+            ap (flood sends nodes log) (keep-not heardIn r rs h)
             ∙ below log (sym (said-none onHearing nodes log r (rs ++ later) o) ∙ e) ∙ sym (said-none onHearing nodes log r rs o)
         go false h (some s) o below = absurd (Option·none-ne-some s (sym (none-said log r begins h) ∙ o))
 
@@ -136,7 +136,7 @@ module _ (hears : ℕ → ℕ → Bool) (nodes : List Repeater) where
     sentInAll = flood onHearing nodes (first ∷ []) (rounds (length nodes) k)
 
     abbrev pub heardOnly : List Reception
-    heardOnly = chosen (heardIn sentInAll) everything
+    heardOnly = keep (heardIn sentInAll) everything
 
     module _ (few : length sentInAll ≤ k) where
       sent-same : onTheAir nodes first heardOnly ≡ sentInAll
@@ -168,22 +168,22 @@ module _ (hears : ℕ → ℕ → Bool) (nodes : List Repeater) where
           let is-heard : heardIn sentInAll r ≡ true = (λ i. within (w .node-at i) (sent-at i)) ∙ w .hears-sender in
           let c = rounds-complete onHearing nodes k (first ∷ []) few (r .node) (r .transmission)
           (at-within nodes (r .node) (w .node-at)) (at-within sentInAll (r .transmission) sent-at) in
-          let was : flood sends nodes (first ∷ []) (chosen (heardIn sentInAll) (c .before)) ≡ flood onHearing nodes (first ∷ []) (c .before) =
+          let was : flood sends nodes (first ∷ []) (keep (heardIn sentInAll) (c .before)) ≡ flood onHearing nodes (first ∷ []) (c .before) =
           same-run sentInAll (c .before) (r ∷ c .after) (first ∷ []) (ap (flood onHearing nodes (first ∷ [])) (sym (c .split))) in
           record {
-            before = chosen (heardIn sentInAll) (c .before);
-            after = chosen (heardIn sentInAll) (c .after);
+            before = keep (heardIn sentInAll) (c .before);
+            after = keep (heardIn sentInAll) (c .after);
             split =
-                ap (chosen (heardIn sentInAll)) (c .split) ∙ chosen-append (heardIn sentInAll) (c .before) (r ∷ c .after)
-                ∙ ap (λ (l : List Reception). chosen (heardIn sentInAll) (c .before) ++ l) (chosen-here (heardIn sentInAll) r (c .after) is-heard);
+                ap (keep (heardIn sentInAll)) (c .split) ∙ keep-append (heardIn sentInAll) (c .before) (r ∷ c .after)
+                ∙ ap (λ (l : List Reception). keep (heardIn sentInAll) (c .before) ++ l) (keep-here (heardIn sentInAll) r (c .after) is-heard);
             made = subst (λ (l : List (List ℕ)). r .transmission < length l) (sym was) (c .made);
           }
 
       pub rounds-taken : TakenByAll hears nodes first (heardOnly)
-      rounds-taken = record { once = chosen-once (heardIn sentInAll) everything (rounds-once (length nodes) k); by-all = heard-all }
+      rounds-taken = record { once = kept-once (heardIn sentInAll) everything (rounds-once (length nodes) k); by-all = heard-all }
 
       pub rounds-only : ByNoOther hears nodes first (heardOnly)
-      rounds-only r m = is-within r (chosen-are (heardIn sentInAll) everything m .1)
+      rounds-only r m = is-within r (kept-are (heardIn sentInAll) everything m .1)
 
 -- as many rounds as demand 3's bound are enough, whoever hears whom
 pub taken-exists : (hears : ℕ → ℕ → Bool) (nodes : List Repeater) → Nodes nodes → (first : List ℕ) → Begins first

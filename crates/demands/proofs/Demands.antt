@@ -3,12 +3,14 @@ use Prim.Native.Nat.{ℕ, _^_, _≤_, _<_}
 use native.Mathlib.Omega.{arith}
 use mathlib.Core.Bool.{Bool, true, false, cond, _||_}
 use mathlib.Core.List.{List, [], _∷_, _++_, map}
-use mathlib.Core.Logic.{_⊎_}
+use mathlib.Core.Logic.{_≢_, _⊎_}
 use mathlib.Core.Path.{_≡_, refl, ap, sym, _∙_}
 use lib.Dec.{ltb}
 use lib.ListN.{length, take, drop}
-use borrow.Author.Tests.{ne-eqb, lt-ltb, le-ltb}
+use borrow.Author.Tests.{ne-eqb, eqb-false, lt-ltb, le-ltb}
 use Rattle.octets.specs.Octets.{AllBytes, over}
+use Rattle.pdu.specs.declared.Destination.{Destination}
+use Rattle.pdu.specs.declared.Destination.the-variants.{Everyone, Address}
 use Rattle.pdu.specs.declared.Header.{Header}
 use Rattle.pdu.specs.declared.Reading.{Reading}
 use Rattle.pdu.specs.declared.Reading.the-variants.{Pdu, Refused}
@@ -26,7 +28,7 @@ use Rattle.origin.specs.declared.FreshSettings.{FreshSettings}
 use Rattle.origin.specs.Origination.{settingsFault, originationNumber, originated, originatedOutput}
 use Rattle.lists.specs.Lists.{listFault}
 use Rattle.lists.proofs.Laying.{holds-laid}
-use Rattle.decision.specs.Decision.{Node, repeatFault}
+use Rattle.decision.specs.Decision.{Node, isForOwn, repeatFault}
 use Rattle.node.specs.Repeat.{repeatedHeader, repeated}
 use Rattle.node.specs.declared.Answer.{Answer}
 use Rattle.node.specs.Answers.{nodeFault, nodeOrReadingFault, repeatNumber, answerOf, twice, outputAfter, Hears}
@@ -46,11 +48,13 @@ use Rattle.batch.proofs.Walking as walking
 use Rattle.bound.specs.Answer.{within64Bits, boundAnswer}
 use Rattle.boundary.specs.Boundary.{boundInC}
 use Rattle.bound.proofs.Values.{bound-3-2, bound-3-6, bound-3-7, bound-no-hops, bound-no-nodes}
+use Rattle.flood.specs.Air.{Repeater, address}
 use Rattle.flood.proofs.Counting.{demand-3, demand-3-bytes}
 use Rattle.flood.proofs.Counting as counting
 use Rattle.flood.proofs.Demand as demand
 use Rattle.flood.proofs.Exact as exact
-use Rattle.flood.proofs.Fresh.{originated-begins, fresh-source, fresh-hop, fresh-destination}
+use Rattle.flood.proofs.Fresh.{originated-begins, fresh-source, fresh-hop, fresh-destination, fresh-shows}
+use Rattle.flood.proofs.Repeaters.{repeaters-are, are-repeaters}
 use Rattle.flood.proofs.Sent.{sent-written, none-written}
 use Rattle.demands.proofs.Behind.{behind}
 use Rattle.demands.proofs.Putting.{put-untouched, put-reads-back, well-formed-put}
@@ -222,6 +226,18 @@ bound-in-c hop value = (
   λ h large. rw (le-ltb 7 hop h, le-ltb value (2 ^ 64) large) refl,
 )
 
+-- a destination that is not the own address
+apart-from : (own : ℕ) (to : Destination) → isForOwn own to ≡ false → to ≢ Address own
+apart-from own Everyone other e = let w : _≡_ {A = ℕ} 0 1 = cc in omega arith
+apart-from own (Address a) other e = let same : a ≡ own = same-address a own e in eqb-false a own other same
+  where
+    same-address : (a b : ℕ) → Address a ≡ Address b → a ≡ b
+    same-address a b e = cc
+
+for-another : (own : ℕ) (to : Destination) → to ≢ Address own → isForOwn own to ≡ false
+for-another own Everyone apart = refl
+for-another own (Address a) apart = ne-eqb a own (λ e. apart (ap Address e))
+
 pub bounded : Demand3
 bounded =
     record {
@@ -244,25 +260,33 @@ bounded =
           };
       begins-asked = λ first small one bit none. record { all-bytes = small; one-pdu = one; path-bit = bit; path-empty = none };
       heard-asked = λ nodes first before after node transmission made. record { before = before; after = after; split = refl; made = made };
-      reached = λ nodes all settings payload room message free roomy fits receptions once complete. (
-        exact.reached nodes all settings payload room message free roomy fits receptions once complete,
-        exact.reached-bytes nodes all settings payload room message free roomy fits receptions once complete,
+      reached = λ nodes all settings payload room message roomy fits receptions once complete. (
+        exact.reached nodes all settings payload room message roomy fits receptions once complete,
+        exact.reached-bytes nodes all settings payload room message roomy fits receptions once complete,
       );
       values = (bound-3-2, bound-3-6, bound-3-7, bound-no-hops, bound-no-nodes);
       in-c = bound-in-c;
       schedule = λ nodes all settings payload room message. demand.schedule nodes all settings payload room message;
       begun-bounded = λ nodes all first begins receptions once.
           (counting.begun-bounded nodes all first begins receptions once, counting.begun-bytes nodes all first begins receptions once);
-      counted = λ source to nodes n m.
-          let (n-in, other, can) = counting.repeaters-are to source nodes m in
-          let (on, apart) = counting.can-means n to can in
-          (n-in, other, apart, on);
-      counted-only = λ source to nodes n m other apart on. counting.are-repeaters to source nodes m other (counting.means-can n to apart on);
+      counted = λ header nodes n m.
+          let (n-in, can) = repeaters-are header nodes m in
+          (n-in, can .clean, can .not-source, can .lets-pass, apart-from (address n) (header .destination) (can .for-another), can .repeating-on);
+      counted-only = λ header nodes n m clean other pass apart on.
+          are-repeaters header nodes m
+          (record {
+            clean = clean;
+            not-source = other;
+            lets-pass = pass;
+            for-another = for-another (address n) (header .destination) apart;
+            repeating-on = on;
+          });
       originated-begins = λ settings payload room message. (
         originated-begins settings payload room message,
         fresh-source settings payload room message,
         fresh-hop settings payload room message,
         fresh-destination settings payload room message,
+        sym (fresh-shows settings payload room message),
       );
       sent-is-left = λ n received output sent long e. sent-written n received output long sent e;
       silent-is-left = λ n received output long e. none-written n received output long e;

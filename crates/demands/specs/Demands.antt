@@ -8,7 +8,6 @@ use mathlib.Core.Path.{_≡_}
 use lib.Dec.{eqb}
 use lib.ListN.{length, take, drop}
 use Rattle.octets.specs.Octets.{AllBytes, at, over}
-use Rattle.pdu.specs.declared.Destination.{Destination}
 use Rattle.pdu.specs.declared.Destination.the-variants.{Address}
 use Rattle.pdu.specs.declared.Extent.{Extent}
 use Rattle.pdu.specs.declared.Header.{Header}
@@ -26,10 +25,10 @@ use Rattle.origin.specs.declared.FreshSettings.{FreshSettings}
 use Rattle.origin.specs.Origination.{freshHeader, fresh, originationNumber, originated, originatedOutput}
 use Rattle.lists.specs.Lists.{Lists, listFault, listsIn, laid}
 use Rattle.decision.specs.declared.Choice.the-variants.{Neither}
-use Rattle.decision.specs.Decision.{Node}
+use Rattle.decision.specs.Decision.{Node, passFault}
 use Rattle.node.specs.declared.Answer.{Answer}
 use Rattle.node.specs.Repeat.{repeatedHeader, repeated}
-use Rattle.node.specs.Answers.{nodeOrReadingFault, repeatNumber, delivered, answerOf, twice, outputAfter, Hears}
+use Rattle.node.specs.Answers.{nodeFault, nodeOrReadingFault, repeatNumber, delivered, answerOf, twice, outputAfter, Hears}
 use Rattle.batch.specs.declared.Cursor.{Cursor}
 use Rattle.batch.specs.declared.Stepped.the-variants.{Answered}
 use Rattle.batch.specs.Walk.{batchLimit, stepOf, stepOutput, walk, steps}
@@ -171,19 +170,19 @@ pub record Demand2 : Type 0 where
 
 -- Demand 3, bounded, over demand 2's rules, as document 02, W-203 has it: any nodes of different addresses with echo on, whatever their lists, settings
 -- and room, the originator among them or not; any message that origination wrote with a path; any receptions of transmissions already made, by the
--- originator too, none twice. N is the number of the repeaters: repeating on, and neither the source nor the destination. A node of the
--- model hears one PDU; by `behind` above that is what a box does at each PDU of a batch, as of those that W-206's queue gives.
+-- originator too, none twice. N is the number of the nodes that can repeat the message. A node of the model hears one PDU; by `behind` above that is what
+-- a box does at each PDU of a batch, as of those that W-206's queue gives.
 pub record Demand3 : Type 0 where
   pub bounded : (nodes : List Repeater) → Nodes nodes → (settings : FreshSettings) (payload : List ℕ) (room : ℕ) → Originated settings payload room
       → (receptions : List Reception) → List·Nodup receptions
-      → Bounded address pathOf (repeaters (settings .source) (settings .destination) nodes) (settings .«hop_limit»)
+      → Bounded address pathOf (repeaters (freshHeader settings (length payload)) nodes) (settings .«hop_limit»)
       (onTheAir nodes (fresh settings payload) receptions)
   -- the bytes on the air
   pub bytes-bounded : (nodes : List Repeater) → Nodes nodes → (settings : FreshSettings) (payload : List ℕ) (room : ℕ)
       → Originated settings payload room
       → (receptions : List Reception) → List·Nodup receptions
       → bytesOnTheAir nodes (fresh settings payload) receptions
-      ≤ bytesBound (length (repeaters (settings .source) (settings .destination) nodes)) (settings .«hop_limit») (length (fresh settings payload))
+      ≤ bytesBound (length (repeaters (freshHeader settings (length payload)) nodes)) (settings .«hop_limit») (length (fresh settings payload))
   -- nothing more than this is asked of the nodes and of the message
   pub nodes-asked : (nodes : List Repeater) → List·Nodup (map address nodes)
       → ((each : Repeater) → List·Memᴰ each nodes → (address each < 65536) × (each .node .settings .echo ≡ true)) → Nodes nodes
@@ -198,11 +197,10 @@ pub record Demand3 : Type 0 where
   pub heard-asked : (nodes : List Repeater) (first : List ℕ) (before after : List Reception) (node transmission : ℕ)
       → transmission < length (onTheAir nodes first before)
       → HasHeard sends nodes (first ∷ []) (before ++ (record { node = node; transmission = transmission } ∷ after)) node transmission
-  -- both are exact where each of the repeaters repeats what it may and has room, and every node hears every transmission
+  -- both are exact where each of the repeaters has room, and every node hears every transmission
   pub reached : (nodes : List Repeater) → Nodes nodes → (settings : FreshSettings) (payload : List ℕ) (room : ℕ) → Originated settings payload room
-      → let counted = repeaters (settings .source) (settings .destination) nodes in
-      ((n : Repeater) → List·Memᴰ n counted → Open (n .node))
-      → ((n : Repeater) → List·Memᴰ n counted → length (fresh settings payload) + 2 * terms (length counted) (settings .«hop_limit») ≤ n .room)
+      → let counted = repeaters (freshHeader settings (length payload)) nodes in
+      ((n : Repeater) → List·Memᴰ n counted → length (fresh settings payload) + 2 * terms (length counted) (settings .«hop_limit») ≤ n .room)
       → (length counted ≤ pathLimit) ⊎ (settings .«hop_limit» < 7)
       → (receptions : List Reception) → List·Nodup receptions → Complete sends nodes (fresh settings payload ∷ []) receptions
       → (length (onTheAir nodes (fresh settings payload) receptions) ≡ bound (length counted) (settings .«hop_limit»))
@@ -222,17 +220,20 @@ pub record Demand3 : Type 0 where
   -- and of whatever else begins a flood, as an originated message does
   pub begun-bounded : (nodes : List Repeater) → Nodes nodes → (first : List ℕ) → Begins first
       → (receptions : List Reception) → List·Nodup receptions
-      → let counted = repeaters (sourceOf first) (headerOf first .destination) nodes in
+      → let counted = repeaters (headerOf first) nodes in
       Bounded address pathOf counted (hopOf first) (onTheAir nodes first receptions)
       × (bytesOnTheAir nodes first receptions ≤ bytesBound (length counted) (hopOf first) (length first))
-  -- who the repeaters are
-  pub counted : (source : ℕ) (to : Destination) (nodes : List Repeater) (n : Repeater) → List·Memᴰ n (repeaters source to nodes)
-      → List·Memᴰ n nodes × (address n ≢ source) × (to ≢ Address (address n)) × (n .node .settings .repeating ≡ true)
-  pub counted-only : (source : ℕ) (to : Destination) (nodes : List Repeater) (n : Repeater) → List·Memᴰ n nodes → address n ≢ source
-      → to ≢ Address (address n) → n .node .settings .repeating ≡ true → List·Memᴰ n (repeaters source to nodes)
+  -- who the repeaters are: a node without a fault (17, or of a list), whose lists let the message pass, whose repeating is on, and which is neither the
+  -- message's source nor its destination
+  pub counted : (header : Header) (nodes : List Repeater) (n : Repeater) → List·Memᴰ n (repeaters header nodes)
+      → List·Memᴰ n nodes × (nodeFault (n .node) ≡ 0) × (address n ≢ header .source) × (passFault (n .node) header ≡ 0)
+      × (header .destination ≢ Address (address n)) × (n .node .settings .repeating ≡ true)
+  pub counted-only : (header : Header) (nodes : List Repeater) (n : Repeater) → List·Memᴰ n nodes → nodeFault (n .node) ≡ 0 → address n ≢ header .source
+      → passFault (n .node) header ≡ 0 → header .destination ≢ Address (address n) → n .node .settings .repeating ≡ true
+      → List·Memᴰ n (repeaters header nodes)
   pub originated-begins : (settings : FreshSettings) (payload : List ℕ) (room : ℕ) → Originated settings payload room
       → Begins (fresh settings payload) × (sourceOf (fresh settings payload) ≡ settings .source) × (hopOf (fresh settings payload) ≡ settings .«hop_limit»)
-      × (headerOf (fresh settings payload) .destination ≡ settings .destination)
+      × (headerOf (fresh settings payload) .destination ≡ settings .destination) × (headerOf (fresh settings payload) ≡ freshHeader settings (length payload))
   -- what a node of the model sends is what `hear` leaves at the start of its output; where it sends nothing, `hear` repeats nothing
   pub sent-is-left : (n : Repeater) (received output sent : List ℕ) → length output ≡ n .room → sends n received ≡ some sent
       → take (answerOf (n .node) (length output) received .«repeated_length») (outputAfter (n .node) received output) ≡ sent

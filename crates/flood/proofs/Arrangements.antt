@@ -15,12 +15,12 @@ use Rattle.flood.proofs.Lists.{total-append, total-map, without, mem-wi
 
 -- lists of lists, joined
 module _ {A B : Type 0} where
-  mem-flatMap : (f : A → List B) {a : A} {b : B} {l : List A} → List·Memᴰ a l → List·Memᴰ b (f a) → List·Memᴰ b (flatMap f l)
+  pub mem-flatMap : (f : A → List B) {a : A} {b : B} {l : List A} → List·Memᴰ a l → List·Memᴰ b (f a) → List·Memᴰ b (flatMap f l)
   unfolding flatMap
   mem-flatMap f {b = b} (List·Memᴰ·head {xs = xs} e) h = Memᴰ·append-left (flatMap f xs) (subst (λ (c : A). List·Memᴰ b (f c)) e h)
   mem-flatMap f (List·Memᴰ·tail {x = x} m) h = Memᴰ·append-right (f x) (mem-flatMap f m h)
 
-  of-flatMap : (f : A → List B) (l : List A) {b : B} → List·Memᴰ b (flatMap f l) → (a : A) × List·Memᴰ a l × List·Memᴰ b (f a)
+  pub of-flatMap : (f : A → List B) (l : List A) {b : B} → List·Memᴰ b (flatMap f l) → (a : A) × List·Memᴰ a l × List·Memᴰ b (f a)
   unfolding flatMap
   of-flatMap f [] m = absurd (List·Memᴰ·not-nil m)
   of-flatMap f (x ∷ l) m =
@@ -43,7 +43,7 @@ module _ {A B : Type 0} where
 
 module _ {A B K : Type 0} (f : A → List B) (key : A → K)
     (told : (a b : A) (x : B) → List·Memᴰ x (f a) → List·Memᴰ x (f b) → key a ≡ key b) where
-  nodup-flatMap : (l : List A) → List·Nodup (map key l) → ((a : A) → List·Memᴰ a l → List·Nodup (f a)) → List·Nodup (flatMap f l)
+  pub nodup-flatMap : (l : List A) → List·Nodup (map key l) → ((a : A) → List·Memᴰ a l → List·Nodup (f a)) → List·Nodup (flatMap f l)
   unfolding flatMap
   nodup-flatMap [] d each = nodup-nil
   nodup-flatMap (x ∷ l) d each =

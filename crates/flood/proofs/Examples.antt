@@ -23,8 +23,8 @@ use Rattle.decision.specs.declared.Choice.the-variants.{Neither}
 use Rattle.decision.specs.Decision.{nodeOf, echoFault, passFault, dropFault, repeatFault}
 use Rattle.node.specs.Repeat.{repeated}
 use Rattle.node.specs.Answers.{nodeFault, nodeOrReadingFault, stopFault, repeatNumber}
-use Rattle.flood.specs.Air.{Repeater, address, sends, pathOf, onTheAir, thoseThatCan, repeaters, Nodes, Open, Originated}
-use Rattle.flood.specs.Flood.{Reception, flood, answer, total, others}
+use Rattle.flood.specs.Air.{Repeater, address, sends, pathOf, onTheAir, canRepeat, repeaters, Nodes, Open, Originated}
+use Rattle.flood.specs.Flood.{Reception, flood, answer, total, others, keep}
 use Rattle.flood.proofs.Counting.{demand-3}
 use Rattle.flood.proofs.Lists.{nodup-more}
 use Rattle.flood.proofs.Rounds.{round, rounds}
@@ -192,8 +192,8 @@ pair-fit : (a : ℕ) → List·Memᴰ {A = ℕ} a (1000 ∷ 1 ∷ []) → a < 65
 pair-fit a m =
     ⊎-elim (λ (e : a ≡ 1000). omega arith) (λ k. let e : a ≡ 1 = List·Memᴰ·eq-of-singleton k in omega arith) (List·Memᴰ·cases-cons m)
 
-pair-most : bound (length (repeaters 1000 Everyone (pair true))) 2 ≡ 2
-unfolding bound series fallingProduct terms others thoseThatCan
+pair-most : bound (length (repeaters (freshHeader (asked true 2) 1) (pair true))) 2 ≡ 2
+unfolding bound series fallingProduct terms repeaters keep canRepeat freshHeader nodeFault _orElse_ _gives_ firstFault faultOf lowAboveHigh passFault
 pair-most = refl
 
 pub never-three : (receptions : List Reception) → List·Nodup receptions → length (onTheAir (pair true) (begun true 2) receptions) ≤ 2

@@ -6,10 +6,12 @@ pub mod Exact
 pub mod Examples
 pub mod Fresh
 pub mod Invariant
+pub mod Kept
 pub mod Lists
 pub mod Network
 pub mod Others
 pub mod Reached
+pub mod Repeaters
 pub mod Rounds
 pub mod Runs
 pub mod Sent

@@ -26,13 +26,13 @@ use Rattle.flood.proofs.Runs.{stays, Closed, complete-close, rounds-com
 abbrev pub Allows : ℕ → ℕ → Type 0
 Allows m hop = (hop ≡ 7) ⊎ (m ≤ hop)
 
-allows-terms : (n h : ℕ) → Allows (terms n h) h
+pub allows-terms : (n h : ℕ) → Allows (terms n h) h
 allows-terms n h = by-cases (ℕ-discrete h 7) inl (λ ne. inr (omega (arith, terms-below n h ne)))
 
-allows-some : (m h : ℕ) → Allows (suc m) h → h ≢ 0
+pub allows-some : (m h : ℕ) → Allows (suc m) h → h ≢ 0
 allows-some m h = λ a z. ⊎-elim {C = ⊥} (λ e. omega arith) (λ l. omega arith) a
 
-allows-lowered : (m h : ℕ) → Allows (suc m) h → Allows m (lowered h)
+pub allows-lowered : (m h : ℕ) → Allows (suc m) h → Allows m (lowered h)
 allows-lowered m h a =
     by-cases (ℕ-discrete h 7)
     (λ e. inl (rw (eq-eqb h 7 e)))

@@ -7,8 +7,8 @@ use Prim.Native.Nat.{ℕ, _<_}
 use lib.Dec.{eqb}
 use lib.ListN.{length}
 use Rattle.octets.specs.Octets.{AllBytes}
-use Rattle.pdu.specs.declared.Destination.{Destination}
 use Rattle.pdu.specs.declared.Destination.the-variants.{Address}
+use Rattle.pdu.specs.declared.Header.{Header}
 use Rattle.pdu.specs.Header.{headerOf}
 use Rattle.pdu.specs.Reading.{exactlyOne}
 use Rattle.pdu.specs.Parts.{pathIn}
@@ -17,10 +17,10 @@ use Rattle.origin.specs.declared.FreshSettings.{FreshSettings}
 use Rattle.origin.specs.Origination.{originationNumber}
 use Rattle.lists.specs.Lists.{listFault}
 use Rattle.decision.specs.declared.Choice.the-variants.{Neither}
-use Rattle.decision.specs.Decision.{Node, isForOwn}
+use Rattle.decision.specs.Decision.{Node, isForOwn, passFault}
 use Rattle.node.specs.Repeat.{repeated}
-use Rattle.node.specs.Answers.{repeatNumber}
-use Rattle.flood.specs.Flood.{Reception, flood, total, others}
+use Rattle.node.specs.Answers.{nodeFault, repeatNumber}
+use Rattle.flood.specs.Flood.{Reception, flood, total, keep}
 
 -- a node of a network: the node, and the bytes of its output (One PDU at one node; number 40)
 pub record Repeater : Type 0 where
@@ -50,17 +50,16 @@ onTheAir nodes first receptions = flood sends nodes (first ∷ []) receptions
 abbrev pub bytesOnTheAir : List Repeater → List ℕ → List Reception → ℕ
 bytesOnTheAir nodes first receptions = total length (onTheAir nodes first receptions)
 
--- whether a node can repeat what is sent to that destination: its repeating is on, and it is not the destination (One PDU at one node, 6: 36 and 41)
-abbrev pub canRepeat : Destination → Repeater → Bool
-canRepeat to repeater = repeater .node .settings .repeating && not (isForOwn (address repeater) to)
+-- Whether a node can repeat a message with that header (One PDU at one node): no fault of its own (1; document 02, W-209), not the source (W-203), lists
+-- that let the message pass (4), not the destination (6: 41), and repeating on (6: 36). Source and destination are the same in every transmission.
+unfoldable pub canRepeat : Header → Repeater → Bool
+canRepeat header repeater =
+    (eqb (nodeFault (repeater .node)) 0 && not (eqb (header .source) (address repeater)))
+    && (eqb (passFault (repeater .node) header) 0 && (not (isForOwn (address repeater) (header .destination)) && repeater .node .settings .repeating))
 
-unfoldable pub thoseThatCan : Destination → List Repeater → List Repeater
-thoseThatCan to [] = []
-thoseThatCan to (repeater ∷ nodes) = cond (canRepeat to repeater) (repeater ∷ thoseThatCan to nodes) (thoseThatCan to nodes)
-
--- the nodes that demand 3 counts, its N: those that can repeat the message, without the originator
-abbrev pub repeaters : ℕ → Destination → List Repeater → List Repeater
-repeaters source to nodes = thoseThatCan to (others address source nodes)
+-- the nodes that demand 3 counts, its N
+unfoldable pub repeaters : Header → List Repeater → List Repeater
+repeaters header nodes = keep (canRepeat header) nodes
 
 -- Demand 3's nodes: different addresses, echo on; any address from 0 to 65,535 is allowed. Edition, lists, repeating and room are as they may be. The
 -- originator, the node at the source address, may be one of them (document 02, W-203).

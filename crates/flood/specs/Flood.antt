@@ -1,5 +1,5 @@
 -- What happens to one message among nodes that repeat it, and demand 3's bounds. Over any type of node and of message. Assumes nothing.
-use mathlib.Core.Bool.{cond}
+use mathlib.Core.Bool.{Bool, cond}
 use mathlib.Core.Option.{Option, none, some}
 use mathlib.Core.List.{List, [], _∷_, _++_, map, List·Memᴰ, List·Nodup}
 use Prim.Native.Nat.{ℕ, _+_, _≤_, _<_}
@@ -34,7 +34,12 @@ unfoldable pub total : {A : Type 0} → (A → ℕ) → List A → ℕ
 total weight [] = 0
 total weight (x ∷ l) = weight x + total weight l
 
--- Document 02, W-203: the nodes that count, which are those whose address is not the message's source. The one at that address is the originator.
+-- those of a list that pass a test
+unfoldable pub keep : {A : Type 0} → (A → Bool) → List A → List A
+keep test [] = []
+keep test (x ∷ l) = cond (test x) (x ∷ keep test l) (keep test l)
+
+-- Document 02, W-203: the nodes other than the originator, which are those whose address is not the message's source.
 module _ {Node : Type 0} (own : Node → ℕ) where
   unfoldable pub others : ℕ → List Node → List Node
   others source [] = []

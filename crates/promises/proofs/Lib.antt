@@ -36,6 +36,7 @@ pub mod Sealing
 pub mod Genuine
 pub mod Opening
 pub mod Chains
+pub mod Ways
 pub mod Bound
 pub mod Boundary
 pub mod Mant

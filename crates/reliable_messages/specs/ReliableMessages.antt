@@ -158,7 +158,7 @@ pub record ReliableMessages : Type 0 where
       → Begins (acknowledgement sending names) × (hopOf (acknowledgement sending names) ≡ sending .«hop_limit»)
       × (sourceOf (acknowledgement sending names) ≡ names .destination)
   pub counted : (nodes : List Repeater) → Nodes nodes → (first : List ℕ) → Begins first → (receptions : List Reception) → List·Nodup receptions
-      → Bounded address pathOf (repeaters (sourceOf first) (headerOf first .destination) nodes) (hopOf first) (onTheAir nodes first receptions)
+      → Bounded address pathOf (repeaters (headerOf first) nodes) (hopOf first) (onTheAir nodes first receptions)
   -- II. CASE BY CASE, what the definitions of a record, of retaining, of a step and of a PDU heard say
   -- a record is free exactly where 75 or 72 would refuse its PDU; what was dropped or freed is
   pub used : (r : Retained) → isUsed r ≡ true → (r .length ≤ 256) × (unfit (pduOf r) ≡ 0)

@@ -3,7 +3,7 @@ use Prim.Native.Nat.{_+_, _-_, _≤_}
 use mathlib.Core.List.{_++_}
 use mathlib.Core.Path.{_≡_, refl}
 use Rattle.chains.specs.Lengths.{noChain}
-use Rattle.chains.proofs.Noting.{clear-next, clear-over}
+use Rattle.chains.proofs.Bytes.{clear-next, clear-over}
 use native.Mathlib.Omega.{arith}
 use borrow.Author.Needs.{needs}
 use Rattle.chains.proofs.clear.Statement.{statement}
@@ -30,13 +30,13 @@ loop-less c = search needs
 loop-again : tie.Need-loop-again Inv-loop μ-loop
 loop-again c =
     let l = c .before .loop in
-    (omega arith, simp length-set (l .inv .1), clear-next _ _ (l .i) (l .i + 1) (omega arith) (l .inv .2) (omega arith))
+    (omega arith, simp length-set (l .inv .1), clear-next noChain _ _ (l .i) (l .i + 1) (omega arith) (l .inv .2) (omega arith))
 
 same-length : tie.Need-same-length Inv-loop μ-loop
 same-length c = search needs
 
 returns : tie.Need-returns Inv-loop μ-loop
-returns c = let l = c .before .loop in clear-over _ _ (l .i) (omega arith) (l .inv .2)
+returns c = let l = c .before .loop in clear-over noChain _ _ (l .i) (omega arith) (l .inv .2)
 
 pub clear-spec : {M : Type 1} → statement M
 clear-spec =

@@ -2,7 +2,7 @@ use denote.Ref.{now}
 use Prim.Native.Nat.{_+_, _-_, _≤_, _<_}
 use mathlib.Core.Path.{_≡_}
 use Rattle.chains.specs.Lengths.{nodeLimit}
-use Rattle.chains.proofs.Finding.{too-many, not-a-node, begun-known, round-known, all-found}
+use Rattle.chains.proofs.Finding.{too-many, not-a-node, begun-known, round-known, all-found, none-further}
 use Rattle.chains.proofs.Rounds.{Known}
 use native.Mathlib.Omega.{arith}
 use borrow.Author.Needs.{needs}
@@ -47,9 +47,29 @@ add-k c = search needs
 loop-less : tie.Need-loop-less Inv-loop μ-loop
 loop-less c = search needs
 
+is-anywhere-requires : tie.Need-is-anywhere-requires Inv-loop μ-loop
+is-anywhere-requires c κs = search needs
+
+same-length : tie.Need-same-length Inv-loop μ-loop
+same-length c =
+    let round = c .before .before .before .before .before in
+    let l = round .before .before .before .loop in
+    let a = round .before .before .before .before .before .before .before .before .before .before .before .before .before .args in
+    round-known (now (a .pairs)) (a .from) (now (a .lengths)) (l .k) _ _ (l .inv .0) (omega arith) (round .round .ensures) (l .inv .4) .size
+
+returns-3 : tie.Need-returns-3 Inv-loop μ-loop
+returns-3 c =
+    let sought = c .before in
+    let round = sought .before .before .before .before in
+    let l = round .before .before .before .loop in
+    let a = round .before .before .before .before .before .before .before .before .before .before .before .before .before .args in
+    none-further (now (a .pairs)) (a .from) (now (a .lengths)) (l .k + 1) _ _ (l .inv .0) (l .inv .1) (omega arith) (sought .is-anywhere .ensures)
+    (c .if3 .taken)
+    (round-known (now (a .pairs)) (a .from) (now (a .lengths)) (l .k) _ _ (l .inv .0) (omega arith) (round .round .ensures) (l .inv .4))
+
 loop-again : tie.Need-loop-again Inv-loop μ-loop
 loop-again c =
-    let round = c .before .before in
+    let round = c .before .before .before .before .before in
     let at-loop = round .before .before .before in
     let l = at-loop .loop in
     let a = at-loop .before .before .before .before .before .before .before .before .before .before .args in (
@@ -60,11 +80,11 @@ loop-again c =
       round-known (now (a .pairs)) (a .from) (now (a .lengths)) (l .k) _ _ (l .inv .0) (omega arith) (round .round .ensures) (l .inv .4),
     )
 
-same-length : tie.Need-same-length Inv-loop μ-loop
-same-length c = c .before .loop .inv .4 .size
+same-length-2 : tie.Need-same-length-2 Inv-loop μ-loop
+same-length-2 c = c .before .loop .inv .4 .size
 
-returns-3 : tie.Need-returns-3 Inv-loop μ-loop
-returns-3 c =
+returns-4 : tie.Need-returns-4 Inv-loop μ-loop
+returns-4 c =
     let l = c .before .loop in
     let a = c .before .before .before .before .before .before .before .before .before .before .before .args in
     all-found (now (a .pairs)) (a .from) (now (a .lengths)) (l .k) (l .lengths) (l .inv .0) (l .inv .1) (omega arith) (l .inv .4)
@@ -83,7 +103,10 @@ find-lengths-spec =
     loop-holds
     round-requires
     add-k
+    is-anywhere-requires
+    same-length
+    returns-3
     loop-less
     loop-again
-    same-length
-    returns-3)
+    same-length-2
+    returns-4)

@@ -1,0 +1,2 @@
+pub mod Airtime
+pub mod Marks

@@ -1,0 +1,2 @@
+pub mod OwnNetwork
+pub mod Cases

@@ -1,0 +1,4 @@
+pub mod Ways
+pub mod Answer
+pub mod Table
+pub mod Tally
