@@ -1,12 +1,15 @@
 -- W-207 from its parts.
+use native.Mathlib.Omega.{arith}
 use Prim.Native.Nat.{ℕ}
+use lib.ListN.{length, drop}
 use mathlib.Core.List.{List, [], _∷_, _++_, flatten}
 use mathlib.Core.Path.{_≡_, refl, ap, sym, _∙_}
 use Rattle.octets.specs.Numbers.{_gives_, _orElse_}
-use Rattle.octets.specs.Octets.{placed}
+use Rattle.octets.specs.Octets.{wordAt, wordBytes, placed}
+use Rattle.octets.proofs.Placing.{is-placed}
 use Rattle.pdu.specs.Header.{headerOf}
 use Rattle.pdu.specs.Reading.{readOf, exactlyOne}
-use Rattle.queue.specs.Queue.{heldIn, pdusIn, numbered, levelOf, keptLevel, memoryAfterClear, fitting}
+use Rattle.queue.specs.Queue.{memoryLength, heldIn, pdusIn, numbered, levelOf, keptLevel, Empty, memoryAfterClear, fitting}
 use Rattle.queue.proofs.Memory.{kept-claimed, kept-walk, empty-kept, clear-kept, clear-held, clear-level, clear-behind}
 use Rattle.transmit.specs.Adding.{addNumber, withAdded, memoryAfterAdd}
 use Rattle.transmit.specs.Taking.{batchOf, released, memoryAfterTake}
@@ -40,6 +43,19 @@ module _ where
   unfolding heldIn pdusIn flatten readOf headerOf
   hand-there = (refl, refl)
 
+-- what a clear leaves
+clear-is : (memory : List ℕ) → length memory ≡ memoryLength → memoryAfterClear memory ≡ 0 ∷ 0 ∷ 0 ∷ 0 ∷ 0 ∷ 0 ∷ drop 6 memory
+unfolding memoryAfterClear numbered
+clear-is memory long = is-placed memory 0 (wordBytes 0 ++ wordBytes 0 ++ wordBytes 0) (omega (arith, long))
+
+clear-empty : (memory : List ℕ) → length memory ≡ memoryLength → Empty (memoryAfterClear memory)
+clear-empty memory long =
+    record {
+      long = clear-kept memory long .long;
+      pdus = ap (λ (m : List ℕ). wordAt m 0) (clear-is memory long);
+      bytes = ap (λ (m : List ℕ). wordAt m 2) (clear-is memory long);
+    }
+
 pub queue-level : QueueLevel
 unfolding batchOf
 queue-level =
@@ -60,6 +76,7 @@ queue-level =
       drops-all = clear-held;
       to-zero = clear-level;
       behind = clear-behind;
+      cleared = λ memory long. (clear-is memory long, clear-empty memory long);
       after-clear = clear-there;
       after-take = take-there;
       after-refusal = refusal-there;

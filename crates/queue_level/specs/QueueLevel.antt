@@ -46,6 +46,9 @@ pub record QueueLevel : Type 0 where
   pub drops-all : (memory : List ℕ) → length memory ≡ memoryLength → heldIn (memoryAfterClear memory) ≡ []
   pub to-zero : (memory : List ℕ) → length memory ≡ memoryLength → keptLevel (memoryAfterClear memory) ≡ level 0 0
   pub behind : (memory : List ℕ) → length memory ≡ memoryLength → drop 6 (memoryAfterClear memory) ≡ drop 6 memory
+  -- all three numbers are 0, so any memory is an empty queue once it is cleared
+  pub cleared : (memory : List ℕ) → length memory ≡ memoryLength
+      → (memoryAfterClear memory ≡ 0 ∷ 0 ∷ 0 ∷ 0 ∷ 0 ∷ 0 ∷ drop 6 memory) × Empty (memoryAfterClear memory)
   -- IV. WORKED CASES
   -- after a clear; after a take of two of three; after an add that was refused
   pub after-clear : keptLevel (after (Clearing ∷ Adding of7 ∷ Adding of6 ∷ [])) ≡ level 0 0

@@ -1,7 +1,7 @@
 -- W-206 from its parts.
 use Prim.Native.Nat.{ℕ, _+_, _≤_, _<_}
 use native.Mathlib.Omega.{arith}
-use mathlib.Core.Bool.{Bool, true, false}
+use mathlib.Core.Bool.{Bool, true, false, not, _&&_}
 use mathlib.Core.List.{List, [], _∷_, _++_, flatten}
 use mathlib.Core.Logic.{_⊎_, inl, inr}
 use mathlib.Core.Path.{_≡_, refl}
@@ -12,13 +12,14 @@ use Rattle.octets.specs.Numbers.{_gives_, _orElse_}
 use Rattle.octets.specs.Octets.{placed}
 use Rattle.pdu.specs.Header.{headerOf}
 use Rattle.pdu.specs.Reading.{readOf, exactlyOne}
+use Rattle.node.specs.declared.Answer.{Answer}
 use Rattle.node.proofs.Faults.{no-fault}
 use Rattle.queue.specs.Queue.{memoryLength, heldIn, pdusIn, numbered, Kept, fitting, front}
 use Rattle.queue.proofs.Runs.{exact-at, exact-take, front-back, front-fits, front-longest}
 use Rattle.queue.proofs.Memory.{holds, empty-held}
 use Rattle.transmit.specs.Adding.{addNumber, withAdded, memoryAfterAdd}
 use Rattle.transmit.specs.Taking.{takeNumber, batchOf, released, memoryAfterTake}
-use Rattle.transmit.specs.History.{Adding, Taking, memoryAfter, accepted, takenAndCleared}
+use Rattle.transmit.specs.History.{Adding, Taking, memoryAfter, accepted, takenAndCleared, isUnreadable, allReadable}
 use Rattle.transmit.proofs.Answers.{not-one, none-held, oldest-too-long, oldest-fits, written-first}
 use Rattle.transmit.proofs.Kept.{full-of-pdus, full-of-bytes, add-held, take-held}
 use Rattle.transmit.proofs.Histories.{queued}
@@ -68,6 +69,21 @@ module _ where
   unfolding heldIn pdusIn numbered placed flatten fitting readOf headerOf released memoryAfterTake
   moved-there = refl
 
+  stays-at : let memory = numbered 2 13 506 (placed emptyMemory 512 (of6 ++ of7)) in
+      take 6 (memoryAfterTake 6 memory) ≡ 0 ∷ 1 ∷ 0 ∷ 7 ∷ 2 ∷ 0 ∷ []
+  unfolding heldIn pdusIn numbered placed flatten fitting readOf headerOf released memoryAfterTake
+  stays-at = refl
+
+  moved-from : let memory = numbered 2 13 507 (placed emptyMemory 513 (of6 ++ of7)) in
+      take 13 (memoryAfterTake 6 memory) ≡ 0 ∷ 1 ∷ 0 ∷ 7 ∷ 0 ∷ 0 ∷ of7
+  unfolding heldIn pdusIn numbered placed flatten fitting readOf headerOf released memoryAfterTake
+  moved-from = refl
+
+  asked-each : (answer : Answer) (later : List Answer)
+      → allReadable (answer ∷ later) ≡ (not (isUnreadable (answer .delivery)) && not (isUnreadable (answer .repeat)) && allReadable later)
+  unfolding allReadable
+  asked-each answer later = refl
+
   held-by-hand : heldIn (placed (replicate memoryLength 0xFF) 518 (of6 ++ of7 ++ (0x40 ∷ of6))) ≡ of6 ∷ of7 ∷ []
   unfolding heldIn pdusIn placed readOf headerOf
   held-by-hand = refl
@@ -101,6 +117,7 @@ transmit-queue =
     record {
       sized = refl;
       empty = empty-held;
+      empty-asked = λ memory long pdus bytes. record { long = long; pdus = pdus; bytes = bytes };
       always = λ memory empty deeds. queued memory empty deeds .level;
       limits = λ memory. (omega (arith, holds memory .few), omega (arith, holds memory .short));
       whole = λ memory. exact-at (heldIn memory) (holds memory .exact);
@@ -124,6 +141,8 @@ transmit-queue =
           let exact = exact-take (fitting room (heldIn memory)) (heldIn memory) (holds memory .exact) in
           let r = walk-reads node output (no-fault node named clean) pdus exact (front-short room memory) in
           (r .number, r .offsets, r .answers, r .ends);
+      unreadable = (refl, refl, refl, refl);
+      each-readable = asked-each;
       oldest-first = in-order-there;
       accepted-only = accepted-there;
       none-passed = none-passed-there;
@@ -133,5 +152,7 @@ transmit-queue =
       at-2049 = add-2049;
       stayed = stayed-there;
       moved = moved-there;
+      at-512 = stays-at;
+      at-513 = moved-from;
       by-hand = held-by-hand;
     }

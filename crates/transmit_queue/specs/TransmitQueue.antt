@@ -1,22 +1,23 @@
 -- Document 02, W-206, as one record, with W-207's clears in its histories; `proofs/TransmitQueue.antt` gives it from its parts. "Any memory" is any
 -- bytes at all; `Kept` is asked of a queue that began empty, and every such queue has it (`always`).
 use Prim.Native.Nat.{ℕ, _+_, _≤_, _<_}
-use mathlib.Core.Bool.{true, false}
+use mathlib.Core.Bool.{true, false, not, _&&_}
 use mathlib.Core.List.{List, [], _∷_, _++_, flatten}
 use mathlib.Core.Logic.{_⊎_}
 use mathlib.Core.Path.{_≡_}
 use lib.ListN.{length, getD, take, drop, replicate}
-use Rattle.octets.specs.Octets.{placed}
+use Rattle.octets.specs.Octets.{wordAt, placed}
 use Rattle.pdu.specs.Reading.{exactlyOne}
 use Rattle.lists.specs.Lists.{listFault}
 use Rattle.decision.specs.Decision.{Node}
 use Rattle.editions.specs.Editions.{known}
+use Rattle.node.specs.declared.Answer.{Answer}
 use Rattle.batch.specs.Walk.{walk}
 use Rattle.queue.specs.Queue.{memoryLength, heldIn, numbered, Empty, Kept, front, back}
 use Rattle.transmit.specs.declared.Batch.{Batch}
 use Rattle.transmit.specs.Adding.{addNumber, memoryAfterAdd}
 use Rattle.transmit.specs.Taking.{batchOf, outputAfterTake, memoryAfterTake}
-use Rattle.transmit.specs.History.{Deed, Adding, Taking, memoryAfter, accepted, takenAndCleared, places, allReadable}
+use Rattle.transmit.specs.History.{Deed, Adding, Taking, memoryAfter, accepted, takenAndCleared, places, isUnreadable, allReadable}
 
 -- what taking answers: the number, and how many PDUs and bytes
 abbrev pub batch : ℕ → ℕ → ℕ → Batch
@@ -49,6 +50,7 @@ pub record TransmitQueue : Type 0 where
   -- a memory is 2,566 bytes; one whose first four bytes are 0 holds none
   pub sized : memoryLength ≡ 2566
   pub empty : (memory : List ℕ) → Empty memory → heldIn memory ≡ []
+  pub empty-asked : (memory : List ℕ) → length memory ≡ memoryLength → wordAt memory 0 ≡ 0 → wordAt memory 2 ≡ 0 → Empty memory
   -- its level is that of what is held, and still is after any adds, takes and clears
   pub always : (memory : List ℕ) → Empty memory → (deeds : List Deed) → Kept (memoryAfter memory deeds)
   -- any memory holds at most 32, of at most 2,048 bytes, and each is exactly one PDU
@@ -100,6 +102,10 @@ pub record TransmitQueue : Type 0 where
   pub walked : (memory : List ℕ) (room : ℕ) (node : Node) (output : ℕ) → known (node .settings .edition) ≡ true → listFault (node .lists) ≡ 0
       → let pdus = front room (heldIn memory) in let found = walk node output (flatten pdus) in
       (found .number ≡ 0) × (found .offsets ≡ places 0 pdus) × (allReadable (found .answers) ≡ true) × (found .end ≡ length (flatten pdus))
+  -- which numbers these are, and that both numbers of each answer are asked
+  pub unreadable : (isUnreadable 0 ≡ false) × (isUnreadable 1 ≡ true) × (isUnreadable 6 ≡ true) × (isUnreadable 7 ≡ false)
+  pub each-readable : (answer : Answer) (later : List Answer)
+      → allReadable (answer ∷ later) ≡ (not (isUnreadable (answer .delivery)) && not (isUnreadable (answer .repeat)) && allReadable later)
   -- IV. WORKED CASES
   -- the oldest first: of 6, 7 and 8 bytes, 14 are room for two, and the third stays
   pub oldest-first : let deeds = Taking 14 ∷ Adding of8 ∷ Adding of7 ∷ Adding of6 ∷ [] in
@@ -117,6 +123,11 @@ pub record TransmitQueue : Type 0 where
   -- what is left stays where it stands while 2,048 bytes still fit behind its place, here 6 bytes behind the numbers, and else is moved to the front
   pub stayed : take 19 (memoryAfter emptyMemory (Taking 6 ∷ Adding of7 ∷ Adding of6 ∷ [])) ≡ 0 ∷ 1 ∷ 0 ∷ 7 ∷ 0 ∷ 6 ∷ of6 ++ of7
   pub moved : let memory = numbered 2 13 512 (placed emptyMemory 518 (of6 ++ of7)) in
+      take 13 (memoryAfterTake 6 memory) ≡ 0 ∷ 1 ∷ 0 ∷ 7 ∷ 0 ∷ 0 ∷ of7
+  -- it stays at place 512, and is moved from 513
+  pub at-512 : let memory = numbered 2 13 506 (placed emptyMemory 512 (of6 ++ of7)) in
+      take 6 (memoryAfterTake 6 memory) ≡ 0 ∷ 1 ∷ 0 ∷ 7 ∷ 2 ∷ 0 ∷ []
+  pub at-513 : let memory = numbered 2 13 507 (placed emptyMemory 513 (of6 ++ of7)) in
       take 13 (memoryAfterTake 6 memory) ≡ 0 ∷ 1 ∷ 0 ∷ 7 ∷ 0 ∷ 0 ∷ of7
   -- arbitrary bytes: numbers above what they can be count as that, and those held end where none can be read
   pub by-hand : heldIn (placed (replicate memoryLength 0xFF) 518 (of6 ++ of7 ++ (0x40 ∷ of6))) ≡ of6 ∷ of7 ∷ []
