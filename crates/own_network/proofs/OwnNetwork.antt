@@ -229,5 +229,7 @@ own-network =
       in-line = cases.in-line;
       two-ways = cases.two-ways;
       all-three = cases.all-three;
-      two-ways-run = two-ways-run;
+      two-ways-run = (cases.roomy, cases.six, two-ways-run);
+      roomy-asked = λ hears nodes settings payload room fits. record { roomy = room; path-fits = fits };
+      marks-asked = λ marks header nodes size says. record { size = size; says = says };
     }

@@ -8,15 +8,17 @@ use Prim.Native.Nat.{ℕ, _+_, _*_, _≤_, _<_}
 use lib.Dec.{eqb}
 use lib.ListN.{length, getElem?, replicate}
 use Rattle.octets.specs.Octets.{at}
+use Rattle.pdu.specs.declared.Header.{Header}
 use Rattle.pdu.specs.Sizes.{pathLimit}
 use Rattle.bound.specs.Bound.{bound, bytesBound, terms}
 use Rattle.chains.specs.Lengths.{nodeLimit}
 use Rattle.ways.specs.declared.Airtime.{Airtime}
 use Rattle.ways.specs.declared.Airtime.the-variants.{Exactly, Enough}
+use Rattle.ways.specs.Ways.{isUnmarked}
 use Rattle.ways.specs.Answer.{Counts}
 use Rattle.origin.specs.declared.FreshSettings.{FreshSettings}
 use Rattle.origin.specs.Origination.{freshHeader, fresh}
-use Rattle.flood.specs.Air.{Repeater, address, onTheAir, bytesOnTheAir, repeaters, Nodes, Originated}
+use Rattle.flood.specs.Air.{Repeater, address, canRepeat, onTheAir, bytesOnTheAir, repeaters, Nodes, Originated}
 use Rattle.flood.specs.Flood.{Reception}
 use Rattle.coverage.specs.Hearing.{TakenByAll, ByNoOther}
 use Rattle.coverage.specs.Told.{Says}
@@ -115,6 +117,14 @@ pub record OwnNetwork : Type 0 where
       → (octets hears nodes settings payload < enough → (answer ≡ Exactly (octets hears nodes settings payload))
       × ((place : ℕ) → place < length nodes → at countsNow place ≡ octetsBy hears nodes settings payload (at (map address nodes) place)))
       × (enough ≤ octets hears nodes settings payload → answer ≡ Enough)
+  -- no more is asked of room and marks than these conditions say
+  pub roomy-asked : (hears : ℕ → ℕ → Bool) (nodes : List Repeater) (settings : FreshSettings) (payload : List ℕ)
+      → let counting = repeaters (freshHeader settings (length payload)) nodes in
+      ((n : Repeater) → List·Memᴰ n counting → length (fresh settings payload) + 2 * terms (length counting) (settings .«hop_limit») ≤ n .room)
+      → (length counting ≤ pathLimit) ⊎ (settings .«hop_limit» < 7) → Roomy hears nodes settings payload
+  pub marks-asked : (marks : List ℕ) (header : Header) (nodes : List Repeater) → length marks ≡ length nodes
+      → ((place : ℕ) (n : Repeater) → getElem? nodes place ≡ some n → address n ≢ header .source → isUnmarked marks place ≡ canRepeat header n)
+      → MarksSay marks header nodes
   -- worked cases. W-208's line of eight: each hop lets it go one further, and 7 to the end; demand 3's bound for as many is 8,660 at hop limit 6
   pub in-line : let line : List ℕ = 1001 ∷ 1002 ∷ 1003 ∷ 1004 ∷ 1005 ∷ 1006 ∷ 1007 ∷ [] in
       (airOf nextInLine line 1000 0 ≡ 1) × (airOf nextInLine line 1000 3 ≡ 4) × (airOf nextInLine line 1000 6 ≡ 7) × (airOf nextInLine line 1000 7 ≡ 8)
@@ -128,4 +138,6 @@ pub record OwnNetwork : Type 0 where
   pub all-three : let these : List ℕ = 1 ∷ 2 ∷ 3 ∷ [] in
       (airOf everyOther these 1000 2 ≡ 10) × (airOf everyOther these 1000 6 ≡ 16) × (airOf everyOther these 1000 7 ≡ 16)
   -- W-208's run over real bytes, the longer way first, is such as `exact` asks, and makes these six
-  pub two-ways-run : length (onTheAir (map repeater twoWaysAddresses) (fresh (reportAsked 6) reading) longerFirst) ≡ 6
+  pub two-ways-run : Roomy twoWays (map repeater twoWaysAddresses) (reportAsked 6) reading
+      × (times twoWays (map repeater twoWaysAddresses) (reportAsked 6) reading ≡ 6)
+      × (length (onTheAir (map repeater twoWaysAddresses) (fresh (reportAsked 6) reading) longerFirst) ≡ 6)
