@@ -1,13 +1,14 @@
 // A message that is sealed: its number, its nonce, its plain length, its hash, and what keeps a PDU from being sealed.
 use pdu::Header;
 use pdu::Written;
+use pdu::fields;
 use sha1::Running;
 ghost use mathlib.Core.Path.{_≡_};
 ghost use mathlib.Core.List.{_++_};
 ghost use Prim.Native.Nat.{_-_, _<_, _≤_};
 ghost use lib.ListN.{take};
 ghost use Rattle.sha1.specs.Sha1.{hashBegun, fed, finished};
-ghost use Rattle.pdu.specs.Header.{headerOf, pathCountPlace};
+ghost use Rattle.pdu.specs.Header.{headerOf};
 ghost use Rattle.pdu.specs.Parts.{payloadIn};
 ghost use Rattle.message.specs.Protection.{messageNumberBytes, numberIn, addedLength, maskedByte, hashedHeader, hashBytes, nonceOf};
 ghost use Rattle.message.specs.Sealable.{sealNumber, refusedWith};
@@ -68,15 +69,6 @@ pub fn nonce(source: u16, number: u32) -> [u8; 5]
     ]
 }
 
-// Where a header's path count stands, or would stand: what is before it enters the hash.
-fn hashed_length(byte0: u8) -> usize
-    ensures { λ r. ⌜ (r ≡ pathCountPlace byte0) × (r ≤ 9) × (6 ≤ r) ⌝ }
-{
-    Header::FIXED_LENGTH
-        + 2 * octets::byte_value(byte0 % 2)
-        + octets::byte_value(octets::flag(byte0 / 8 % 8 == 1))
-}
-
 fn masked(byte2: u8) -> u8
     ensures { λ r. ⌜ r ≡ maskedByte byte2 ⌝ }
 {
@@ -96,7 +88,7 @@ pub fn begin_hash(bytes: &[u8], number: u32) -> Running
         octets::byte(bytes, 3),
     ];
     let fixed = sha1::feed(sha1::begin(), &first);
-    let header = sha1::feed(fixed, octets::part(bytes, 4, hashed_length(byte0) - 4));
+    let header = sha1::feed(fixed, octets::part(bytes, 4, fields::path_count_place(byte0) - 4));
     let digits = number_bytes(number);
     sha1::feed(header, &digits)
 }

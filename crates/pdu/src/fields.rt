@@ -135,7 +135,7 @@ pub fn pdu_id_place(byte0: u8) -> usize
 
 // Where the path count stands, if there is one. Document 01, "Header, byte by byte", after destination and PDU ID.
 pub fn path_count_place(byte0: u8) -> usize
-    ensures { λ r. ⌜ (r ≡ pathCountPlace byte0) × (r ≤ 9) ⌝ }
+    ensures { λ r. ⌜ (r ≡ pathCountPlace byte0) × (6 ≤ r) × (r ≤ 9) ⌝ }
 {
     pdu_id_place(byte0) + byte_value(octets::flag(byte0 / 8 % 8 == 1))
 }

@@ -27,8 +27,8 @@ slice-aggregate-feed c = search needs
 feed-requires : tie.Need-feed-requires
 feed-requires c κs = search needs
 
-hashed-length-requires : tie.Need-hashed-length-requires
-hashed-length-requires c κs = search needs
+path-count-place-requires : tie.Need-path-count-place-requires
+path-count-place-requires c κs = search needs
 
 sub-part : tie.Need-sub-part
 sub-part c = search needs
@@ -62,7 +62,7 @@ returns c =
     let at-second = at-third .before in
     let at-byte = at-second .before in
     begun-with _ _ _ _ _ _ _ _ _ _ _ _ _ _ (at-byte .byte .ensures) (at-second .byte2 .ensures) (at-third .byte3 .ensures) (at-masked .masked .ensures)
-    (at-fourth .byte4 .ensures) (at-begin .begin .ensures) (at-feed .feed .ensures) (at-length .hashed-length .ensures .0) (at-part .part .ensures .bytes)
+    (at-fourth .byte4 .ensures) (at-begin .begin .ensures) (at-feed .feed .ensures) (at-length .path-count-place .ensures .0) (at-part .part .ensures .bytes)
     (at-second-feed .feed2 .ensures) (at-digits .number-bytes .ensures) (c .feed3 .ensures)
 
 pub begin-hash-spec : {M : Type 1} → statement M
@@ -77,7 +77,7 @@ begin-hash-spec =
     begin-requires
     slice-aggregate-feed
     feed-requires
-    hashed-length-requires
+    path-count-place-requires
     sub-part
     part-requires
     feed-requires-2
