@@ -7,7 +7,7 @@ use native.Mathlib.Nat.{mul-assoc, mul-pos, mul-le-mul, le-mul-of-pos-right, add
 use native.Mathlib.Omega.{arith}
 use borrow.Author.Tests.{eq-eqb, ne-eqb}
 use lib.Dec.{eqb}
-use Rattle.bound.specs.Bound.{fallingProduct, series, terms}
+use Rattle.bound.specs.Bound.{fallingProduct, series, terms, bound, bytesBound}
 
 pub product-positive : (n k : ℕ) → k ≤ n → 0 < fallingProduct n k
 unfolding fallingProduct
@@ -84,3 +84,35 @@ terms-le n h = either (eqb h 7)
     either : (t : Bool) → cond t n (min h n) ≤ n
     either true = omega arith
     either false = omega arith
+
+-- with more nodes there are no fewer terms, and each is no smaller
+series-larger : (weight : ℕ → ℕ) (n more m : ℕ) → n ≤ more → series weight n m ≤ series weight more m
+unfolding series
+series-larger weight n more zero h = omega arith
+series-larger weight n more (suc m) h =
+    let last : fallingProduct n (suc m) * weight (suc m) ≤ fallingProduct more (suc m) * weight (suc m) =
+    mul-le-mul (product-larger n more (suc m) h) (omega arith) in
+    omega (arith, series-larger weight n more m h, last)
+
+terms-more : (n more h : ℕ) → n ≤ more → terms n h ≤ terms more h
+unfolding terms
+terms-more n more h le = either (eqb h 7)
+  where
+    either : (t : Bool) → cond t n (min h n) ≤ cond t more (min h more)
+    either true = omega arith
+    either false = omega arith
+
+pub over-more : (weight : ℕ → ℕ) (n more h : ℕ) → n ≤ more → series weight n (terms n h) ≤ series weight more (terms more h)
+over-more weight n more h le =
+    let fewer = terms-more n more h le in
+    let split : terms n h + (terms more h - terms n h) ≡ terms more h = omega (arith, fewer) in
+    omega (
+      arith,
+      series-larger weight n more (terms n h) le,
+      series-grows weight more (terms n h) (terms more h - terms n h),
+      ap (λ (x : ℕ). series weight more x) split,
+    )
+
+pub bound-more : (n more h size : ℕ) → n ≤ more → (bound n h ≤ bound more h) × (bytesBound n h size ≤ bytesBound more h size)
+unfolding bound bytesBound
+bound-more n more h size le = (over-more (λ k. 1) n more h le, over-more (λ k. size + 2 * k) n more h le)

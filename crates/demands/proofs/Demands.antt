@@ -47,6 +47,7 @@ use Rattle.node.proofs.Encoded.{alone-reads, alone-path, alone-payload, repeat-
 use Rattle.batch.proofs.Walking as walking
 use Rattle.bound.specs.Answer.{within64Bits, boundAnswer}
 use Rattle.boundary.specs.Boundary.{boundInC}
+use Rattle.bound.proofs.Series.{bound-more}
 use Rattle.bound.proofs.Values.{bound-3-2, bound-3-6, bound-3-7, bound-no-hops, bound-no-nodes}
 use Rattle.flood.specs.Air.{Repeater, address}
 use Rattle.flood.proofs.Counting.{demand-3, demand-3-bytes}
@@ -264,6 +265,7 @@ bounded =
         exact.reached nodes all settings payload room message roomy fits receptions once complete,
         exact.reached-bytes nodes all settings payload room message roomy fits receptions once complete,
       );
+      more-nodes = bound-more;
       values = (bound-3-2, bound-3-6, bound-3-7, bound-no-hops, bound-no-nodes);
       in-c = bound-in-c;
       schedule = λ nodes all settings payload room message. demand.schedule nodes all settings payload room message;

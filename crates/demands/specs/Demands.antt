@@ -208,6 +208,8 @@ pub record Demand3 : Type 0 where
       ≡ bytesBound (length counted) (settings .«hop_limit») (length (fresh settings payload)))
   -- the bound's values that 01 checks by hand
   pub values : (bound 3 2 ≡ 10) × (bound 3 6 ≡ 16) × (bound 3 7 ≡ 16) × ((n : ℕ) → bound n 0 ≡ 1) × ((h : ℕ) → bound 0 h ≡ 1)
+  -- among more nodes it is no smaller, so that whoever counts a node that cannot repeat the message is told too much, and never too little
+  pub more-nodes : (n more h size : ℕ) → n ≤ more → (bound n h ≤ bound more h) × (bytesBound n h size ≤ bytesBound more h size)
   -- what C is told of a bound: 10 for a hop limit above 7; else the value, or that 64 bits do not hold it
   pub in-c : (hop value : ℕ)
       → (7 < hop → boundInC (boundAnswer hop value) ≡ record { number = 10; «too_large» = false; value = 0 })

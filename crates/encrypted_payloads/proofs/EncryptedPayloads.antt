@@ -225,6 +225,7 @@ encrypted-payloads =
       after-repeats = λ key memory bytes room repeats small all.
           let same = heard-alike repeats bytes small all in
           (open-alike same key memory room, plain-alike same key, memory-alike same key memory room);
+      repeat-asked = λ repeat received does narrow small. record { does = does; narrow = narrow; small = small };
       sealed-bytes = λ key bytes number room hk small zero. sealed-small key bytes number room hk small zero;
       sealed-repeated-opened = λ key bytes behind memory number room space repeats hk small hb zero greater held wide all.
           let sealed = sealedPdu key number bytes ++ behind in

@@ -15,6 +15,7 @@ use Rattle.pdu.specs.Sizes.{pduLength}
 use Rattle.pdu.specs.Reading.{readOf, readingNumber}
 use Rattle.pdu.specs.Parts.{pathIn, payloadIn}
 use Rattle.writing.specs.Writing.{onlyIf, headerBytes}
+use Rattle.node.specs.Answers.{repeatNumber}
 use Rattle.sources.specs.Sources.{Accepted, capacity, recordIn, isHeld, lastNumber, numberFault, sourceFault, withAccepted}
 use Rattle.sources.specs.Sources.{withoutSource, memoryWithout}
 use Rattle.message.specs.Protection.{messageNumberBytes, hashedHeader, hashBytes, nonceOf}
@@ -23,7 +24,7 @@ use Rattle.sealing.specs.Sealing.{sealedHeader, sealedPdu, sealWritten, sealOut
 use Rattle.genuine.specs.Genuine.{messageNumber, plainLength}
 use Rattle.opening.specs.Opening.{sealedFault, numberedAs, deciphered, plainPayload, genuine, keylessFault}
 use Rattle.opening.specs.Opening.{openNumber, openWritten, openOutput, memoryAfterOpening}
-use Rattle.protection.specs.Histories.{Repeat, heardAtLast, AllRepeat, Opening, memoryAfterOne, memoryAfterAll}
+use Rattle.protection.specs.Histories.{Repeat, heardAtLast, RepeatedBy, AllRepeat, Opening, memoryAfterOne, memoryAfterAll}
 
 -- a header with its hop limit 0
 abbrev pub hopless : Header → Header
@@ -119,6 +120,9 @@ pub record EncryptedPayloads : Type 0 where
       → (openNumber key memory (heardAtLast repeats bytes) room ≡ openNumber key memory bytes room)
       × (plainPayload key (heardAtLast repeats bytes) ≡ plainPayload key bytes)
       × (memoryAfterOpening key memory (heardAtLast repeats bytes) room ≡ memoryAfterOpening key memory bytes room)
+  -- nothing more than this is asked of a repeat
+  pub repeat-asked : (repeat : Repeat) (received : List ℕ) → repeatNumber (repeat .node) (repeat .room) received ≡ 0
+      → repeat .node .settings .own < 65536 → AllBytes (repeat .behind) → RepeatedBy repeat received
   -- what is sealed are bytes, so the two make one: sealed, repeated by any nodes any number of times, and opened gives the payload back
   pub sealed-bytes : (key bytes : List ℕ) (number room : ℕ) → AllBytes key → AllBytes bytes → sealNumber number bytes room ≡ 0
       → AllBytes (sealedPdu key number bytes)

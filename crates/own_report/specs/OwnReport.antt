@@ -100,13 +100,14 @@ pub record OwnReport : Type 0 where
   pub silent : (n : Repeater) (received : List ℕ) → n .node .settings .echo ≡ true → sourceOf received ≡ address n → sends n received ≡ none
   pub source-kept : (nodes : List Repeater) → Nodes nodes → (first : List ℕ) → Begins first → (receptions : List Reception) → List·Nodup receptions
       → (t : List ℕ) → List·Memᴰ t (onTheAir nodes first receptions) → sourceOf t ≡ sourceOf first
-  -- who counts: all nodes where none has the source address; one fewer where one has it
+  -- the nodes other than the originator: all of them where none has the source address; one fewer where one has it. Demand 3 counts those of them that
+  -- can repeat the message
   pub all-count : (nodes : List Repeater) (source : ℕ) → ((n : Repeater) → List·Memᴰ n nodes → address n ≡ source → ⊥)
       → others address source nodes ≡ nodes
   pub originator-does-not : (nodes : List Repeater) → Nodes nodes → (n : Repeater) → List·Memᴰ n nodes
       → length nodes ≡ suc (length (others address (address n) nodes))
   -- IV. WORKED CASES
-  -- an originator that hears, and one other node, at hop limit 2: the bound is 2, 2 are sent where the originator hears the repeat, and never 3; with
+  -- an originator that hears, and one other node, at hop limit 2: the bound for one node is 2, 2 are sent where the originator hears the repeat, and never 3; with
   -- echo off at the originator 3 are
   pub two-bound : bound (length (others address (sourceOf report) (network true))) 2 ≡ 2
   pub two-sent : length (onTheAir (network true) report heardBack) ≡ 2

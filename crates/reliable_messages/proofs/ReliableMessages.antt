@@ -164,6 +164,7 @@ reliable-messages =
       ending = ending;
       settling = settling;
       rounds = rounds-end;
+      free-asked = λ table sixteen free. record { sixteen = sixteen; free = free };
       arrives = arrives;
       node-answers = node-answered;
       node-answers-only = node-answered-only;

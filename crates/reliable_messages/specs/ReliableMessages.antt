@@ -30,7 +30,7 @@ use Rattle.answering.specs.Delivered.{acknowledge, tableAcknowledged, outputAck
 use Rattle.answering.specs.Hearing.{outcomeHeard, tableHeard, outputHeard}
 use Rattle.ending.specs.First.{FirstAt, Nowhere}
 use Rattle.ending.specs.History.{RetainAt, HearPdu, StepAt, Waiting, Lost, Arrived, history, start}
-use Rattle.ending.specs.Ending.{Statement, enough, roundsAt, Spaced, Settling, Rounds, Arrives}
+use Rattle.ending.specs.Ending.{FreeTable, Statement, enough, roundsAt, Spaced, Settling, Rounds, Arrives}
 use Rattle.flood.specs.Flood.{Reception, Bounded}
 use Rattle.flood.specs.Air.{Repeater, Nodes, Begins, Originated, address, pathOf, hopOf, onTheAir, repeaters}
 use Rattle.checked_by_hand.specs.Examples.{nodeAt}
@@ -84,6 +84,8 @@ pub record ReliableMessages : Type 0 where
   pub ending : Statement
   pub settling : Settling
   pub rounds : Rounds
+  -- nothing more than this is asked of the table that these begin with
+  pub free-asked : (table : List Retained) → length table ≡ 16 → ((place : ℕ) → place < 16 → isUsed (recordAt table place) ≡ false) → FreeTable table
   -- whatever came between, a PDU that waits is freed by its delivered acknowledgement
   pub arrives : Arrives
   -- at a node that acknowledgement is a PDU of protocol 1 with ACK set that the node delivers, and no other
