@@ -22,7 +22,7 @@ use Rattle.retained.specs.Searching.{foundIn}
 use Rattle.deciding.specs.declared.Ask.{Ask}
 use Rattle.deciding.specs.declared.Effect.{Effect}
 use Rattle.deciding.specs.declared.Kind.the-variants.{Free, Answer, Nothing}
-use Rattle.deciding.specs.Deciding.{kindNumber, decideNumber, stays, changes, effectOf, decideOf, effectOn, tableFreed}
+use Rattle.deciding.specs.Deciding.{kindNumber, decideNumber, stays, changes, effectOf, decideOf, begunFor, effectOn, tableFreed}
 use Rattle.answering.specs.declared.Sending.{Sending}
 use Rattle.answering.specs.Delivered.{isDeliveredHere, isAcknowledgement, isAnswered, ackHeader, acknowledgeNumber, matching, acknowledge, tableAcknowledged}
 use Rattle.answering.specs.Responding.{earlyNumber, lateNumber, askFor, askAcknowledge}
@@ -42,7 +42,7 @@ module _ (table : List Retained) (last : ℕ) (sending : Sending) (room : ℕ) (
   asked d k = askFor d k last sending room (namesOf received)
 
   abbrev found : Bool → Bool → Seek
-  found d k = foundIn table (asked d k .names) last 0
+  found d k = foundIn (begunFor (asked d k .kind) (asked d k) (length table)) table
 
   -- the refusals
   abbrev number : Bool → ℕ

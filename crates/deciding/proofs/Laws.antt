@@ -50,50 +50,50 @@ module _ (a : Ask) (s : Seek) where
   pub number-kind : a .early ≡ 0 → s .count ≡ 16 → a .last ≤ a .time → a .late ≡ 0 → decideNumber a s ≡ kindNumber (a .kind) a s
   number-kind e f h g = time-passed e f h ∙ orElse-later (a .late) _ g
 
-  pub retain-71 : s .named < s .count → 71 ≡ kindNumber Retain a s
+  pub retain-71 : s .place < s .count → 71 ≡ kindNumber Retain a s
   unfolding _gives_ _orElse_
-  retain-71 h = simp (lt-ltb (s .named) (s .count) h)
+  retain-71 h = simp (lt-ltb (s .place) (s .count) h)
 
-  pub retain-0 : s .count ≤ s .named → s .free < s .count → 0 ≡ kindNumber Retain a s
+  pub retain-0 : s .count ≤ s .place → s .free < s .count → 0 ≡ kindNumber Retain a s
   unfolding _gives_ _orElse_
-  retain-0 h k = simp (le-ltb (s .named) (s .count) h, lt-ltb (s .free) (s .count) k)
+  retain-0 h k = simp (le-ltb (s .place) (s .count) h, lt-ltb (s .free) (s .count) k)
 
-  pub retain-70 : s .count ≤ s .named → s .count ≤ s .free → 70 ≡ kindNumber Retain a s
+  pub retain-70 : s .count ≤ s .place → s .count ≤ s .free → 70 ≡ kindNumber Retain a s
   unfolding _gives_ _orElse_
-  retain-70 h k = simp (le-ltb (s .named) (s .count) h, le-ltb (s .free) (s .count) k)
+  retain-70 h k = simp (le-ltb (s .place) (s .count) h, le-ltb (s .free) (s .count) k)
 
-  pub step-77 : s .due < s .count → s .found .count < a .tries → a .room < s .found .length → 77 ≡ kindNumber Step a s
+  pub step-77 : s .place < s .count → s .found .count < a .tries → a .room < s .found .length → 77 ≡ kindNumber Step a s
   unfolding _gives_
-  step-77 h k l = simp (lt-ltb (s .due) (s .count) h, lt-ltb (s .found .count) (a .tries) k, lt-ltb (a .room) (s .found .length) l)
+  step-77 h k l = simp (lt-ltb (s .place) (s .count) h, lt-ltb (s .found .count) (a .tries) k, lt-ltb (a .room) (s .found .length) l)
 
-  pub step-fits : s .due < s .count → s .found .count < a .tries → s .found .length ≤ a .room → 0 ≡ kindNumber Step a s
+  pub step-fits : s .place < s .count → s .found .count < a .tries → s .found .length ≤ a .room → 0 ≡ kindNumber Step a s
   unfolding _gives_
-  step-fits h k l = simp (lt-ltb (s .due) (s .count) h, lt-ltb (s .found .count) (a .tries) k, le-ltb (a .room) (s .found .length) l)
+  step-fits h k l = simp (lt-ltb (s .place) (s .count) h, lt-ltb (s .found .count) (a .tries) k, le-ltb (a .room) (s .found .length) l)
 
-  pub step-drops : s .due < s .count → a .tries ≤ s .found .count → 0 ≡ kindNumber Step a s
+  pub step-drops : s .place < s .count → a .tries ≤ s .found .count → 0 ≡ kindNumber Step a s
   unfolding _gives_
-  step-drops h k = simp (lt-ltb (s .due) (s .count) h, le-ltb (s .found .count) (a .tries) k)
+  step-drops h k = simp (lt-ltb (s .place) (s .count) h, le-ltb (s .found .count) (a .tries) k)
 
-  pub step-none : s .count ≤ s .due → 0 ≡ kindNumber Step a s
+  pub step-none : s .count ≤ s .place → 0 ≡ kindNumber Step a s
   unfolding _gives_
-  step-none h = simp (le-ltb (s .due) (s .count) h)
+  step-none h = simp (le-ltb (s .place) (s .count) h)
 
-  pub sends : s .due < s .count → s .found .count < a .tries
-      → changes (s .due) (s .found .count + 1) (did sent (a .time) (s .due) (s .found .names) (s .found .length)) ≡ effectOf Step a s
-  sends h k = simp (lt-ltb (s .due) (s .count) h, lt-ltb (s .found .count) (a .tries) k)
+  pub sends : s .place < s .count → s .found .count < a .tries
+      → changes (s .place) (s .found .count + 1) (did sent (a .time) (s .place) (s .found .names) (s .found .length)) ≡ effectOf Step a s
+  sends h k = simp (lt-ltb (s .place) (s .count) h, lt-ltb (s .found .count) (a .tries) k)
 
-  pub drops : s .due < s .count → a .tries ≤ s .found .count
-      → changes (s .due) 0 (did failed (a .time) (s .due) (s .found .names) 0) ≡ effectOf Step a s
-  drops h k = simp (lt-ltb (s .due) (s .count) h, le-ltb (s .found .count) (a .tries) k)
+  pub drops : s .place < s .count → a .tries ≤ s .found .count
+      → changes (s .place) 0 (did failed (a .time) (s .place) (s .found .names) 0) ≡ effectOf Step a s
+  drops h k = simp (lt-ltb (s .place) (s .count) h, le-ltb (s .found .count) (a .tries) k)
 
-  pub rests : s .count ≤ s .due → stays 0 (a .time) (s .count) ≡ effectOf Step a s
-  rests h = simp (le-ltb (s .due) (s .count) h)
+  pub rests : s .count ≤ s .place → stays 0 (a .time) (s .count) ≡ effectOf Step a s
+  rests h = simp (le-ltb (s .place) (s .count) h)
 
-  pub frees : s .named < s .count → changes (s .named) 0 (did freed (a .time) (s .named) (a .names) 0) ≡ effectOf Free a s
-  frees h = simp (lt-ltb (s .named) (s .count) h)
+  pub frees : s .place < s .count → changes (s .place) 0 (did freed (a .time) (s .place) (a .names) 0) ≡ effectOf Free a s
+  frees h = simp (lt-ltb (s .place) (s .count) h)
 
-  pub ignores : s .count ≤ s .named → stays 0 (a .time) (s .count) ≡ effectOf Free a s
-  ignores h = simp (le-ltb (s .named) (s .count) h)
+  pub ignores : s .count ≤ s .place → stays 0 (a .time) (s .count) ≡ effectOf Free a s
+  ignores h = simp (le-ltb (s .place) (s .count) h)
 
   pub decide-refuses : (n : ℕ) → n ≡ decideNumber a s → (n ≡ 0 → ⊥) → stays n (a .last) (s .count) ≡ decideOf a s
   unfolding decideOf

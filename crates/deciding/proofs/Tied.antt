@@ -1,14 +1,14 @@
 -- The one search and decision, asked to retain or to step, with what is done then, is what the table's definitions say.
 use native.Mathlib.Omega.{arith}
-use mathlib.Core.Path.{_≡_, refl, sym, _∙_, ap, ap₂}
-use Prim.Native.Nat.{ℕ, _+_, _≤_}
+use mathlib.Core.Path.{_≡_, refl, sym, _∙_, ap}
+use Prim.Native.Nat.{ℕ, zero, suc, _+_, _≤_}
 use mathlib.Core.Bool.{Bool, true, false, not, cond, _&&_}
-use mathlib.Core.List.{List}
+use mathlib.Core.List.{List, [], _∷_}
 use lib.Dec.{eqb, ltb}
 use lib.ListN.{length, set, length-take}
 use lib.Seq.{set-out}
 use native.Mathlib.Nat.{le-refl, le-trans}
-use borrow.Author.Tests.{ltb-false, eqb-true, eqb-false}
+use borrow.Author.Tests.{ltb-false, eqb-true, eqb-false, ne-eqb}
 use Rattle.octets.specs.Numbers.{_gives_, _orElse_}
 use Rattle.octets.specs.Octets.{over}
 use Rattle.octets.proofs.Numbering.{orElse-zero, gives-zero}
@@ -20,71 +20,102 @@ use Rattle.deciding.specs.declared.Kind.{Kind}
 use Rattle.deciding.specs.declared.Kind.the-variants.{Retain, Step, Free, Answer, Nothing}
 use Rattle.deciding.specs.declared.Ask.{Ask}
 use Rattle.deciding.specs.declared.Effect.{Effect}
-use Rattle.retained.specs.Records.{isDue, pduOf, namesOf, retainedRecord, sentRecord, freedRecord}
-use Rattle.retained.specs.Table.{tableSize, has, recordAt, due, isSpent, numberAlone, did, sent, failed}
+use Rattle.retained.specs.Records.{isFree, isDue, pduOf, namesOf, retainedRecord, sentRecord, freedRecord}
+use Rattle.retained.specs.Table.{tableSize, first, has, recordAt, due, isSpent, numberAlone, did, kept, sent, failed}
 use Rattle.retained.specs.Table.{retainNumber, retain, tableRetained, stepNumber, retryStep, tableStepped, outputStepped}
-use Rattle.retained.specs.Searching.{scanOf, seekBegun, foundIn}
-use Rattle.retained.proofs.Found.{scan-found}
-use Rattle.deciding.specs.Deciding.{kindNumber, decideNumber, stays, changes, effectOf, decideOf, isSought, looksAt, effectOn, askRetain, askStep}
+use Rattle.retained.specs.Searching.{isSought, scanOf, foundIn}
+use Rattle.retained.proofs.Found.{freeBefore, scan-found, free-first}
+use Rattle.deciding.specs.Deciding.{kindNumber, decideNumber, stays, changes, effectOf, decideOf, begunAt, begunFor, effectOn, askRetain, askStep}
 use Rattle.deciding.specs.Deciding.{leftOf, emitted, tableResent, outputResent}
 use Rattle.deciding.proofs.Laws.{number-early, number-74, decide-refuses}
 
+-- an effect counts only where nothing is refused, and a free record only where none has the names
+guarded : (number : ℕ) (x y z : Effect) → (number ≡ 0 → x ≡ y) → cond (eqb number 0) x z ≡ cond (eqb number 0) y z
+guarded zero x y z f = f refl
+guarded (suc number) x y z f = simp (ne-eqb (suc number) 0 (λ e. omega arith))
+
+retain-number : (b : Bool) (f g : ℕ) → (b ≡ false → f ≡ g) → (b gives 71 orElse f) ≡ (b gives 71 orElse g)
+unfolding _gives_ _orElse_
+retain-number true f g e = refl
+retain-number false f g e = e refl
+
+nothing-sought : (table : List Retained) (a : Ask) → scanOf 0 table (begunAt a (length table) false 0 0) ≡ begunAt a (length table) false 0 0
+unfolding scanOf
+nothing-sought [] a = refl
+nothing-sought (r ∷ rs) a = simp (ne-eqb 0 (suc (length rs)) (λ e. omega arith))
+
 -- the decision on what the search found is the one on the table
-pub searched : (a : Ask) (table : List Retained) (t s : Seek) (e : Effect) → t ≡ seekBegun (a .names) (a .time) (a .delay) (length table)
-    → s ≡ scanOf 0 table t → e ≡ decideOf a s → e ≡ effectOn a table
-unfolding effectOn
-searched a table t s e p q r = r ∙ ap (decideOf a) (q ∙ ap (scanOf 0 table) p ∙ scan-found table (a .names) (a .time) (a .delay))
-
-never : {A : Type 0} → true ≡ false → A
-never e = absurd (let z : _≡_ {A = ℕ} 0 1 = cc in omega arith)
-
--- where no record is looked at, so is the decision on a search that has not begun
 module _ (a : Ask) (table : List Retained) where
-  abbrev t : Seek
-  t = seekBegun (a .names) (a .time) (a .delay) (length table)
+  abbrev n : ℕ
+  n = length table
 
-  abbrev s : Seek
-  s = foundIn table (a .names) (a .time) (a .delay)
+  abbrev begun : Kind → Seek
+  begun k = begunFor k a n
 
-  same-number : (k : Kind) → isSought k ≡ false → kindNumber k a t ≡ kindNumber k a s
-  same-number Retain e = never e
-  same-number Step e = never e
-  same-number Free e = never e
-  same-number Answer e = refl
-  same-number Nothing e = refl
+  abbrev named : ℕ
+  named = first (isSought (begun Retain)) table
 
-  same-effect : (k : Kind) → isSought k ≡ false → effectOf k a t ≡ effectOf k a s
-  same-effect Retain e = never e
-  same-effect Step e = never e
-  same-effect Free e = never e
-  same-effect Answer e = refl
-  same-effect Nothing e = refl
+  abbrev before : ℕ
+  before = freeBefore (isSought (begun Retain)) 0 table n n
 
-  -- another number of records
-  other : (length table ≡ 16 → ⊥) → (b : Bool) → eqb (a .early) 0 ≡ b → decideOf a t ≡ decideOf a s
-  other f true e =
-      let early = eqb-true (a .early) 0 e in
-      sym (decide-refuses a t 74 (number-74 a t early f) (λ z. absurd (omega arith))) ∙ decide-refuses a s 74 (number-74 a s early f) (λ z. absurd (omega arith))
-  other f false e =
-      let early = eqb-false (a .early) 0 e in
-      sym (decide-refuses a t (a .early) (number-early a t early) early) ∙ decide-refuses a s (a .early) (number-early a s early) early
+  free-met : ltb named n ≡ false → before ≡ first isFree table
+  free-met e = free-first (isSought (begun Retain)) table 0 n (ltb-false named n e) (omega arith) ∙ omega arith
 
-  nothing-sought : isSought (a .kind) ≡ false → decideOf a t ≡ decideOf a s
-  unfolding decideOf decideNumber
-  nothing-sought e = ap₂ decided (same-number (a .kind) e) (same-effect (a .kind) e)
+  abbrev refusal : ℕ → ℕ
+  refusal x = a .early orElse (not (eqb n tableSize) gives 74 orElse (ltb (a .time) (a .last) gives 73 orElse (a .late orElse x)))
+
+  abbrev decision : ℕ → Effect → Effect
+  decision x y = cond (eqb (refusal x) 0) y (stays (refusal x) (a .last) n)
+
+  abbrev kinds : ℕ → ℕ
+  kinds free = ltb named n gives 71 orElse not (ltb free n) gives 70
+
+  abbrev keeps : ℕ → Effect
+  keeps free = changes free 0 (did kept (a .time) free (a .names) 0)
+
+  retain-alike : decision (kinds before) (keeps before) ≡ decision (kinds (first isFree table)) (keeps (first isFree table))
+  retain-alike = ap (λ (x : ℕ). decision x (keeps before)) (retain-number (ltb named n) _ _ (λ e. ap (λ (x : ℕ). not (ltb x n) gives 70) (free-met e)))
+      ∙ guarded (refusal (kinds (first isFree table))) _ _ _ (λ e. ap keeps (free-met (gives-zero _ 71 (omega arith) (orElse-zero _ _ (last e) .0))))
     where
-      decided : ℕ → Effect → Effect
-      decided n x =
-          let number = a .early orElse (not (eqb (length table) tableSize) gives 74 orElse (ltb (a .time) (a .last) gives 73 orElse (a .late orElse n))) in
-          cond (eqb number 0) x (stays number (a .last) (length table))
+      last : {x : ℕ} → refusal x ≡ 0 → x ≡ 0
+      last e = orElse-zero _ _ (orElse-zero _ _ (orElse-zero _ _ (orElse-zero _ _ e .1) .1) .1) .1
 
-  pub unsought : (begun : Seek) (e : Effect) → begun ≡ t → looksAt a (length table) ≡ false → e ≡ decideOf a begun → e ≡ effectOn a table
+  decideFor : Kind → Seek → Effect
+  decideFor k s =
+      let x = a .early orElse (not (eqb (s .count) tableSize) gives 74 orElse (ltb (a .time) (a .last) gives 73 orElse (a .late orElse kindNumber k a s))) in
+      cond (eqb x 0) (effectOf k a s) (stays x (a .last) (s .count))
+
+  decided : (k : Kind) → decideFor k (scanOf 0 table (begun k)) ≡ decideFor k (foundIn (begun k) table)
+  unfolding decideFor
+  decided Retain = ap (decideFor Retain) (scan-found table (begun Retain) freedRecord refl refl refl) ∙ retain-alike
+  decided Step = ap (decideFor Step) (scan-found table (begun Step) freedRecord refl refl refl)
+  decided Free = ap (decideFor Free) (scan-found table (begun Free) freedRecord refl refl refl)
+  decided Answer = ap (decideFor Answer) (nothing-sought table a)
+  decided Nothing = ap (decideFor Nothing) (nothing-sought table a)
+
+  pub searched : (t s : Seek) (e : Effect) → t ≡ begun (a .kind) → s ≡ scanOf 0 table t → e ≡ decideOf a s → e ≡ effectOn a table
+  unfolding effectOn decideOf decideNumber decideFor
+  searched t s e p q r = r ∙ ap (decideOf a) (q ∙ ap (scanOf 0 table) p) ∙ decided (a .kind)
+
+  -- with another number of records, so is that on a search that has not begun
+  pub unsearched : (t : Seek) (e : Effect) → t ≡ begun (a .kind) → (n ≡ 16 → ⊥) → e ≡ decideOf a t → e ≡ effectOn a table
   unfolding effectOn
-  unsought begun e p l q = q ∙ ap (decideOf a) p ∙ by (eqb (length table) 16) refl
+  unsearched t e p f q = q ∙ ap (decideOf a) p ∙ by (eqb (a .early) 0) refl
     where
-      by : (b : Bool) → eqb (length table) 16 ≡ b → decideOf a t ≡ decideOf a s
-      by false f = other (eqb-false (length table) 16 f) (eqb (a .early) 0) refl
-      by true f = nothing-sought (sym (ap (λ (b : Bool). b && isSought (a .kind)) f) ∙ l)
+      b : Seek
+      b = begun (a .kind)
+
+      s : Seek
+      s = foundIn b table
+
+      by : (x : Bool) → eqb (a .early) 0 ≡ x → decideOf a b ≡ decideOf a s
+      by true e =
+          let early = eqb-true (a .early) 0 e in
+          sym (decide-refuses a b 74 (number-74 a b early f) (λ z. absurd (omega arith)))
+          ∙ decide-refuses a s 74 (number-74 a s early f) (λ z. absurd (omega arith))
+      by false e =
+          let early = eqb-false (a .early) 0 e in
+          sym (decide-refuses a b (a .early) (number-early a b early) early) ∙ decide-refuses a s (a .early) (number-early a s early) early
 
 outcome-of : (b : Bool) (x y : Effect) → cond b x y .outcome ≡ cond b (x .outcome) (y .outcome)
 outcome-of true x y = refl

@@ -15,13 +15,13 @@ use Rattle.deciding.specs.declared.Ask.{Ask}
 use Rattle.deciding.specs.declared.Effect.{Effect}
 use Rattle.retained.specs.Records.{unfit, pduOf, namesOf, freedRecord}
 use Rattle.retained.specs.Table.{tableSize, recordAt, isSpent, kept, sent, failed, freed, answered, noNames, numberAlone, did}
-use Rattle.retained.specs.Searching.{foundIn}
+use Rattle.retained.specs.Searching.{seenOf, foundIn}
 
 -- the refusals in 02's order: 10 and 11 before the table is looked at, 74, 73, then `late`, which is 75 or 72 of a PDU to retain and 77 of a PDU heard,
 -- then those that depend on what was found
 abbrev pub kindNumber : Kind → Ask → Seek → ℕ
-kindNumber Retain a s = ltb (s .named) (s .count) gives 71 orElse not (ltb (s .free) (s .count)) gives 70
-kindNumber Step a s = (ltb (s .due) (s .count) && (not (isSpent (s .found .count) (a .tries)) && ltb (a .room) (s .found .length))) gives 77
+kindNumber Retain a s = ltb (s .place) (s .count) gives 71 orElse not (ltb (s .free) (s .count)) gives 70
+kindNumber Step a s = (ltb (s .place) (s .count) && (not (isSpent (s .found .count) (a .tries)) && ltb (a .room) (s .found .length))) gives 77
 kindNumber Free a s = 0
 kindNumber Answer a s = 0
 kindNumber Nothing a s = 0
@@ -44,13 +44,13 @@ changes place count outcome = record { place = place; count = count; outcome = o
 abbrev pub effectOf : Kind → Ask → Seek → Effect
 effectOf Retain a s = changes (s .free) 0 (did kept (a .time) (s .free) (a .names) 0)
 effectOf Step a s =
-    cond (ltb (s .due) (s .count))
+    cond (ltb (s .place) (s .count))
     (cond (isSpent (s .found .count) (a .tries))
-    (changes (s .due) 0 (did failed (a .time) (s .due) (s .found .names) 0))
-    (changes (s .due) (s .found .count + 1) (did sent (a .time) (s .due) (s .found .names) (s .found .length))))
+    (changes (s .place) 0 (did failed (a .time) (s .place) (s .found .names) 0))
+    (changes (s .place) (s .found .count + 1) (did sent (a .time) (s .place) (s .found .names) (s .found .length))))
     (stays 0 (a .time) (s .count))
 effectOf Free a s =
-    cond (ltb (s .named) (s .count)) (changes (s .named) 0 (did freed (a .time) (s .named) (a .names) 0))
+    cond (ltb (s .place) (s .count)) (changes (s .place) 0 (did freed (a .time) (s .place) (a .names) 0))
     (stays 0 (a .time) (s .count))
 effectOf Answer a s = record { place = s .count; count = 0; outcome = did answered (a .time) 0 (a .names) (a .length) }
 effectOf Nothing a s = stays 0 (a .time) (s .count)
@@ -58,20 +58,47 @@ effectOf Nothing a s = stays 0 (a .time) (s .count)
 unfoldable pub decideOf : Ask → Seek → Effect
 decideOf a s = cond (eqb (decideNumber a s) 0) (effectOf (a .kind) a s) (stays (decideNumber a s) (a .last) (s .count))
 
--- whether records are looked at: only where there are 16, and where something is sought in them
-abbrev pub isSought : Kind → Bool
-isSought Retain = true
-isSought Step = true
-isSought Free = true
-isSought Answer = false
-isSought Nothing = false
+-- the search that is begun: a step seeks by time, the others by names. Only retaining seeks a free record. An answer and nothing seek none
+abbrev pub isStep : Kind → Bool
+isStep Retain = false
+isStep Step = true
+isStep Free = false
+isStep Answer = false
+isStep Nothing = false
 
-abbrev pub looksAt : Ask → ℕ → Bool
-looksAt a count = eqb count tableSize && isSought (a .kind)
+abbrev pub isRetain : Kind → Bool
+isRetain Retain = true
+isRetain Step = false
+isRetain Free = false
+isRetain Answer = false
+isRetain Nothing = false
+
+abbrev pub seeks : Kind → Bool
+seeks Retain = true
+seeks Step = true
+seeks Free = true
+seeks Answer = false
+seeks Nothing = false
+
+abbrev pub begunAt : Ask → ℕ → Bool → ℕ → ℕ → Seek
+begunAt a count byTime free place =
+    record {
+      «by_time» = byTime;
+      names = a .names;
+      time = a .time;
+      delay = a .delay;
+      count = count;
+      free = free;
+      place = place;
+      found = seenOf freedRecord;
+    }
+
+abbrev pub begunFor : Kind → Ask → ℕ → Seek
+begunFor kind a count = begunAt a count (isStep kind) (cond (isRetain kind) count 0) (cond (seeks kind) count 0)
 
 -- the same on a table
 unfoldable pub effectOn : Ask → List Retained → Effect
-effectOn a table = decideOf a (foundIn table (a .names) (a .time) (a .delay))
+effectOn a table = decideOf a (foundIn (begunFor (a .kind) a (length table)) table)
 
 -- what is asked
 abbrev pub askRetain : ℕ → ℕ → List ℕ → Ask

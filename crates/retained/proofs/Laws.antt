@@ -46,8 +46,25 @@ module _ (bytes : List ℕ) where
   unfolding isRetainable exactlyOne
   by-header e f = simp (eq-eqb (readingNumber (readOf bytes)) 0 e, eq-eqb (pduLength (headerOf bytes)) (length bytes) f)
 
-pub same-3 : (a b c d e f : ℕ) → a ≡ b → c ≡ d → eqb e f ≡ (eqb a b && eqb c d && eqb e f)
-same-3 a b c d e f p q = simp (eq-eqb a b p, eq-eqb c d q)
+-- a test that counts only of a record in use is made before it is known to be in use
+pub not-passed : (used test other : Bool) → (used ≡ true → test ≡ other) → test ≡ false → false ≡ (used && other)
+not-passed true test other f e = sym e ∙ f refl
+not-passed false test other f e = refl
+
+pub by-use : (used test other : Bool) → (used ≡ true → test ≡ other) → test ≡ true → used ≡ (used && other)
+by-use true test other f e = sym e ∙ f refl
+by-use false test other f e = refl
+
+pub other-id : (b : Bool) (e f : ℕ) → (e ≡ f → ⊥) → false ≡ (b && eqb e f)
+other-id true e f p = sym (ne-eqb e f p)
+other-id false e f p = refl
+
+pub same-3 : (a b c d e f : ℕ) → a ≡ b → e ≡ f → eqb c d ≡ (eqb a b && eqb c d && eqb e f)
+same-3 a b c d e f p q = simp (eq-eqb a b p, eq-eqb e f q) (by (eqb c d))
+  where
+    by : (x : Bool) → x ≡ (x && true)
+    by true = refl
+    by false = refl
 
 module _ (bytes : List ℕ) (t : Bool) (told : t ≡ isRetainable bytes) where
   pub unfit-75 : t ≡ false → 75 ≡ unfit bytes

@@ -18,10 +18,10 @@ use Rattle.pdu.specs.Reading.{exactlyOne}
 use Rattle.pdu.proofs.Inversion.{Whole, read-whole, shown}
 use Rattle.pdu.proofs.Exact.{exact, is-exact}
 use Rattle.retained.specs.declared.Retained.{Retained}
-use Rattle.retained.specs.declared.Seen.{Seen}
+use Rattle.retained.specs.declared.Seek.{Seek}
 use Rattle.retained.proofs.Laws.{by-path, unfit-0}
-use Rattle.retained.specs.Records.{isFirstSending, isRetainable, unfit, isUsed, pduOf, namesOf, isDue}
-use Rattle.retained.specs.Searching.{notes, seenOf}
+use Rattle.retained.specs.Records.{isFirstSending, isRetainable, unfit, isUsed, pduOf, namesOf, isNamed, isDue}
+use Rattle.retained.specs.Searching.{isSought}
 
 same : (a b : Bool) → (a ≡ true → b ≡ true) → (b ≡ true → a ≡ true) → a ≡ b
 same true b f g = sym (f refl)
@@ -230,19 +230,11 @@ names-are r u =
     let at-8 = there (r .length) p 8 (omega (arith, nine)) in
     simp (b .addressed, one, at-4, at-5, at-6, at-7, at-8)
 
-due-used : (time delay : ℕ) (r : Retained) → isDue time delay r ≡ true → isUsed r ≡ true
-unfolding isDue
-due-used time delay r e = both (isUsed r) _ e .0
-
--- what is noted of a record that is due
-pub seen-due : (place none time delay : ℕ) (r : Retained) (one old x : Seen) (test : Bool) → test ≡ isDue time delay r
-    → (isUsed r ≡ true → one ≡ seenOf r) → x ≡ cond (notes place none test) one old
-    → x ≡ cond (notes place none (isDue time delay r)) (seenOf r) old
-seen-due place none time delay r one old x test e f g = g ∙ ap (λ (t : Bool). cond (notes place none t) one old) e
-    ∙ by (isDue time delay r) (λ d. f (due-used time delay r d)) (eqb place none)
+-- a record that is sought is in use
+pub sought-used : (s : Seek) (r : Retained) → isSought s r ≡ true → isUsed r ≡ true
+unfolding isDue isNamed
+sought-used s r = by (s .«by_time»)
   where
-    by : (due : Bool) → (due ≡ true → one ≡ seenOf r) → (t : Bool) → cond (t && due) one old ≡ cond (t && due) (seenOf r) old
-    by true g true = g refl
-    by true g false = refl
-    by false g true = refl
-    by false g false = refl
+    by : (b : Bool) → cond b (isDue (s .time) (s .delay) r) (isNamed (s .names) r) ≡ true → isUsed r ≡ true
+    by true e = both (isUsed r) _ e .0
+    by false e = both (isUsed r) _ e .0

@@ -58,13 +58,13 @@ fn is_whole(length: usize, byte0: u8, byte1: u8, entries: u8, payload: u16) -> b
 fn same_names(a: Names, b: Names) -> bool
     ensures { λ r. ⌜ r ≡ sameNames a b ⌝ }
 {
+    if a.pdu_id != b.pdu_id {
+        return false;
+    }
     if a.source != b.source {
         return false;
     }
-    if a.destination != b.destination {
-        return false;
-    }
-    a.pdu_id == b.pdu_id
+    a.destination == b.destination
 }
 
 // The names of the PDU that a record in use holds, by their places.
@@ -83,22 +83,20 @@ fn names_in(r: Retained) -> Names
 pub(crate) fn is_named(r: Retained, names: Names) -> bool
     ensures { λ x. ⌜ x ≡ isNamed names r ⌝ }
 {
-    if is_used(r) {
-        same_names(names_in(r), names)
-    } else {
-        false
+    if !same_names(names_in(r), names) {
+        return false;
     }
+    is_used(r)
 }
 
 // Whether a record is in use and was last sent at least the delay ago.
 pub(crate) fn is_due(r: Retained, time: u64, delay: u64) -> bool
     ensures { λ x. ⌜ x ≡ isDue time delay r ⌝ }
 {
-    if is_used(r) {
-        is_past(r.sent_at, time, delay)
-    } else {
-        false
+    if !is_past(r.sent_at, time, delay) {
+        return false;
     }
+    is_used(r)
 }
 
 fn is_past(sent_at: u64, time: u64, delay: u64) -> bool

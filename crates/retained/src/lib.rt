@@ -4,9 +4,10 @@ mod in_use;
 use pdu::Destination;
 use pdu::Header;
 ghost use mathlib.Core.Path.{_≡_};
-ghost use mathlib.Core.Bool.{cond};
+ghost use mathlib.Core.Bool.{_&&_};
+ghost use lib.Dec.{ltb};
 ghost use Rattle.retained.specs.Records.{isFirstSending, isRetainable, unfit, addressOf, namesOf, exchanged, retainedRecord, freedRecord};
-ghost use Rattle.retained.specs.Searching.{notes, lookOf};
+ghost use Rattle.retained.specs.Searching.{isOpen, isSought, freeAfter, lookOf};
 
 // The PDU in its first `length` bytes, when it was last sent, in seconds, and how often it was sent again.
 #[repr(C)]
@@ -43,16 +44,16 @@ pub struct Seen {
     pub count: u64,
 }
 
-// A search over the records: what it goes by, how many there are, and the first free one, the first with the names and the first due,
-// each `count` while none was met; `found` is what was seen of the one that is due.
+// A search over the records, by time or by names. `place` is where the record that is sought was met, `free` where the first free one before it; each is
+// `count` while none was met. `found` is what was seen of the one that is sought.
 pub struct Seek {
+    pub by_time: bool,
     pub names: Names,
     pub time: u64,
     pub delay: u64,
     pub count: usize,
     pub free: usize,
-    pub named: usize,
-    pub due: usize,
+    pub place: usize,
     pub found: Seen,
 }
 
@@ -149,44 +150,46 @@ pub fn freed_record() -> Retained
     }
 }
 
+// Whether a search goes on at place `i` of so many records: while the one that is sought was not met. Document 02, W-210.
+pub fn goes_on(s: Seek, i: usize, count: usize) -> bool
+    ensures { λ x. ⌜ x ≡ (isOpen s && ltb i count) ⌝ }
+{
+    if s.place != s.count {
+        return false;
+    }
+    i < count
+}
+
 // The search after one record more, at place `i`. Document 02, W-210.
 pub fn look(s: Seek, r: Retained, i: usize) -> Seek
     ensures { λ x. ⌜ x ≡ lookOf s r i ⌝ }
 {
-    let names = s.names;
-    let old = s.found;
-    let due = in_use::is_due(r, s.time, s.delay);
-    let found = seen_noted(s.due, s.count, due, in_use::see(r), old);
-    Seek {
-        names,
-        time: s.time,
-        delay: s.delay,
-        count: s.count,
-        free: noted(s.free, s.count, !in_use::is_used(r), i),
-        named: noted(s.named, s.count, in_use::is_named(r, names), i),
-        due: noted(s.due, s.count, due, i),
-        found,
+    let mut t = s;
+    if is_sought(s, r) {
+        t.place = i;
+        t.found = in_use::see(r);
+        return t;
     }
+    t.free = free_after(s, r, i);
+    t
 }
 
-fn noted(place: usize, none: usize, test: bool, i: usize) -> usize
-    ensures { λ r. ⌜ r ≡ cond (notes place none test) i place ⌝ }
+fn is_sought(s: Seek, r: Retained) -> bool
+    ensures { λ x. ⌜ x ≡ isSought s r ⌝ }
 {
-    if place == none {
-        if test {
+    if s.by_time {
+        return in_use::is_due(r, s.time, s.delay);
+    }
+    in_use::is_named(r, s.names)
+}
+
+fn free_after(s: Seek, r: Retained, i: usize) -> usize
+    ensures { λ x. ⌜ x ≡ freeAfter s r i ⌝ }
+{
+    if s.free == s.count {
+        if !in_use::is_used(r) {
             return i;
         }
     }
-    place
-}
-
-fn seen_noted(place: usize, none: usize, test: bool, one: Seen, old: Seen) -> Seen
-    ensures { λ x. ⌜ x ≡ cond (notes place none test) one old ⌝ }
-{
-    if place == none {
-        if test {
-            return one;
-        }
-    }
-    old
+    s.free
 }

@@ -1,60 +1,32 @@
 use Rattle.retained.specs.Searching.{lookOf}
-use Rattle.retained.proofs.Used.{seen-due}
+use Rattle.retained.proofs.Used.{sought-used}
+use mathlib.Core.Path.{_≡_, sym, _∙_}
+use mathlib.Core.Bool.{true, false}
 use borrow.Author.Needs.{needs}
 use Rattle.retained.proofs.look.Statement.{statement}
 use Rattle.retained.proofs.look.Tie as tie
 
-is-due-requires : tie.Need-is-due-requires
-is-due-requires c κs = search needs
+is-sought-requires : tie.Need-is-sought-requires
+is-sought-requires c κs = search needs
 
 see-requires : tie.Need-see-requires
 see-requires c κs = search needs
 
-seen-noted-requires : tie.Need-seen-noted-requires
-seen-noted-requires c κs = search needs
-
-is-used-requires : tie.Need-is-used-requires
-is-used-requires c κs = search needs
-
-noted-requires : tie.Need-noted-requires
-noted-requires c κs = search needs
-
-is-named-requires : tie.Need-is-named-requires
-is-named-requires c κs = search needs
-
-noted-requires-2 : tie.Need-noted-requires-2
-noted-requires-2 c κs = search needs
-
-noted-requires-3 : tie.Need-noted-requires-3
-noted-requires-3 c κs = search needs
-
 returns : tie.Need-returns
 unfolding lookOf
 returns c =
-    let seen = c .before .before .before .before .before in
-    let a = seen .before .before .before .before .before .args in
-    let found = seen-due (a .s .due) (a .s .count) (a .s .time) (a .s .delay) (a .r) _ (a .s .found) _ _ (seen .before .before .is-due .ensures)
-    (seen .before .see .ensures) (seen .seen-noted .ensures) in
-    simp (
-      c .noted3 .ensures,
-      c .before .noted2 .ensures,
-      c .before .before .is-named .ensures,
-      c .before .before .before .noted .ensures,
-      c .before .before .before .before .is-used .ensures,
-      found,
-      seen .before .before .is-due .ensures,
-    )
+    let test = c .before .before in
+    let a = test .before .args in
+    let met = sym (test .is-sought .ensures) ∙ c .before .if1 .taken in
+    simp (met, c .see .ensures (sought-used (a .s) (a .r) met))
+
+free-after-requires : tie.Need-free-after-requires
+free-after-requires c κs = search needs
+
+returns-2 : tie.Need-returns-2
+unfolding lookOf
+returns-2 c = simp (sym (c .before .before .is-sought .ensures) ∙ c .before .if1 .left, c .free-after .ensures)
 
 pub look-spec : {M : Type 1} → statement M
 look-spec =
-    tie.close
-    (tie.spec
-    is-due-requires
-    see-requires
-    seen-noted-requires
-    is-used-requires
-    noted-requires
-    is-named-requires
-    noted-requires-2
-    noted-requires-3
-    returns)
+    tie.close (tie.spec is-sought-requires see-requires returns free-after-requires returns-2)
