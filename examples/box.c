@@ -23,11 +23,10 @@ static const MantSending sending = {.hop_limit = HOP_LIMIT, .with_path = true};
 static const MantKey key = {{'k', 'e', 'e', 'p', ' ', 'm', 'e', ' ', 's', 'e', 'c', 'r', 'e', 't', '!', '!'}};
 
 /* What the box remembers, all of it empty at first. The record and alarm_id are kept over a restart (save). */
-static uint16_t stations[MANT_STATION_WORDS];
+static MantStations stations;
 static MantQueue queue;
-static MantRetained alarms[MANT_RECORDS];
-static uint64_t last_time; /* in seconds since the start, so that no time is earlier than the last */
-static uint32_t record[MANT_SOURCE_WORDS];
+static MantReliable alarms; /* its times are seconds since the start, so that none is earlier than the last */
+static MantSources record;
 static uint64_t last_opened = UINT64_MAX; /* of what was opened last the source, PDU ID and message number, as one; at first nobody's */
 static uint8_t raised = 4, alarm_id = 1;  /* the alarms that wait for a slot, a bit each, one from the start; and the PDU ID that they get */
 static uint8_t output[MANT_PDU_LIMIT], plain[MANT_PAYLOAD_LIMIT], slot[SLOT_BYTES]; /* room for what a call writes */
@@ -80,7 +79,7 @@ static void save(void) { }
    last; any other came too late, or is forged. The record is kept before a command is carried out, so that no restart carries it out twice. */
 static bool open_sealed(const uint8_t *pdu, MantHeader header)
 {
-    MantWritten opened = mant_open(key, record, MANT_SOURCE_WORDS, pdu, header.pdu_length, plain, sizeof plain);
+    MantWritten opened = mant_open(key, &record, pdu, header.pdu_length, plain, sizeof plain);
     if (!done("opening", opened.number) && opened.number != MANT_NUMBER_NOT_GREATER) {
         return false;
     }
@@ -105,11 +104,10 @@ static bool deliver(const uint8_t *pdu, MantAnswer answer)
     return true;
 }
 
-/* What came of a call with the alarms, which gives the time that the next is given; whether it did what was asked. */
+/* What came of a call with the alarms; whether it did what was asked. */
 static bool note(MantOutcome outcome)
 {
     static const char *const deeds[] = {"", "retained", "sent again", "given up", "known to have arrived", "acknowledged"};
-    last_time = outcome.last;
     if (outcome.deed != MANT_DEED_NONE) {
         printf("    PDU %u from %u to %u is %s\n", outcome.names.pdu_id, outcome.names.source, outcome.names.destination, deeds[outcome.deed]);
     }
@@ -119,15 +117,14 @@ static bool note(MantOutcome outcome)
 /* The PDU at the start of the bytes; gives its length, or 0 where it cannot be read. */
 static size_t hear(const uint8_t *pdu, size_t length)
 {
-    MantListened heard = mant_hear_and_count(node, lists.words, MANT_LIST_WORDS, pdu, length, output, sizeof output, stations, MANT_STATION_WORDS);
+    MantListened heard = mant_hear_and_count(node, lists.words, MANT_LIST_WORDS, pdu, length, output, sizeof output, &stations);
     MantAnswer answer = heard.answer;
     done("table of stations", heard.table_number);
     if (done("repeat", answer.repeat)) {
         enqueue("repeat", output, answer.repeated_length);
     }
     if (done("delivery", answer.delivery) && deliver(pdu, answer)) {
-        MantOutcome outcome = mant_acknowledge(alarms, MANT_RECORDS, last_time, node.own, pdu, answer.taken, answer, sending, output,
-                                               sizeof output);
+        MantOutcome outcome = mant_reliable_acknowledge(&alarms, node.own, pdu, answer.taken, answer, sending, output, sizeof output);
         if (note(outcome) && outcome.deed == MANT_DEED_ACKNOWLEDGED) {
             enqueue("acknowledgement", output, outcome.length);
         }
@@ -149,7 +146,7 @@ static size_t begin_with_alarms(uint64_t now)
     const MantFresh fresh = {.edition = node.edition, .source = node.own, .has_destination = true, .destination = BASE, .hop_limit = HOP_LIMIT,
                              .with_path = true, .reliable = true, .pdu_id = alarm_id};
     MantWritten written = mant_originate(fresh, &raised, 1, slot, sizeof slot);
-    if (!done("alarm", written.number) || !note(mant_retain(alarms, MANT_RECORDS, last_time, now, slot, written.length))) {
+    if (!done("alarm", written.number) || !note(mant_reliable_retain(&alarms, now, slot, written.length))) {
         return 0;
     }
     raised = 0;
@@ -165,7 +162,7 @@ static void send_slot(uint64_t now)
     size_t used = raised != 0 ? begin_with_alarms(now) : 0;
     MantOutcome outcome;
     do {
-        outcome = mant_retry(alarms, MANT_RECORDS, last_time, now, DELAY, TRIES, slot + used, sizeof slot - used);
+        outcome = mant_reliable_retry(&alarms, now, DELAY, TRIES, slot + used, sizeof slot - used);
         note(outcome);
         used += outcome.length;
     } while (outcome.deed != MANT_DEED_NONE);
@@ -192,8 +189,8 @@ int main(void)
             send_slot(now);
         }
     }
-    for (size_t i = 0; i < mant_stations_held(stations, MANT_STATION_WORDS); i++) {
-        MantStation station = mant_station_at(stations, MANT_STATION_WORDS, i).station;
+    for (size_t i = 0; i < mant_stations_held(&stations); i++) {
+        MantStation station = mant_station_at(&stations, i).station;
         printf("station %u: %u read, %u of them echoes\n", station.address, station.reads, station.echoes);
     }
     return 0;

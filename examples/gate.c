@@ -11,11 +11,10 @@
 #define DELAY 30 /* seconds until a command is sent again */
 #define TRIES 2  /* times that it is sent again */
 
-/* A site: its settings, the PDUs that it retains, and the last time that it gave. Free records may hold anything; these hold zeros. */
+/* A site: its settings, and the PDUs that it retains. */
 typedef struct {
     MantNode node;
-    MantRetained table[MANT_RECORDS];
-    uint64_t last;
+    MantReliable reliable;
 } Site;
 
 static Site base = {.node = MANT_NODE(1000)}, gate = {.node = MANT_NODE(1600)};
@@ -38,19 +37,16 @@ static size_t give(uint8_t pdu_id, uint64_t time, uint8_t *output)
         .edition = MANT_EDITION_1_2, .source = 1000, .has_destination = true, .destination = 1600, .hop_limit = 1, .reliable = true, .pdu_id = pdu_id};
     const uint8_t open_gate[] = {0x01};
     MantWritten written = mant_originate(settings, open_gate, sizeof open_gate, output, MANT_RETAINED_LIMIT);
-    MantOutcome outcome = mant_retain(base.table, MANT_RECORDS, base.last, time, output, written.length);
 
-    base.last = outcome.last;
-    print_outcome("command given", outcome);
+    print_outcome("command given", mant_reliable_retain(&base.reliable, time, output, written.length));
     return written.length;
 }
 
 /* One step at the base; gives the bytes to be sent, if any. */
 static size_t step(uint64_t time, uint8_t *output)
 {
-    MantOutcome outcome = mant_retry(base.table, MANT_RECORDS, base.last, time, DELAY, TRIES, output, MANT_RETAINED_LIMIT);
+    MantOutcome outcome = mant_reliable_retry(&base.reliable, time, DELAY, TRIES, output, MANT_RETAINED_LIMIT);
 
-    base.last = outcome.last;
     printf("at %u s ", (unsigned)time);
     print_outcome("a step", outcome);
     return outcome.length;
@@ -59,8 +55,7 @@ static size_t step(uint64_t time, uint8_t *output)
 /* A site hears a PDU; gives the bytes of the acknowledgement to be sent, if any. A gate would act on what is delivered to it. */
 static size_t hear(const char *name, Site *site, const uint8_t *pdu, size_t length, uint8_t *output)
 {
-    MantHeardReliably heard = mant_hear_reliably(site->node, NULL, 0, site->table, MANT_RECORDS, site->last, pdu, length, sending, output,
-                                                 MANT_RETAINED_LIMIT);
+    MantHeardReliably heard = mant_reliable_hear(site->node, NULL, 0, &site->reliable, pdu, length, sending, output, MANT_RETAINED_LIMIT);
 
     printf("%s, payload bytes delivered: %zu\n", name, heard.answer.delivered_length);
     print_outcome("its table", heard.outcome);

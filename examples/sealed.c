@@ -13,7 +13,7 @@
    receiver's record. */
 static const MantKey key = {{'k', 'e', 'e', 'p', ' ', 'm', 'e', ' ', 's', 'e', 'c', 'r', 'e', 't', '!', '!'}};
 static uint64_t next_number = 850;
-static uint32_t record[MANT_SOURCE_WORDS];
+static MantSources record;
 
 /* Overwrites the stack that mant_seal or mant_open used, since round keys are left there. The function that made that call makes this one, at once. */
 __attribute__((noinline)) static void clear_stack(void)
@@ -46,7 +46,7 @@ static MantWritten seal_next(const uint8_t *pdu, size_t length, uint8_t *sealed,
 static void open_at_gate(const char *name, const uint8_t *pdu, size_t length)
 {
     uint8_t plain[MANT_PAYLOAD_LIMIT];
-    MantWritten opened = mant_open(key, record, MANT_SOURCE_WORDS, pdu, length, plain, sizeof plain);
+    MantWritten opened = mant_open(key, &record, pdu, length, plain, sizeof plain);
     clear_stack();
 
     printf("%s: %u, %s\n", name, opened.number, mant_meaning(opened.number));
@@ -77,10 +77,10 @@ int main(void)
     repeated[answer.repeated_length - 1] ^= 1;
     open_at_gate("as it was sent", repeated, answer.repeated_length);
     open_at_gate("the same again", sealed, written.length);
-    printf("%u source is held: the last number accepted from %u is %u\n", (unsigned)record[0], (unsigned)record[1], (unsigned)record[2]);
+    printf("%u source is held: the last number accepted from %u is %u\n", (unsigned)record.words[0], (unsigned)record.words[1], (unsigned)record.words[2]);
 
     /* Both sites change the key: the gate removes the source, and its numbers may begin again. */
-    printf("removed: %s\n", mant_remove_source(record, MANT_SOURCE_WORDS, settings.source) ? "yes" : "no");
-    printf("sources held: %u\n", (unsigned)record[0]);
+    printf("removed: %s\n", mant_remove_source(&record, settings.source) ? "yes" : "no");
+    printf("sources held: %u\n", (unsigned)record.words[0]);
     return 0;
 }

@@ -2,8 +2,9 @@
  * mant.h: the MANT layer of ALERT2 for C, linked from libmant.a (rt staticlib mant).
  *
  * Every call returns a result for every input: nothing has to be checked before it. What each returns is proved of the code in the library, against the
- * definitions in the crates' specs/ folders. Two functions are in this header and so outside the proof: mant_lay_lists hands the lists of a struct on to
- * mant_lay_eight, and mant_meaning has the words of a number. No call keeps anything between calls, allocates, or does input or output. So two may run at
+ * definitions in the crates' specs/ folders. Six functions are in this header and so outside the proof. mant_lay_lists hands the lists of a struct on to
+ * mant_lay_eight. The four mant_reliable_ ones hand the records and the time of a MantReliable on to the call without that word, and keep the time that
+ * comes back. mant_meaning has the words of a number. No call keeps anything between calls, allocates, or does input or output. So two may run at
  * once unless they share memory that one of them changes. The library needs memcpy and memset, and no other function of the C library.
  *
  * The groups, by what a box does:
@@ -29,18 +30,18 @@
  * What a caller owes, since no code can look whether it holds. A pointer with a length other than 0 points to that many elements, aligned as C aligns their
  * type, which nothing else changes during the call; with length 0 it may be anything, NULL too, and is not followed. An output shares no memory with another
  * slice of the call, nor does memory that is lent. Structs are those declared here. They are passed by value and so aligned by the compiler. MantLists,
- * MantListBlock and MantQueue are passed by address, and only that of a MantLists may be NULL. A bool in a struct holds 0 or 1, as C's does unless it was
- * written by other means, such as memcpy.
+ * MantListBlock, MantStations, MantQueue, MantReliable and MantSources are passed by address, and only that of a MantLists may be NULL. A bool in a struct
+ * holds 0 or 1, as C's does unless it was written by other means, such as memcpy.
  *
- * Slices. A slice is passed as a pointer and then a length, which counts elements: bytes, the values of a list, the words of a block of lists or of a table,
- * records. Only so many elements are ever read or written.
+ * Slices. A slice is passed as a pointer and then a length, which counts elements: bytes, the values of a list, the words of a block of lists, records. Only
+ * so many elements are ever read or written.
  *
  * Output. It changes only where a PDU, its plain payload, an exchange or what was taken from a queue is written (number 0), or, at a node, where the repeat
  * number is 0. It then begins with that, and keeps its bytes past the end of it. With every other number the output is left as it was. MANT_PDU_LIMIT
  * bytes are room for every PDU, MANT_EXCHANGE_LIMIT for every exchange that is written, MANT_QUEUE_BYTES for all that a queue holds.
  *
- * Lent memory. What a box remembers lies in arrays of the caller's, who lends one to each call that needs it and keeps it from call to call: a table of
- * stations, a queue, a table of retained PDUs, a record of message numbers. Each is empty when it is all zeros. With a refusal nothing in it changes. Every
+ * Lent memory. What a box remembers lies in structs of the caller's, who lends one to each call that needs it and keeps it from call to call: MantStations,
+ * MantQueue, MantReliable, MantSources. Each is empty when it is all zeros. With a refusal nothing in it changes. Every
  * call is defined for arbitrary memory contents: each group says what it returns for malformed memory. A block of address lists is lent too. Only laying
  * writes it, also when a list has a fault. Over a restart a box must keep the record, and beside it what it counts itself, the message number and the PDU ID
  * that it used last. The rest may begin empty again, and lists are laid again.
@@ -112,7 +113,7 @@ enum MantNumber {
     MANT_JOB_LIST_COUNT = 52,               /* a list of the job has more than 64 ranges */
     MANT_JOB_LEFT_OVER = 53,                /* the job goes on after its batch */
     MANT_BATCH_TOO_LONG = 54,               /* the batch has more than 16,384 bytes */
-    MANT_TABLE_FULL = 55,                   /* a new station, and the table holds as many as it has room for */
+    MANT_TABLE_FULL = 55,                   /* a new station, and the table holds 128 */
     MANT_NOT_HELD = 56,                     /* no such station is held */
     MANT_ELEMENT_CUT = 57,                  /* an element does not end within the run that it stands in */
     MANT_ELEMENT_TOO_DEEP = 58,             /* an element stands at level 5 */
@@ -132,7 +133,7 @@ enum MantNumber {
     MANT_TOO_SHORT_TO_OPEN = 81,            /* its payload is too short for a message number and a hash */
     MANT_NUMBER_NOT_GREATER = 82,           /* its message number is not greater than the last accepted from its source */
     MANT_HASH_DIFFERS = 83,                 /* its hash differs: another key, or it was changed on its way */
-    MANT_RECORD_FULL = 84,                  /* a new source, and the record holds as many as it has room for */
+    MANT_RECORD_FULL = 84,                  /* a new source, and the record holds 64 */
     MANT_SEALED_TOO_LONG = 85,              /* the sealed payload would have more than 4,095 bytes */
     MANT_NUMBER_TOO_LARGE = 86,             /* the message number is above 16,777,215 */
     MANT_NO_ROOM_FOR_PAYLOAD = 87,          /* the output has no room for the sealed PDU, or for the plain payload */
@@ -497,20 +498,24 @@ MantStep mant_step(MantNode node, const uint16_t *lists, size_t lists_length, co
 /* ---- Stations heard ----
  *
  * Which stations a box hears (document 02, W-201): how many PDUs were read from each, how many of them echo dropped, its shortest path count.
- * Memory: a table that the caller lends: MANT_STATION_WORDS uint16_t words, 1,026 bytes, for MANT_STATION_LIMIT stations; more words have room for no more,
- *     fewer for (words - 1) / 4, and fewer than 5 for none. It is empty where its first word is 0, whatever stands behind it. The first word is how many
- *     are held; then come four words for each station, by rising address: its address, the PDUs read from it, those of them that echo dropped, and one more
- *     than its shortest path count, 0 while that is absent. A first word above the room is a full table's. Where a call changes the table it writes the
- *     first word and the words of the stations then held, and keeps those behind them; where it does not, no word changes. Words put together by hand are
- *     held and listed as they stand there, but by address stations are looked for as if the addresses rose, so that where they do not, one that stands
- *     there may not be found.
+ * Memory: a MantStations that the caller lends, for MANT_STATION_LIMIT stations. It is empty if its first word is 0, whatever stands behind it. The first
+ *     word is how many are held; then come four words for each station, by rising address: its address, the PDUs read from it, those of them that echo
+ *     dropped, and one more than its shortest path count, 0 while that is absent. A first word above 128 counts as 128. Where a call changes the table it
+ *     writes the first word and the words of the stations then held, and keeps those behind them; where it does not, no word changes. In malformed memory
+ *     stations are held and listed as they stand there. By address they are looked for as if the addresses rose, so where they do not, one that stands there
+ *     may not be found.
  * Numbers: 55, 56.
- * Stack: mant_stations_capacity 8, mant_stations_held 8, mant_station_at 8, mant_station_of 56, mant_remove_station 56, mant_count_heard 104,
+ * Stack: mant_stations_held 8, mant_station_at 8, mant_station_of 56, mant_remove_station 56, mant_count_heard 104,
  *     mant_count_answer 104, mant_hear_and_count 368.
  */
 
 #define MANT_STATION_LIMIT 128
-#define MANT_STATION_WORDS 513
+
+/* A table's memory: how many stations are held, and four words for each. */
+typedef struct MantStations {
+    uint16_t words[513];
+} MantStations;
+MANT_SIZE(MantStations, 1026);
 
 /* A station that was heard. The counts stop at 65,535, each by itself. */
 typedef struct MantStation {
@@ -545,53 +550,52 @@ typedef struct MantListened {
 } MantListened;
 MANT_SIZE(MantListened, 48);
 
-/* How many stations the table has room for, 0 to 128, and how many it holds. */
-size_t mant_stations_capacity(const uint16_t *table, size_t table_words);
-size_t mant_stations_held(const uint16_t *table, size_t table_words);
+/* How many stations the table holds, 0 to MANT_STATION_LIMIT. */
+size_t mant_stations_held(const MantStations *table);
 
 /* The station at a place of the listing by rising address, the lowest at 0; 56 at every place from mant_stations_held on. */
-MantFound mant_station_at(const uint16_t *table, size_t table_words, size_t place);
+MantFound mant_station_at(const MantStations *table, size_t place);
 
 /* The station of an address, or 56 where it is not held. */
-MantFound mant_station_of(const uint16_t *table, size_t table_words, uint16_t address);
+MantFound mant_station_of(const MantStations *table, uint16_t address);
 
 /* Removes the station of an address. Answers 0, or 56 where it is not held, and leaves the table alone then. Heard again later, a station that was
    removed starts anew. */
-uint8_t mant_remove_station(uint16_t *table, size_t table_words, uint16_t address);
+uint8_t mant_remove_station(MantStations *table, uint16_t address);
 
 /* Counts a PDU that was read: one more read of its source, one more echo where it was one, and the smaller of the shortest path count and its own
-   where it has the path bit. A source that is not held is taken in. Answers 0, or 55 where it is to be taken in while as many stations are held as the
-   table has room for, and leaves the table alone then; a station that is held is never refused. The shortest path count is still followed where a
+   where it has the path bit. A source that is not held is taken in. Answers 0, or 55 where it is to be taken in while MANT_STATION_LIMIT stations are
+   held, and leaves the table alone then; a station that is held is never refused. The shortest path count is still followed where a
    count has come to 65,535. */
-uint8_t mant_count_heard(uint16_t *table, size_t table_words, MantHeard heard);
+uint8_t mant_count_heard(MantStations *table, MantHeard heard);
 
 /* Counts the PDU at the start of the received bytes by what a node answered for it, as mant_count_heard does: delivery number 30 or 42 is an echo.
    Where the answer says that no PDU was read, `taken` is 0: it answers 0 and leaves the table alone. It is for a walk, after each step s that answered:
    with received = batch + (s.next.place - s.answer.taken) and the bytes from there to the batch's end; a step without an answer counts nothing.
    Hand on only what the node answered for these bytes: of another answer what they hold is counted, missing bytes as 0. */
-uint8_t mant_count_answer(uint16_t *table, size_t table_words, const uint8_t *received, size_t received_length, MantAnswer answer);
+uint8_t mant_count_answer(MantStations *table, const uint8_t *received, size_t received_length, MantAnswer answer);
 
 /* What mant_hear answers and writes to the output, and the PDU counted in the table as by mant_count_answer, so that no PDU is forgotten. Every PDU
    that could be read is counted, also one that a list then stops and one for whose repeat the output is too short. With table number 55 the PDU is
    delivered and repeated all the same. */
 MantListened mant_hear_and_count(MantNode node, const uint16_t *lists, size_t lists_length, const uint8_t *received, size_t received_length,
-                                 uint8_t *output, size_t output_length, uint16_t *table, size_t table_words);
+                                 uint8_t *output, size_t output_length, MantStations *table);
 
 /* Example: node 2000 hears gauge 1000 twice, the second time as an echo of its own repeat.
 
-       static uint16_t table[MANT_STATION_WORDS];
+       static MantStations table;
        const MantNode node = MANT_NODE(2000);
        const uint8_t report[] = {0x02, 0x00, 0x10, 0x01, 0x03, 0xE8, 0x00, 0x2A};
        uint8_t repeated[10], output[MANT_PDU_LIMIT];
-       MantListened heard = mant_hear_and_count(node, NULL, 0, report, 8, repeated, 10, table, MANT_STATION_WORDS);
+       MantListened heard = mant_hear_and_count(node, NULL, 0, report, 8, repeated, 10, &table);
        assert(heard.answer.repeat == MANT_DONE && heard.table_number == MANT_DONE);
-       heard = mant_hear_and_count(node, NULL, 0, repeated, 10, output, sizeof output, table, MANT_STATION_WORDS);
+       heard = mant_hear_and_count(node, NULL, 0, repeated, 10, output, sizeof output, &table);
        assert(heard.answer.delivery == MANT_ECHO);
-       for (size_t i = 0; i < mant_stations_held(table, MANT_STATION_WORDS); i++) {
-           MantStation station = mant_station_at(table, MANT_STATION_WORDS, i).station;
+       for (size_t i = 0; i < mant_stations_held(&table); i++) {
+           MantStation station = mant_station_at(&table, i).station;
            assert(station.address == 1000 && station.reads == 2 && station.echoes == 1 && station.shortest_path == 0);
        }
-       assert(mant_station_of(table, MANT_STATION_WORDS, 1001).number == MANT_NOT_HELD); */
+       assert(mant_station_of(&table, 1001).number == MANT_NOT_HELD); */
 
 /* ---- The transmit queue ----
  *
@@ -746,13 +750,13 @@ MantWritten mant_write_exchange(const uint8_t *bytes, size_t bytes_length, uint8
  * written here too. That box acknowledges and delivers each copy that reaches it, since no call remembers what was delivered. If a command must not be obeyed
  * twice, the box knows it by its source and ID, or it is sealed. So the sender gives each command the next ID, and keeps the count over a restart: with an ID
  * used before, a command would be taken for a copy.
- * Memory: a table that the caller lends: MANT_RECORDS records, 4,480 bytes. Beside it the caller keeps the last accepted time, which each call returns and
- *     the next is given; 0 stands for no time accepted yet. Times are whole seconds of a clock that does not go back. If it was set back all the same (73),
- *     go on with 0 for the last time, and set sent_at of each record to the time now. Each is then late after a whole delay, and its count stays. A record is
- *     in use if its length is MANT_RETAINED_LIMIT at most and its PDU exactly one of protocol 1 with ACK clear and no path address. Every other is free, so a
- *     table of zeros is free. Whatever the records hold, each call is defined. The first is always the one at the lowest place. A call changes one record at
- *     most; with a refusal it changes none, nor the last time. With another number of records than MANT_RECORDS no record is read: sizeof table in place of
- *     MANT_RECORDS is refused with 74.
+ * Memory: a MantReliable that the caller lends: MANT_RECORDS records, and the last accepted time; 0 stands for no time accepted yet. The mant_reliable_ calls
+ *     take one. Those without that word take the records as a slice and the time by itself, and return the time for the next call. Times are whole seconds of
+ *     a clock that does not go back. If it was set back all the same (73), go on with 0 for the last time, and set sent_at of each record to the time now.
+ *     Each is then late after a whole delay, and its count stays. A record is in use if its length is MANT_RETAINED_LIMIT at most and its PDU exactly one of
+ *     protocol 1 with ACK clear and no path address. Every other is free, so a table of zeros is free. Whatever the records hold, each call is defined. The
+ *     first is always the one at the lowest place. A call changes one record at most; with a refusal it changes none, nor the last time. With another number
+ *     of records than MANT_RECORDS no record is read: sizeof table in place of MANT_RECORDS is refused with 74.
  * Numbers: 10, 11, 70 to 75, 77.
  * Stack: mant_retain 696, mant_retry 712, mant_hear_reliably 680, mant_acknowledge 632.
  */
@@ -770,6 +774,13 @@ typedef struct MantRetained {
     uint64_t count;           /* how often it was sent again */
 } MantRetained;
 MANT_SIZE(MantRetained, 280);
+
+/* The table of a box and its last accepted time. */
+typedef struct MantReliable {
+    MantRetained records[MANT_RECORDS];
+    uint64_t last;
+} MantReliable;
+MANT_SIZE(MantReliable, 4488);
 
 /* What a retained PDU is known by. */
 typedef struct MantNames {
@@ -846,23 +857,53 @@ MantHeardReliably mant_hear_reliably(MantNode node, const uint16_t *lists, size_
 MantOutcome mant_acknowledge(MantRetained *table, size_t records, uint64_t last, uint16_t own, const uint8_t *received, size_t received_length,
                              MantAnswer answer, MantSending sending, uint8_t *output, size_t output_length);
 
+/* mant_retain, mant_retry, mant_hear_reliably and mant_acknowledge with the records and the time of a MantReliable, which keeps the time that comes back.
+   They never return 74. */
+static inline MantOutcome mant_reliable_retain(MantReliable *reliable, uint64_t time, const uint8_t *pdu, size_t pdu_length)
+{
+    MantOutcome outcome = mant_retain(reliable->records, MANT_RECORDS, reliable->last, time, pdu, pdu_length);
+    reliable->last = outcome.last;
+    return outcome;
+}
+
+static inline MantOutcome mant_reliable_retry(MantReliable *reliable, uint64_t time, uint64_t delay, uint64_t tries, uint8_t *output,
+                                              size_t output_length)
+{
+    MantOutcome outcome = mant_retry(reliable->records, MANT_RECORDS, reliable->last, time, delay, tries, output, output_length);
+    reliable->last = outcome.last;
+    return outcome;
+}
+
+static inline MantHeardReliably mant_reliable_hear(MantNode node, const uint16_t *lists, size_t lists_length, MantReliable *reliable,
+                                                   const uint8_t *received, size_t received_length, MantSending sending, uint8_t *output,
+                                                   size_t output_length)
+{
+    return mant_hear_reliably(node, lists, lists_length, reliable->records, MANT_RECORDS, reliable->last, received, received_length, sending, output,
+                              output_length);
+}
+
+static inline MantOutcome mant_reliable_acknowledge(MantReliable *reliable, uint16_t own, const uint8_t *received, size_t received_length,
+                                                    MantAnswer answer, MantSending sending, uint8_t *output, size_t output_length)
+{
+    return mant_acknowledge(reliable->records, MANT_RECORDS, reliable->last, own, received, received_length, answer, sending, output, output_length);
+}
+
 /* Example: base 1000 commands gate 1600, is not answered for 30 seconds, sends again, and hears the acknowledgement.
 
-       static MantRetained table[MANT_RECORDS], at_gate[MANT_RECORDS];
+       static MantReliable at_base, at_gate;
        const MantFresh command = {.edition = MANT_EDITION_1_2, .source = 1000, .has_destination = true, .destination = 1600, .reliable = true, .pdu_id = 7};
        MantNode base = MANT_NODE(1000), gate = MANT_NODE(1600);
        base.repeating = gate.repeating = false;
        const MantSending sending = {.hop_limit = 1};
        uint8_t sent[MANT_RETAINED_LIMIT], reply[MANT_RETAINED_LIMIT];
        size_t length = mant_originate(command, NULL, 0, sent, sizeof sent).length;
-       MantOutcome outcome = mant_retain(table, MANT_RECORDS, 0, 100, sent, length);
-       assert(outcome.deed == MANT_DEED_RETAINED && outcome.last == 100);
-       outcome = mant_retry(table, MANT_RECORDS, outcome.last, 130, 30, 2, sent, sizeof sent);
-       assert(outcome.deed == MANT_DEED_SENT_AGAIN && outcome.length == length && outcome.last == 130);
-       uint64_t last = outcome.last;
-       MantHeardReliably heard = mant_hear_reliably(gate, NULL, 0, at_gate, MANT_RECORDS, 0, sent, length, sending, reply, sizeof reply);
+       MantOutcome outcome = mant_reliable_retain(&at_base, 100, sent, length);
+       assert(outcome.deed == MANT_DEED_RETAINED && at_base.last == 100);
+       outcome = mant_reliable_retry(&at_base, 130, 30, 2, sent, sizeof sent);
+       assert(outcome.deed == MANT_DEED_SENT_AGAIN && outcome.length == length && at_base.last == 130);
+       MantHeardReliably heard = mant_reliable_hear(gate, NULL, 0, &at_gate, sent, length, sending, reply, sizeof reply);
        assert(heard.answer.delivery == MANT_DONE && heard.outcome.deed == MANT_DEED_ACKNOWLEDGED);
-       heard = mant_hear_reliably(base, NULL, 0, table, MANT_RECORDS, last, reply, heard.outcome.length, sending, sent, sizeof sent);
+       heard = mant_reliable_hear(base, NULL, 0, &at_base, reply, heard.outcome.length, sending, sent, sizeof sent);
        assert(heard.outcome.deed == MANT_DEED_FREED && heard.outcome.names.pdu_id == 7); */
 
 /* ---- Sealing and opening ----
@@ -885,19 +926,23 @@ MantOutcome mant_acknowledge(MantRetained *table, size_t records, uint64_t last,
  *     - The time of a table look-up depends on the key, on a processor with a cache.
  *     - Both calls leave round keys, from which the key follows, in the stack that they used. If others can read that memory, overwrite 2,048 bytes of stack
  *       after each call (clear_stack in examples/sealed.c).
- * Memory: to open, a record that the caller lends, and keeps over a restart too: MANT_SOURCE_WORDS uint32_t words, 516 bytes, for MANT_SOURCE_LIMIT sources;
- *     more words have room for no more, fewer for (words - 1) / 2. It is empty where its first word is 0. The first word is how many sources are held; then
- *     come two words for each, its address and the last message number accepted from it. A first word above the room is a full record's. Where a PDU is
- *     opened (number 0) the number of its source's entry is written, or a new source is put behind the others and counted; every other word is kept, but that
- *     a first word above the room becomes the room. mant_remove_source changes it too, and no other call does. In malformed memory the first entry of a source
- *     counts, and an address above 65,535 is no source's. If a source gets another key, remove it from the record (mant_remove_source): under a new key its
- *     numbers may begin at 0 again. To seal, none, but the caller counts the message numbers.
+ * Memory: to open, a MantSources that the caller lends, and keeps over a restart too, for MANT_SOURCE_LIMIT sources. It is empty if its first word is 0. The
+ *     first word is how many sources are held; then come two words for each, its address and the last message number accepted from it. A first word above 64
+ *     counts as 64. Where a PDU is opened (number 0) the number of its source's entry is written, or a new source is put behind the others and counted; every
+ *     other word is kept, but that a first word above 64 becomes 64. mant_remove_source changes it too, and no other call does. In malformed memory the first
+ *     entry of a source counts, and an address above 65,535 is no source's. If a source gets another key, remove it from the record (mant_remove_source):
+ *     under a new key its numbers may begin at 0 again. To seal, none, but the caller counts the message numbers.
  * Numbers: in sealing 1 to 6, 88, 85, 86 and 87; in opening 1 to 6, 80 to 84 and 87; mant_message_number 1 to 6, 80 and 81.
  * Stack: mant_seal 1,480, mant_open 1,504, mant_message_number 184, mant_remove_source 8.
  */
 
 #define MANT_SOURCE_LIMIT 64
-#define MANT_SOURCE_WORDS 129
+
+/* A record's memory: how many sources are held, and two words for each. */
+typedef struct MantSources {
+    uint32_t words[129];
+} MantSources;
+MANT_SIZE(MantSources, 516);
 
 /* How many bytes longer a sealed PDU is: its message number and its hash. The greatest message number. */
 #define MANT_SEAL_LENGTH 7
@@ -925,13 +970,12 @@ MANT_SIZE(MantNumbered, 8);
 MantWritten mant_seal(MantKey key, uint64_t number, const uint8_t *pdu, size_t pdu_length, uint8_t *output, size_t output_length);
 
 /* Opens the sealed PDU at the start of the bytes: writes its plain payload, and notes its number in the record. Answers 1 to 6 where there is no PDU, 80
-   where its encrypted bit is clear, 81 where its payload is shorter than MANT_SEAL_LENGTH, 82 where the record holds its source with this number or a
-   greater one, 83 where its hash is another, 84 where its source is new and the record full, 87 where the output is shorter than the plain payload, the
+   where its encrypted bit is clear, 81 where its payload is shorter than MANT_SEAL_LENGTH, 82 where the record holds its source with this number or a greater
+   one, 83 where its hash is another, 84 where its source is new and MANT_SOURCE_LIMIT are held, 87 where the output is shorter than the plain payload, the
    first that applies, and leaves output and record alone then. Against the same record it opens the same after any repeats as before them; once opened, a
    repeat of it is 82. Of a source that the record does not hold any number is taken, so an empty record takes what it has taken before: keep the record
    before a command is carried out. */
-MantWritten mant_open(MantKey key, uint32_t *record, size_t record_words, const uint8_t *pdu, size_t pdu_length, uint8_t *output,
-                      size_t output_length);
+MantWritten mant_open(MantKey key, MantSources *record, const uint8_t *pdu, size_t pdu_length, uint8_t *output, size_t output_length);
 
 /* The message number of the sealed PDU at the start of the bytes, 0 to MANT_NUMBER_LIMIT. Returns 1 to 6 where there is no PDU, 80 where its encrypted bit
    is clear, 81 where its payload is shorter than MANT_SEAL_LENGTH, the first that applies. Neither key nor hash is used: anyone can send any number. */
@@ -940,22 +984,22 @@ MantNumbered mant_message_number(const uint8_t *pdu, size_t pdu_length);
 /* Removes a source from the record, and returns whether it was held; if it was not, no word changes. The entries behind it move up, and the words behind the
    entries left stay. The next number from that source may be any, also one that was accepted before: remove a source only when its key changes, or when it is
    gone for good. */
-bool mant_remove_source(uint32_t *record, size_t record_words, uint16_t source);
+bool mant_remove_source(MantSources *record, uint16_t source);
 
 /* Example: a command under message number 850 opens once.
 
-       static uint32_t record[MANT_SOURCE_WORDS];
+       static MantSources record;
        const MantKey key = {{1, 2, 3, 4, 5, 6, 7, 8, 9, 10, 11, 12, 13, 14, 15, 16}};
        const uint8_t pdu[] = {0x02, 0x00, 0x10, 0x01, 0x03, 0xE8, 0x00, 0x2A};
        uint8_t sealed[MANT_PDU_LIMIT], plain[MANT_PAYLOAD_LIMIT];
        MantWritten written = mant_seal(key, 850, pdu, sizeof pdu, sealed, sizeof sealed);
        assert(written.number == MANT_DONE && written.length == sizeof pdu + MANT_SEAL_LENGTH);
        assert(mant_message_number(sealed, written.length).message == 850);
-       MantWritten opened = mant_open(key, record, MANT_SOURCE_WORDS, sealed, written.length, plain, sizeof plain);
+       MantWritten opened = mant_open(key, &record, sealed, written.length, plain, sizeof plain);
        assert(opened.number == MANT_DONE && opened.length == 1 && plain[0] == 0x2A);
-       opened = mant_open(key, record, MANT_SOURCE_WORDS, sealed, written.length, plain, sizeof plain);
+       opened = mant_open(key, &record, sealed, written.length, plain, sizeof plain);
        assert(opened.number == MANT_NUMBER_NOT_GREATER);
-       assert(mant_remove_source(record, MANT_SOURCE_WORDS, 1000) && record[0] == 0); */
+       assert(mant_remove_source(&record, 1000) && record.words[0] == 0); */
 
 /* ---- Planning ----
  *
@@ -1045,7 +1089,7 @@ static inline const char *mant_meaning(uint8_t number)
     case MANT_JOB_LIST_COUNT: return "a list of the job has more than 64 ranges";
     case MANT_JOB_LEFT_OVER: return "the job goes on after its batch";
     case MANT_BATCH_TOO_LONG: return "the batch has more than 16,384 bytes";
-    case MANT_TABLE_FULL: return "a new station, and the table holds as many as it has room for";
+    case MANT_TABLE_FULL: return "a new station, and the table holds 128";
     case MANT_NOT_HELD: return "no such station is held";
     case MANT_ELEMENT_CUT: return "an element does not end within the run that it stands in";
     case MANT_ELEMENT_TOO_DEEP: return "an element stands at level 5";
@@ -1065,7 +1109,7 @@ static inline const char *mant_meaning(uint8_t number)
     case MANT_TOO_SHORT_TO_OPEN: return "its payload is too short for a message number and a hash";
     case MANT_NUMBER_NOT_GREATER: return "its message number is not greater than the last accepted from its source";
     case MANT_HASH_DIFFERS: return "its hash differs: another key, or it was changed on its way";
-    case MANT_RECORD_FULL: return "a new source, and the record holds as many as it has room for";
+    case MANT_RECORD_FULL: return "a new source, and the record holds 64";
     case MANT_SEALED_TOO_LONG: return "the sealed payload would have more than 4,095 bytes";
     case MANT_NUMBER_TOO_LARGE: return "the message number is above 16,777,215";
     case MANT_NO_ROOM_FOR_PAYLOAD: return "the output has no room for the sealed PDU, or for the plain payload";

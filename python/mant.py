@@ -35,8 +35,8 @@ Traceback (most recent call last):
     ...
 ValueError: source is 70000; it can be 0 to 65535
 
-A `Queue` holds the PDUs that wait for the modem's next slot. What else a box keeps from call to call, the table of stations and the PDUs that wait for their
-acknowledgement, is for C and Rust."""
+A `Queue` holds the PDUs that wait for the modem's next slot, and `Stations` counts who was heard. What else a box keeps from call to call, the PDUs that wait
+for their acknowledgement, is for C and Rust."""
 import ctypes
 import dataclasses
 from typing import Iterator
@@ -47,18 +47,19 @@ from mant_c import LibraryMissing, library
 from mant_numbers import Number, Refused
 from mant_queue import Level, Queue
 from mant_reach import ProgramMissing, Reach, Reached, reach
-from mant_types import (ADDRESS, BYTE, EDITION_1_1, EDITION_1_2, EXCHANGE_LIMIT, EXCHANGE_TYPE, FIRST_LIST, NO_LIST, SECOND_LIST, SOURCE_WORDS, WORD_64,
+from mant_stations import Station, Stations
+from mant_types import (ADDRESS, BYTE, EDITION_1_1, EDITION_1_2, EXCHANGE_LIMIT, EXCHANGE_TYPE, FIRST_LIST, NO_LIST, SECOND_LIST, WORD_64,
                         Answer, Element, Exchange, Header, Limits, ListFault, Lists, Node, Record, Step, flag, whole)
 
 # `open` is left out, so that `from mant import *` does not take the place of Python's own
 __all__ = ['Answer', 'EDITION_1_1', 'EDITION_1_2', 'EXCHANGE_TYPE', 'Element', 'Exchange', 'FIRST_LIST', 'Header', 'Level', 'LibraryMissing', 'Limits',
-           'ListFault', 'Lists', 'NO_LIST', 'Node', 'Number', 'ProgramMissing', 'Queue', 'Reach', 'Reached', 'Record', 'Refused', 'SECOND_LIST', 'Step',
-           'change_over', 'elements', 'hear', 'limits', 'list_fault', 'list_holds', 'message_number', 'most_bytes', 'most_transmissions', 'originate', 'path',
-           'reach', 'read', 'read_exchange', 'remove_source', 'seal', 'walk', 'write_exchange']
+           'ListFault', 'Lists', 'NO_LIST', 'Node', 'Number', 'ProgramMissing', 'Queue', 'Reach', 'Reached', 'Record', 'Refused', 'SECOND_LIST', 'Station',
+           'Stations', 'Step', 'change_over', 'elements', 'hear', 'limits', 'list_fault', 'list_holds', 'message_number', 'most_bytes', 'most_transmissions',
+           'originate', 'path', 'reach', 'read', 'read_exchange', 'remove_source', 'seal', 'walk', 'write_exchange']
 
 # known by this module's name, whichever file they stand in
 for _known in (Answer, Element, Exchange, Header, Level, LibraryMissing, Limits, ListFault, Lists, Node, Number, ProgramMissing, Queue, Reach, Reached, Record,
-               Refused, Step, reach):
+               Refused, Station, Stations, Step, reach):
     _known.__module__ = 'mant'
 
 
@@ -302,8 +303,8 @@ def remove_source(record, source):
     >>> remove_source(record, 1000), remove_source(record, 1000), record.words[0]
     (True, False, 0)
     """
-    words = given.a(Record, 'record', record)._words
-    return library().mant_remove_source(words, SOURCE_WORDS, whole('source', source, ADDRESS))
+    sources = given.a(Record, 'record', record)._sources
+    return library().mant_remove_source(sources, whole('source', source, ADDRESS))
 
 
 def open(pdu, key, record):
@@ -318,5 +319,5 @@ def open(pdu, key, record):
         ...
     mant.Refused: 82: its message number is not greater than the last accepted from its source
     """
-    output, key, words = given.room(), given.key(key), given.a(Record, 'record', record)._words
-    return given.written(library().mant_open(key, words, SOURCE_WORDS, *given.sliced('pdu', pdu), *output), output)
+    output, key, sources = given.room(), given.key(key), given.a(Record, 'record', record)._sources
+    return given.written(library().mant_open(key, sources, *given.sliced('pdu', pdu), *output), output)

@@ -37,11 +37,16 @@ Answer = struct(
 Cursor = struct('MantCursor', place=c_size_t, ended=c_bool)
 Step = struct('MantStep', kind=c_uint8, answer=Answer, next=Cursor)
 Element = struct('MantElement', number=c_uint8, type_number=c_uint16, value_place=c_size_t, value_length=c_size_t, end=c_size_t)
+Stations = struct('MantStations', words=c_uint16 * 513)
+Station = struct('MantStation', address=c_uint16, reads=c_uint16, echoes=c_uint16, has_path=c_bool, shortest_path=c_uint16)
+Found = struct('MantFound', number=c_uint8, station=Station)
+Heard = struct('MantHeard', source=c_uint16, echo=c_bool, path_bit=c_bool, path_count=c_uint8)
 Queue = struct('MantQueue', bytes=c_uint8 * 2566)
 Level = struct('MantLevel', pdus=c_size_t, bytes=c_size_t)
 Batch = struct('MantBatch', number=c_uint8, pdus=c_size_t, bytes=c_size_t)
 Exchange = struct(
     'MantExchange', number=c_uint8, header_place=c_size_t, header_length=c_size_t, payload_place=c_size_t, payload_length=c_size_t)
+Sources = struct('MantSources', words=c_uint32 * 129)
 Key = struct('MantKey', bytes=c_uint8 * 16)
 Numbered = struct('MantNumbered', number=c_uint8, message=c_uint32)
 Bound = struct('MantBound', number=c_uint8, too_large=c_bool, value=c_uint64)
@@ -62,6 +67,12 @@ FUNCTIONS = {
     'mant_hear': (Answer, Node, *SLICE, *SLICE, *SLICE),
     'mant_step': (Step, Node, *SLICE, *SLICE, Cursor, *SLICE),
     'mant_element_at': (Element, *SLICE, c_size_t),
+    'mant_stations_held': (c_size_t, ctypes.POINTER(Stations)),
+    'mant_station_at': (Found, ctypes.POINTER(Stations), c_size_t),
+    'mant_station_of': (Found, ctypes.POINTER(Stations), c_uint16),
+    'mant_remove_station': (c_uint8, ctypes.POINTER(Stations), c_uint16),
+    'mant_count_heard': (c_uint8, ctypes.POINTER(Stations), Heard),
+    'mant_count_answer': (c_uint8, ctypes.POINTER(Stations), *SLICE, Answer),
     'mant_queue_level': (Level, ctypes.POINTER(Queue)),
     'mant_queue_add': (c_uint8, ctypes.POINTER(Queue), *SLICE),
     'mant_queue_take': (Batch, ctypes.POINTER(Queue), *SLICE),
@@ -69,9 +80,9 @@ FUNCTIONS = {
     'mant_read_exchange': (Exchange, *SLICE),
     'mant_write_exchange': (Written, *SLICE, *SLICE),
     'mant_seal': (Written, Key, c_uint64, *SLICE, *SLICE),
-    'mant_open': (Written, Key, *SLICE, *SLICE, *SLICE),
+    'mant_open': (Written, Key, ctypes.POINTER(Sources), *SLICE, *SLICE),
     'mant_message_number': (Numbered, *SLICE),
-    'mant_remove_source': (c_bool, *SLICE, c_uint16),
+    'mant_remove_source': (c_bool, ctypes.POINTER(Sources), c_uint16),
     'mant_most_transmissions': (Bound, c_uint64, c_uint64),
     'mant_most_bytes': (Bound, c_uint64, c_uint64, c_uint64),
     'mant_limits': (Limits,),

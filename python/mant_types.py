@@ -12,7 +12,7 @@ from mant_numbers import Number
 EDITION_1_1, EDITION_1_2 = 11, 12
 NO_LIST, FIRST_LIST, SECOND_LIST = 0, 1, 2
 CHOICES = ('source_pass', 'source_reject', 'destination_pass', 'destination_reject')
-EXCHANGE_LIMIT, EXCHANGE_TYPE, LIST_WORDS, SOURCE_WORDS = 4626, 20, 1040, 129  # those of C without MANT_
+EXCHANGE_LIMIT, EXCHANGE_TYPE, LIST_WORDS = 4626, 20, 1040  # those of C without MANT_
 BYTE, ADDRESS, WORD_32, WORD_64 = 2**8 - 1, 2**16 - 1, 2**32 - 1, 2**64 - 1  # the most that a C type holds
 
 
@@ -191,14 +191,20 @@ class Record:
     """
 
     def __init__(self, words=()):
-        words = [whole('a word of the record', word, WORD_32) for word in words]
-        if len(words) not in (0, SOURCE_WORDS):
-            raise ValueError(f'a record has {SOURCE_WORDS} words, not {len(words)}; a new one is made without words')
-        self._words = (ctypes.c_uint32 * SOURCE_WORDS)(*words)
+        self._sources = words_of(mant_c.Sources, 'record', words, WORD_32)
 
     @property
     def words(self):
-        return tuple(self._words)
+        return tuple(self._sources.words)
+
+
+def words_of(made, name, words, most):
+    """A struct of C that holds these words, all that it has or none."""
+    words, held = [whole(f'a word of the {name}', word, most) for word in words], made()
+    if len(words) not in (0, len(held.words)):
+        raise ValueError(f'a {name} has {len(held.words)} words, not {len(words)}; a new one is made without words')
+    held.words[:len(words)] = words
+    return held
 
 
 def values_of(name, values):

@@ -35,7 +35,7 @@ static void hearing()
     static MantListBlock lists;
     const uint16_t *words = lists.words;
     uint8_t output[MANT_PDU_LIMIT];
-    uint16_t table[MANT_STATION_WORDS] = {};
+    MantStations table = {};
     const MantCursor start = {0, false};
     const MantNode passing = mant_change_over(node, MANT_SECOND_LIST), stopping = mant_change_over(node, MANT_FIRST_LIST);
 
@@ -47,8 +47,8 @@ static void hearing()
     CHECK(mant_hear(stopping, words, MANT_LIST_WORDS, report, sizeof report, output, sizeof output).repeat == MANT_SOURCE_NOT_PASSED);
     CHECK(mant_hear(node, nullptr, 0, report, sizeof report, output, sizeof output).repeat == MANT_DONE);
     CHECK(mant_step(passing, words, MANT_LIST_WORDS, report, sizeof report, start, output, sizeof output).next.place == sizeof report);
-    CHECK(mant_hear_and_count(stopping, words, MANT_LIST_WORDS, report, 8, output, 10, table, MANT_STATION_WORDS).table_number == MANT_DONE);
-    CHECK(mant_station_of(table, MANT_STATION_WORDS, 1000).station.reads == 1);
+    CHECK(mant_hear_and_count(stopping, words, MANT_LIST_WORDS, report, 8, output, 10, &table).table_number == MANT_DONE);
+    CHECK(mant_station_of(&table, 1000).station.reads == 1);
 }
 
 // Structs by value, both ways.
@@ -61,12 +61,12 @@ static void structs()
     fresh.with_path = true;
     const MantKey key = {{1, 2, 3}};
     uint8_t written[sizeof report], sealed[sizeof report + MANT_SEAL_LENGTH], plain[1];
-    uint32_t record[MANT_SOURCE_WORDS] = {};
+    MantSources record = {};
 
     CHECK(mant_originate(fresh, report + 7, 1, written, sizeof written).length == sizeof report && memcmp(written, report, sizeof report) == 0);
     CHECK(mant_read(MANT_EDITION_1_2, report, sizeof report).source == 1000);
     CHECK(mant_seal(key, 850, report, sizeof report, sealed, sizeof sealed).length == sizeof sealed);
-    CHECK(mant_open(key, record, MANT_SOURCE_WORDS, sealed, sizeof sealed, plain, sizeof plain).length == 1 && plain[0] == 0x2A);
+    CHECK(mant_open(key, &record, sealed, sizeof sealed, plain, sizeof plain).length == 1 && plain[0] == 0x2A);
     CHECK(strcmp(mant_meaning(MANT_HASH_DIFFERS), "no such number") != 0 && strcmp(mant_meaning(MANT_NO_NUMBER), "no such number") == 0);
     CHECK(mant_limits().pdu == MANT_PDU_LIMIT);
 }

@@ -186,6 +186,27 @@ def exchanging():
         same(f'an exchange that is refused with {number}', number_of(mant.read_exchange, bytes.fromhex(text)), number)
 
 
+def stations_heard():
+    stations, node = mant.Stations(), mant.Node(own=2000)
+    stations.count_answer(EXAMPLE, mant.hear(EXAMPLE, node))
+    stations.count_answer(REPEATED, mant.hear(REPEATED, node))
+    stations.count_answer(EXAMPLE[:9], mant.hear(EXAMPLE[:9], node))
+    stations.count(999)
+    same('two heard', (len(stations), list(stations)), (2, [mant.Station(999, 1, 0, None), mant.Station(1000, 2, 1, 0)]))
+    same('past the last', (number_of(stations.at, 2), number_of(stations.get, 998), number_of(stations.remove, 998)), (56, 56, 56))
+    same('the words', (stations.words[:9], len(stations.words)), ((2, 999, 1, 0, 0, 1000, 2, 1, 1), 513))
+    for address in range(126):
+        stations.count(2 * address, echo=True, path_count=255)
+    full = stations.words
+    same('full', (len(stations), number_of(stations.count, 1), number_of(stations.count, 999), stations.get(2)), (128, 55, 0, mant.Station(2, 1, 1, 255)))
+    from_1 = mant.originate(b'', source=1, hop_limit=0)
+    same('full for an answer', number_of(stations.count_answer, from_1, mant.hear(from_1, node)), 55)
+    again = mant.Stations(full)
+    again.remove(1000)
+    same('kept elsewhere', (len(again), number_of(again.get, 1000), number_of(again.count, 1)), (127, 56, 0))
+    same('arbitrary words', (len(mant.Stations([65535] * 513)), mant.Stations([65535] * 513).at(127)), (128, mant.Station(65535, 65535, 65535, 65534)))
+
+
 def queueing():
     queue, pdu = mant.Queue(), mant.originate(bytes(58), source=1, hop_limit=3)
     same('none held', (queue.take(0), queue.level), (b'', (0, 0)))
@@ -217,6 +238,6 @@ def sealing():
 
 
 def by_hand():
-    for part in (reading, originating, hearing, changing, walking, planning, flooding, exchanging, queueing, sealing):
+    for part in (reading, originating, hearing, changing, walking, planning, flooding, exchanging, stations_heard, queueing, sealing):
         part()
     return tally.told('python: by hand')

@@ -119,7 +119,7 @@ def check_seal(words, answer):
 def check_record(words, answer):
     global record
     record = mant.Record()
-    return record.words, (0,) * mant.SOURCE_WORDS
+    return record.words, (0,) * 129
 
 
 def check_open(words, answer):

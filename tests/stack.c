@@ -36,17 +36,18 @@ static const MantAnswer delivered = {.taken = 9};
 static const MantSending sending = {.hop_limit = 7, .port = 15, .with_path = true};
 static const MantHeard heard = {.source = 1000, .path_bit = true};
 static const MantCursor start = {0, false};
-static uint16_t list[MANT_LIST_LIMIT], table[MANT_STATION_WORDS];
+static uint16_t list[MANT_LIST_LIMIT];
+static MantStations table;
 static const MantLists wanted = {TWO, TWO, TWO, TWO};
 static MantListBlock lists;
 static uint8_t pdu[MANT_PDU_LIMIT], output[MANT_PDU_LIMIT + 2], exchange[MANT_EXCHANGE_LIMIT];
-static MantQueue queue;
+static MantQueue queue, late = {{0, 2, 0, 12, 1, 254}}; /* two PDUs of zeros, the oldest at place 510: once it is taken, the other is moved to the front */
 static uint8_t command[MANT_RETAINED_LIMIT] = {0x09, 0, 0x30, 0xF7, 0x03, 0xE8, 0x06, 0x40, 7};
 static MantRetained records[MANT_RECORDS];
 static MantAnswer answer;
 static const MantKey key = {"keep me secret!"};
 static uint8_t plain[6 + PLAIN_LENGTH] = {0, 0, 0x0F, 0xF8, 0x03, 0xE8}, sealed[6 + MANT_PAYLOAD_LIMIT];
-static uint32_t record[MANT_SOURCE_WORDS];
+static MantSources record;
 static volatile uintptr_t top;
 static bool meant = true;
 
@@ -77,15 +78,14 @@ CALL(step_listed_call, mant_step(listing, LISTS, pdu, sizeof pdu, start, output,
 CALL(most_transmissions_call, mant_most_transmissions(8, 7).value == 109601)
 CALL(most_bytes_call, mant_most_bytes(3, 1, 10).value == 46)
 CALL(limits_call, mant_limits().pdu == MANT_PDU_LIMIT)
-CALL(capacity_call, mant_stations_capacity(table, MANT_STATION_WORDS) == MANT_STATION_LIMIT)
-CALL(held_call, mant_stations_held(table, MANT_STATION_WORDS) == 0)
-CALL(count_heard_call, mant_count_heard(table, MANT_STATION_WORDS, heard) == 0)
-CALL(count_answer_call, mant_count_answer(table, MANT_STATION_WORDS, pdu, sizeof pdu, answer) == 0)
-CALL(hear_and_count_call, mant_hear_and_count(node, NO_LISTS, LENT, table, MANT_STATION_WORDS).answer.repeat == 0)
-CALL(hear_and_count_listed_call, mant_hear_and_count(listing, LISTS, LENT, table, MANT_STATION_WORDS).answer.repeat == 0)
-CALL(station_at_call, mant_station_at(table, MANT_STATION_WORDS, 0).station.reads == 4)
-CALL(station_of_call, mant_station_of(table, MANT_STATION_WORDS, 1000).station.reads == 4)
-CALL(remove_station_call, mant_remove_station(table, MANT_STATION_WORDS, 1000) == 0)
+CALL(held_call, mant_stations_held(&table) == 0)
+CALL(count_heard_call, mant_count_heard(&table, heard) == 0)
+CALL(count_answer_call, mant_count_answer(&table, pdu, sizeof pdu, answer) == 0)
+CALL(hear_and_count_call, mant_hear_and_count(node, NO_LISTS, LENT, &table).answer.repeat == 0)
+CALL(hear_and_count_listed_call, mant_hear_and_count(listing, LISTS, LENT, &table).answer.repeat == 0)
+CALL(station_at_call, mant_station_at(&table, 0).station.reads == 4)
+CALL(station_of_call, mant_station_of(&table, 1000).station.reads == 4)
+CALL(remove_station_call, mant_remove_station(&table, 1000) == 0)
 CALL(write_exchange_call, mant_write_exchange(pdu, sizeof pdu, exchange, sizeof exchange).length == MANT_EXCHANGE_LIMIT - 2)
 CALL(read_exchange_call, mant_read_exchange(exchange, MANT_EXCHANGE_LIMIT - 2).payload_length == MANT_PAYLOAD_LIMIT)
 CALL(element_at_call, mant_element_at(exchange, MANT_EXCHANGE_LIMIT - 2, 0).end == MANT_EXCHANGE_LIMIT - 2)
@@ -106,14 +106,15 @@ CALL(queue_add_call, mant_queue_add(&queue, shortest, sizeof shortest) == 0)
 CALL(queue_level_call, mant_queue_level(&queue).pdus == 2)
 CALL(queue_too_long_call, mant_queue_take(&queue, output, 5).number == MANT_OLDEST_TOO_LONG)
 CALL(queue_take_call, mant_queue_take(&queue, output, 6).pdus == 1)
+CALL(queue_move_call, mant_queue_take(&late, output, 6).pdus == 1 && late.bytes[3] == 6 && late.bytes[4] == 0 && late.bytes[5] == 0)
 CALL(queue_clear_call, (mant_queue_clear(&queue), queue.bytes[1] == 0))
 CALL(seal_call, mant_seal(key, 850, plain, sizeof plain, sealed, sizeof sealed).length == sizeof sealed)
 CALL(seal_short_call, mant_seal(key, 850, plain, sizeof plain, sealed, 99).number == MANT_NO_ROOM_FOR_PAYLOAD)
-CALL(open_short_call, mant_open(key, record, MANT_SOURCE_WORDS, sealed, sizeof sealed, output, 99).number == MANT_NO_ROOM_FOR_PAYLOAD)
-CALL(open_call, mant_open(key, record, MANT_SOURCE_WORDS, sealed, sizeof sealed, output, sizeof output).length == PLAIN_LENGTH)
-CALL(open_again_call, mant_open(key, record, MANT_SOURCE_WORDS, sealed, sizeof sealed, output, sizeof output).number == MANT_NUMBER_NOT_GREATER)
+CALL(open_short_call, mant_open(key, &record, sealed, sizeof sealed, output, 99).number == MANT_NO_ROOM_FOR_PAYLOAD)
+CALL(open_call, mant_open(key, &record, sealed, sizeof sealed, output, sizeof output).length == PLAIN_LENGTH)
+CALL(open_again_call, mant_open(key, &record, sealed, sizeof sealed, output, sizeof output).number == MANT_NUMBER_NOT_GREATER)
 CALL(message_number_call, mant_message_number(sealed, sizeof sealed).message == 850)
-CALL(remove_source_call, mant_remove_source(record, MANT_SOURCE_WORDS, (uint16_t)record[1]))
+CALL(remove_source_call, mant_remove_source(&record, (uint16_t)record.words[1]))
 
 /* Each function, and calls of it: the longest way, and others that may be deeper. */
 static const struct {
@@ -131,7 +132,6 @@ static const struct {
     {"mant_list_holds", {list_holds_call}},
     {"mant_hear", {hear_cut_call, hear_call, hear_listed_call}},
     {"mant_step", {step_call, step_listed_call}},
-    {"mant_stations_capacity", {capacity_call}},
     {"mant_stations_held", {held_call}},
     {"mant_count_heard", {count_heard_call}},
     {"mant_count_answer", {count_answer_call}},
@@ -148,7 +148,7 @@ static const struct {
     {"mant_hear_reliably", {hear_reliably_call, hear_reliably_listed_call, hear_reliably_answered_call}},
     {"mant_queue_add", {queue_full_call, queue_add_call, queue_add_call}},
     {"mant_queue_level", {queue_level_call}},
-    {"mant_queue_take", {queue_too_long_call, queue_take_call}},
+    {"mant_queue_take", {queue_too_long_call, queue_take_call, queue_move_call}},
     {"mant_queue_clear", {queue_clear_call}},
     {"mant_seal", {seal_short_call, seal_call}},
     {"mant_open", {open_short_call, open_call, open_again_call}},

@@ -160,8 +160,7 @@ fn plain_opens_as_the_reference_does() {
     let mut random = Random::from_seed(9);
     for _ in 0..INPUTS / 40 {
         let (mut words, openings) = (empty_record(&mut random), openings(&mut random));
-        let most = (words.len().saturating_sub(1) / 2).min(64);
-        let mut accepted = Accepted::holding(most, &[]);
+        let mut accepted = Accepted::empty();
         for turn in 0..openings.turns {
             let asked = openings.next(&mut random, turn, |source| accepted.get(source));
             let mut one = output(&mut random, asked.room);

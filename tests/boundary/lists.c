@@ -23,12 +23,13 @@ static bool is(MantListFault fault, uint8_t number, size_t list)
 static bool is_fault(const MantLists *lists, uint8_t number, size_t list)
 {
     const MantNode choosing = {.edition = EDITION, .own = 2000, .source_pass = MANT_SECOND_LIST, .destination_reject = MANT_FIRST_LIST};
+    MantStations table = {{0}};
     uint8_t output[22];
     bool laid = is(mant_lay_lists(&block, lists), number, list) && is(mant_list_fault(BLOCK), number, list);
     MantStep s = mant_step(choosing, BLOCK, example, 20, (MantCursor){0, false}, output, sizeof output);
     return laid && mant_hear(node, BLOCK, example, 20, output, sizeof output).delivery == number
            && mant_hear(choosing, BLOCK, example, 20, output, sizeof output).repeat == number
-           && mant_hear_and_count(choosing, BLOCK, example, 20, output, sizeof output, NULL, 0).answer.repeat == number
+           && mant_hear_and_count(choosing, BLOCK, example, 20, output, sizeof output, &table).answer.repeat == number && table.words[0] == 0
            && s.kind == MANT_ANSWERED && s.answer.delivery == number && s.answer.taken == 0 && s.next.place == 0 && s.next.ended;
 }
 

@@ -62,7 +62,7 @@ static void no_editions(void)
     const uint64_t others[7] = {0, 1, 10, 13, UINT64_C(0x10000000B), UINT64_C(0x10000000C), UINT64_MAX};
     const uint16_t wrong[] = {[MANT_SOURCE_PASS_SECOND] = 3, [MANT_LIST_VALUES] = 2, 1, 0};
     static uint8_t batch[MANT_BATCH_LIMIT + 1];
-    uint16_t table[5] = {0, 1, 2, 3, 4};
+    MantStations table = {{0, 1, 2, 3, 4}};
     uint8_t output[22], untouched[22];
     memset(output, 77, sizeof output);
     memset(untouched, 77, sizeof untouched);
@@ -79,8 +79,8 @@ static void no_editions(void)
         CHECK(w.number == 17 && w.length == 0);
         CHECK(is_17(mant_hear(other, NO_LISTS, example, 20, output, sizeof output)));
         CHECK(is_17(mant_hear(other, wrong, 11, NULL, 0, output, sizeof output)));
-        MantListened l = mant_hear_and_count(other, NO_LISTS, example, 20, output, sizeof output, table, 5);
-        CHECK(is_17(l.answer) && l.table_number == 0 && table[0] == 0 && table[1] == 1);
+        MantListened l = mant_hear_and_count(other, NO_LISTS, example, 20, output, sizeof output, &table);
+        CHECK(is_17(l.answer) && l.table_number == 0 && table.words[0] == 0 && table.words[1] == 1);
         MantStep s = mant_step(other, NO_LISTS, batch, sizeof batch, (MantCursor){3, false}, output, sizeof output);
         CHECK(s.kind == MANT_ANSWERED && is_17(s.answer) && s.next.place == 3 && s.next.ended);
         s = mant_step(other, NO_LISTS, batch, sizeof batch, s.next, output, sizeof output);

@@ -102,6 +102,30 @@ static void a_clock_set_back(void)
     CHECK(mant_retain(table, 16, 80, 80, command, 10).number == 71);
 }
 
+/* The calls with a MantReliable: each does what the call without that word does with its records and its time, and keeps the time. */
+static void with_a_struct(void)
+{
+    struct {
+        MantReliable at_base;
+        uint64_t behind;
+    } room = {.behind = 77};
+    MantReliable at_gate = {.last = 3}, free_table = {.last = 130};
+    MantReliable *at_base = &room.at_base;
+    const MantNode base = MANT_NODE(1000), gate = MANT_NODE(1600);
+    uint8_t again[10], output[11];
+    CHECK(is_outcome(mant_reliable_retain(at_base, 100, command, 10), 0, MANT_DEED_RETAINED, 100, 0, 0) && at_base->last == 100);
+    CHECK(is_outcome(mant_reliable_retain(at_base, 99, command, 10), 73, 0, 100, 0, 0) && at_base->last == 100);
+    CHECK(is_outcome(mant_reliable_retry(at_base, 129, 30, 2, again, 10), 0, 0, 129, 0, 0) && at_base->last == 129);
+    CHECK(is_outcome(mant_reliable_retry(at_base, 130, 30, 2, again, 9), 77, 0, 129, 0, 0) && at_base->last == 129);
+    CHECK(is_outcome(mant_reliable_retry(at_base, 130, 30, 2, again, 10), 0, MANT_DEED_SENT_AGAIN, 130, 0, 10) && at_base->last == 130);
+    MantAnswer answer = mant_hear(gate, NO_LISTS, again, 10, NULL, 0);
+    CHECK(is_outcome(mant_reliable_acknowledge(&at_gate, 1600, again, 10, answer, sending, output, 11), 0, MANT_DEED_ACKNOWLEDGED, 3, 0, 9));
+    CHECK(memcmp(output, acknowledgement, 9) == 0 && at_gate.last == 3);
+    MantHeardReliably heard = mant_reliable_hear(base, NO_LISTS, at_base, acknowledgement, 9, sending, output, 11);
+    CHECK(heard.answer.delivery == 0 && is_outcome(heard.outcome, 0, MANT_DEED_FREED, 130, 0, 0));
+    CHECK(memcmp(at_base, &free_table, sizeof free_table) == 0 && room.behind == 77);
+}
+
 /* With another number of records than 16 none is read: here they end at a page that may not be read, or begin there. */
 static void records_that_are_not_there(void)
 {
@@ -132,7 +156,7 @@ static void what_a_box_looks_after(void)
     const MantNode at_gate = MANT_NODE(1600);
     const uint8_t one[1] = {0x08};
     MantRetained table[MANT_RECORDS] = {0};
-    uint16_t stations[MANT_STATION_WORDS] = {0};
+    MantStations stations = {{0}};
     uint8_t added[10], output[9] = {0}, untouched[9] = {0};
     memcpy(added, command, 10);
     added[2] |= 0x80;
@@ -142,8 +166,8 @@ static void what_a_box_looks_after(void)
     CHECK(is_outcome(mant_acknowledge(table, 16, 5, 2000, command, 10, (MantAnswer){0}, sending, output, 9), 0, 0, 5, 0, 0));
     CHECK(is_outcome(mant_acknowledge(table, 16, 5, 1600, added, 10, (MantAnswer){0}, sending, output, 9), 0, 0, 5, 0, 0));
     CHECK(memcmp(output, untouched, 9) == 0);
-    CHECK(mant_count_answer(stations, MANT_STATION_WORDS, NULL, 0, (MantAnswer){.taken = 1}) == 0);
-    CHECK(mant_station_of(stations, MANT_STATION_WORDS, 0).station.reads == 1);
+    CHECK(mant_count_answer(&stations, NULL, 0, (MantAnswer){.taken = 1}) == 0);
+    CHECK(mant_station_of(&stations, 0).station.reads == 1);
     for (unsigned i = 0; i < 2; i++) {
         CHECK(mant_hear(at_gate, NO_LISTS, command, 10, NULL, 0).delivery == 0);
     }
@@ -216,6 +240,7 @@ void reliable_messages(void)
     retaining();
     retrying();
     a_clock_set_back();
+    with_a_struct();
     records_that_are_not_there();
     what_a_box_looks_after();
     hearing_reliably();

@@ -32,58 +32,65 @@ static void sealing(void)
     CHECK(is_written(mant_seal(key, 16777216, longest, sizeof longest, output, 0), 88, 0));
 }
 
-static bool is_record(const uint32_t *record, uint32_t held, uint32_t source, uint32_t number)
+static bool is_record(MantSources record, uint32_t held, uint32_t source, uint32_t number)
 {
-    return record[0] == held && record[1] == source && record[2] == number;
+    return record.words[0] == held && record.words[1] == source && record.words[2] == number;
 }
 
 static void opening(void)
 {
-    uint32_t record[MANT_SOURCE_WORDS] = {0};
+    MantSources record = {{0}};
     uint8_t output[12], untouched[12], repeated[29], changed[27];
     memset(output, 77, sizeof output);
     memset(untouched, 77, sizeof untouched);
     memcpy(changed, sealed, 27);
     changed[26] ^= 1;
-    CHECK(is_written(mant_open(key, NULL, 0, NULL, 0, NULL, 0), MANT_TOO_SHORT, 0) && is_written(mant_open(key, NULL, 0, example, 20, NULL, 0), 80, 0));
-    CHECK(is_written(mant_open(key, NULL, 0, changed, 27, NULL, 0), 83, 0) && is_written(mant_open(key, NULL, 0, sealed, 27, NULL, 0), 84, 0));
-    CHECK(is_written(mant_open(key, record, MANT_SOURCE_WORDS, changed, 27, output, 12), MANT_HASH_DIFFERS, 0));
-    CHECK(is_written(mant_open(key, record, MANT_SOURCE_WORDS, sealed, 27, output, 10), 87, 0) && is_record(record, 0, 0, 0));
+    CHECK(is_written(mant_open(key, &record, NULL, 0, NULL, 0), MANT_TOO_SHORT, 0) && is_written(mant_open(key, &record, example, 20, NULL, 0), 80, 0));
+    CHECK(is_written(mant_open(key, &record, changed, 27, NULL, 0), 83, 0) && is_written(mant_open(key, &record, sealed, 27, NULL, 0), 87, 0));
+    CHECK(is_written(mant_open(key, &record, changed, 27, output, 12), MANT_HASH_DIFFERS, 0));
+    CHECK(is_written(mant_open(key, &record, sealed, 27, output, 10), 87, 0) && is_record(record, 0, 0, 0));
     CHECK(memcmp(output, untouched, 12) == 0);
-    CHECK(is_written(mant_open(key, record, MANT_SOURCE_WORDS, sealed, 27, output, 11), 0, 11) && is_record(record, 1, 1000, 850));
+    CHECK(is_written(mant_open(key, &record, sealed, 27, output, 11), 0, 11) && is_record(record, 1, 1000, 850));
     CHECK(memcmp(output, example + 9, 11) == 0 && output[11] == 77);
     memset(output, 77, sizeof output);
-    CHECK(is_written(mant_open(key, record, MANT_SOURCE_WORDS, sealed, 27, output, 12), 82, 0) && memcmp(output, untouched, 12) == 0);
-    CHECK(is_written(mant_open(key, record, MANT_SOURCE_WORDS, changed, 27, output, 12), 82, 0));
+    CHECK(is_written(mant_open(key, &record, sealed, 27, output, 12), 82, 0) && memcmp(output, untouched, 12) == 0);
+    CHECK(is_written(mant_open(key, &record, changed, 27, output, 12), 82, 0));
     CHECK(mant_hear(node, NO_LISTS, sealed, 27, repeated, sizeof repeated).repeated_length == 29);
-    record[2] = 849;
-    CHECK(is_written(mant_open(key, record, MANT_SOURCE_WORDS, repeated, 29, output, 12), 0, 11) && memcmp(output, example + 9, 11) == 0);
+    record.words[2] = 849;
+    CHECK(is_written(mant_open(key, &record, repeated, 29, output, 12), 0, 11) && memcmp(output, example + 9, 11) == 0);
 }
 
-/* Payloads of 6 and of 7 bytes, the second an empty one sealed; a full record, one that is too short, and one that tells of too many. */
+/* Payloads of 6 and of 7 bytes, the second an empty one sealed; a full record, and malformed ones that hold too many and an address above 65,535. */
 static void records(void)
 {
     const uint8_t shorter[12] = {0, 8, 0, 6, 0x03, 0xE8}, empty[6] = {0, 0, 0, 0, 0x03, 0xE8};
-    uint32_t record[MANT_SOURCE_WORDS + 1] = {MANT_SOURCE_LIMIT}, small[5] = {9, 70000, 0, 1000, 3};
+    struct {
+        MantSources record;
+        uint32_t behind;
+    } room = {.record = {{MANT_SOURCE_LIMIT}}, .behind = 77};
+    MantSources small = {{1, 70000, 0, 1000, 3}};
+    uint32_t *words = room.record.words;
     uint8_t output[13];
     bool kept = true;
-    for (uint32_t i = 1; i < MANT_SOURCE_WORDS; i += 2) {
-        record[i] = 2000 + i;
+    for (uint32_t i = 1; i < 129; i += 2) {
+        words[i] = 2000 + i;
     }
-    record[MANT_SOURCE_WORDS] = 77;
-    CHECK(is_written(mant_open(key, record, MANT_SOURCE_WORDS, shorter, 12, NULL, 0), 81, 0));
+    CHECK(is_written(mant_open(key, &room.record, shorter, 12, NULL, 0), 81, 0));
     CHECK(is_written(mant_seal(key, 5, empty, 6, output, 13), 0, 13));
-    CHECK(is_written(mant_open(key, record, MANT_SOURCE_WORDS + 1, output, 13, NULL, 0), 84, 0) && is_record(record, 64, 2001, 0));
-    record[127] = 1000;
-    CHECK(is_written(mant_open(key, record, MANT_SOURCE_WORDS + 1, output, 13, NULL, 0), 0, 0) && record[127] == 1000 && record[128] == 5);
+    CHECK(is_written(mant_open(key, &room.record, output, 13, NULL, 0), 84, 0) && is_record(room.record, 64, 2001, 0));
+    words[0] = 0xFFFFFFFF;
+    CHECK(is_written(mant_open(key, &room.record, output, 13, NULL, 0), 84, 0) && is_record(room.record, 0xFFFFFFFF, 2001, 0));
+    words[127] = 1000;
+    CHECK(is_written(mant_open(key, &room.record, output, 13, NULL, 0), 0, 0) && words[127] == 1000 && words[128] == 5);
     for (uint32_t i = 1; i < 127; i += 2) {
-        kept = kept && record[i] == 2000 + i && record[i + 1] == 0;
+        kept = kept && words[i] == 2000 + i && words[i + 1] == 0;
     }
-    CHECK(kept && record[0] == 64 && record[MANT_SOURCE_WORDS] == 77);
-    CHECK(is_written(mant_open(key, small, 3, output, 13, NULL, 0), 84, 0) && is_record(small, 9, 70000, 0));
-    CHECK(is_written(mant_open(key, small, 5, output, 13, NULL, 0), 0, 0) && is_record(small, 2, 70000, 0) && small[3] == 1000 && small[4] == 5);
-    small[0] = 0;
-    CHECK(is_written(mant_open(key, small, 4, output, 13, NULL, 0), 0, 0) && is_record(small, 1, 1000, 5) && small[3] == 1000);
+    CHECK(kept && words[0] == 64 && room.behind == 77);
+    words[0] = 63;
+    words[127] = words[128] = 9;
+    CHECK(is_written(mant_open(key, &room.record, output, 13, NULL, 0), 0, 0) && words[0] == 64 && words[127] == 1000 && words[128] == 5);
+    CHECK(is_written(mant_open(key, &small, output, 13, NULL, 0), 0, 0) && is_record(small, 2, 70000, 0));
+    CHECK(small.words[3] == 1000 && small.words[4] == 5 && room.behind == 77);
 }
 
 static bool is_numbered(const uint8_t *pdu, size_t length, uint8_t number, uint32_t message)
@@ -101,17 +108,18 @@ static void message_numbers(void)
     CHECK(is_numbered(sealed, 27, 0, 850) && is_numbered(greatest, 13, 0, MANT_NUMBER_LIMIT));
 }
 
-/* Sources removed: the first, the last, one that is not held, and one that stands twice in malformed words; with fewer words and with too great a count. */
+/* Sources removed: the first, the last, one that is not held, and one that stands twice in malformed words. */
 static void removing(void)
 {
-    uint32_t record[7] = {3, 1000, 5, 2000, 6, 3000, 7}, twice[7] = {9, 1000, 5, 2000, 6, 1000, 7}, untouched[7];
-    memcpy(untouched, record, sizeof record);
-    CHECK(!mant_remove_source(NULL, 0, 1000) && !mant_remove_source(record, 7, 4000) && !mant_remove_source(record, 2, 1000));
-    CHECK(memcmp(record, untouched, sizeof record) == 0);
-    CHECK(mant_remove_source(record, 7, 1000) && is_record(record, 2, 2000, 6) && record[3] == 3000 && record[4] == 7 && record[5] == 3000 && record[6] == 7);
-    CHECK(!mant_remove_source(record, 7, 1000) && mant_remove_source(record, 7, 3000) && is_record(record, 1, 2000, 6) && record[3] == 3000);
-    CHECK(mant_remove_source(record, 7, 2000) && is_record(record, 0, 2000, 6));
-    CHECK(mant_remove_source(twice, 7, 1000) && is_record(twice, 1, 2000, 6) && twice[3] == 2000 && twice[4] == 6 && twice[5] == 1000);
+    MantSources record = {{3, 1000, 5, 2000, 6, 3000, 7}}, twice = {{3, 1000, 5, 2000, 6, 1000, 7}}, untouched = record, none = {{0}};
+    uint32_t *words = record.words;
+    CHECK(!mant_remove_source(&none, 1000) && !mant_remove_source(&none, 0) && !mant_remove_source(&record, 4000));
+    CHECK(memcmp(&record, &untouched, sizeof record) == 0);
+    CHECK(mant_remove_source(&record, 1000) && is_record(record, 2, 2000, 6));
+    CHECK(words[3] == 3000 && words[4] == 7 && words[5] == 3000 && words[6] == 7);
+    CHECK(!mant_remove_source(&record, 1000) && mant_remove_source(&record, 3000) && is_record(record, 1, 2000, 6) && words[3] == 3000);
+    CHECK(mant_remove_source(&record, 2000) && is_record(record, 0, 2000, 6));
+    CHECK(mant_remove_source(&twice, 1000) && is_record(twice, 1, 2000, 6) && twice.words[3] == 2000 && twice.words[4] == 6 && twice.words[5] == 1000);
 }
 
 /* Forgeries that the protocol lets through (document 000, 3.5): made without the key by someone who knows the plain payload of document 002's example, and so
@@ -136,11 +144,11 @@ static void forgeries(void)
         {17, {0x03, 0x08, 0x70, 0x08, 0x03, 0xE8, 0x06, 0x41, 0x00, 0x00, 0x03, 0x52, 0x60, 0xD4, 0x73, 0x8B, 0xB6}, 1, {0x01}},
     };
     for (size_t i = 0; i < sizeof forged / sizeof forged[0]; i++) {
-        uint32_t record[MANT_SOURCE_WORDS] = {1, 1000, 849};
+        MantSources record = {{1, 1000, 849}};
         uint8_t output[11];
-        MantWritten opened = mant_open(key, record, MANT_SOURCE_WORDS, forged[i].pdu, forged[i].length, output, sizeof output);
+        MantWritten opened = mant_open(key, &record, forged[i].pdu, forged[i].length, output, sizeof output);
         CHECK(is_written(opened, 0, forged[i].plain_length) && memcmp(output, forged[i].plain, forged[i].plain_length) == 0 && is_record(record, 1, 1000, 850));
-        CHECK(is_written(mant_open(key, record, MANT_SOURCE_WORDS, forged[i].pdu, forged[i].length, output, sizeof output), 82, 0));
+        CHECK(is_written(mant_open(key, &record, forged[i].pdu, forged[i].length, output, sizeof output), 82, 0));
     }
 }
 

@@ -1,6 +1,5 @@
-// The verbs of the table of stations. A list's values are its memory, which is copied so that it can change.
+// The verbs of the table of stations. A list's values are copied to the start of its memory, so that it can change.
 use crate::line::Line;
-use crate::telling::least;
 use crate::telling::list;
 use crate::telling::tell;
 use crate::telling::wide;
@@ -8,18 +7,13 @@ use crate::verb;
 use counting::Heard;
 use stations::Station;
 
-const MEMORY: usize = 600;
-
 pub(crate) fn ask(line: Line, values: &[u16]) -> bool {
-    let mut room = [0u16; MEMORY];
-    let given = list(values, line.list, line.end);
-    copy(&mut room, given);
-    let size = least(given.len(), MEMORY);
-    let memory = &mut room[0..size];
+    let mut memory = [0u16; Station::MEMORY];
+    copy(&mut memory, list(values, line.list, line.end));
     if line.verb == verb::COUNT {
-        return counts(line, memory);
+        return counts(line, &mut memory);
     }
-    forgets(line, memory)
+    forgets(line, &mut memory)
 }
 
 fn copy(room: &mut [u16], given: &[u16]) {
@@ -32,7 +26,7 @@ fn value_at(given: &[u16], i: usize) -> u16 {
     if i < given.len() { given[i] } else { 0 }
 }
 
-fn counts(line: Line, memory: &mut [u16]) -> bool {
+fn counts(line: Line, memory: &mut [u16; Station::MEMORY]) -> bool {
     let heard = Heard {
         source: (line.asked(0) % 65536) as u16,
         echo: line.asked(1) != 0,
@@ -56,7 +50,7 @@ fn tells_station(line: Line, station: Station) -> bool {
         & tell(line, 0o222222, 5, station.shortest_path as u64)
 }
 
-fn forgets(line: Line, memory: &mut [u16]) -> bool {
+fn forgets(line: Line, memory: &mut [u16; Station::MEMORY]) -> bool {
     let number = counting::remove(memory, (line.asked(0) % 65536) as u16);
     let held = stations::held(memory);
     tell(line, 0o22, 0, wide(number)) & tell(line, 0o22, 1, held as u64)

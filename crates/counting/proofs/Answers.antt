@@ -9,7 +9,7 @@ use borrow.Author.Tests.{le-leb, lt-leb}
 use Rattle.octets.specs.Numbers.{_gives_}
 use Rattle.stations.specs.declared.Station.{Station}
 use Rattle.stations.specs.declared.Sought.{Sought}
-use Rattle.stations.specs.Table.{capacity, tableIn, memoryOf, addresses, newStation, stationAt, placeOf, isAt, isHeld}
+use Rattle.stations.specs.Table.{tableIn, memoryOf, addresses, newStation, stationAt, placeOf, isAt, isHeld}
 use Rattle.stations.specs.Asking.{sought}
 use Rattle.stations.proofs.Places.{place-inside}
 use Rattle.stations.proofs.Answers.{stands-inside}
@@ -63,15 +63,15 @@ module _ (memory : List ℕ) (heard : Heard) (found : Sought) (is-sought : found
       let shown : after ≡ counted heard (stationAt (tableIn memory) (found .place)) = ea ∙ ap (counted heard) es in
       (rw held, rw (held, ← place, ← shown) el)
 
-  pub count-full : found .«is_held» ≡ false → length (tableIn memory) ≡ capacity memory
+  pub count-full : found .«is_held» ≡ false → length (tableIn memory) ≡ 128
       → (_≡_ {A = ℕ} 55 (countNumber heard memory)) × (memory ≡ memoryAfterCount heard memory)
   unfolding countNumber memoryAfterCount tableAfterCount _gives_
   count-full e full =
       let none = held-is memory (heard .source) found is-sought false e in
-      let no-room : capacity memory ≤ length (tableIn memory) = omega arith in
+      let no-room : 128 ≤ length (tableIn memory) = omega arith in
       (rw (none, le-leb _ _ no-room), rw (none, le-leb _ _ no-room))
 
-  pub count-new : (after : Station) (last : List ℕ) → found .«is_held» ≡ false → length (tableIn memory) < capacity memory
+  pub count-new : (after : Station) (last : List ℕ) → found .«is_held» ≡ false → length (tableIn memory) < 128
       → after ≡ counted heard (newStation (heard .source))
       → last ≡ memoryOf (take (found .place) (tableIn memory) ++ after ∷ drop (found .place) (tableIn memory)) memory
       → (_≡_ {A = ℕ} 0 (countNumber heard memory)) × (last ≡ memoryAfterCount heard memory)
@@ -87,7 +87,7 @@ module _ (heard : Heard) (memory : List ℕ) where
   unfolding countNumber _gives_
   held-counts e = rw e
 
-  pub room-counts : length (tableIn memory) < capacity memory → countNumber heard memory ≡ 0
+  pub room-counts : length (tableIn memory) < 128 → countNumber heard memory ≡ 0
   unfolding countNumber _gives_
   room-counts h = rw (lt-leb _ _ h) (go (isHeld (heard .source) (addresses (tableIn memory))))
     where
@@ -95,11 +95,11 @@ module _ (heard : Heard) (memory : List ℕ) where
       go true = refl
       go false = refl
 
-  pub full-refuses : isHeld (heard .source) (addresses (tableIn memory)) ≡ false → length (tableIn memory) ≡ capacity memory
+  pub full-refuses : isHeld (heard .source) (addresses (tableIn memory)) ≡ false → length (tableIn memory) ≡ 128
       → (countNumber heard memory ≡ 55) × (memoryAfterCount heard memory ≡ memory)
   unfolding countNumber memoryAfterCount _gives_
   full-refuses e full =
-      let no-room : capacity memory ≤ length (tableIn memory) = omega arith in
+      let no-room : 128 ≤ length (tableIn memory) = omega arith in
       (rw (e, le-leb _ _ no-room), rw (e, le-leb _ _ no-room))
 
 module _ (address : ℕ) (memory : List ℕ) where

@@ -9,7 +9,7 @@ use lib.Seq.{length-take-le, take-suc, take-at, drop-append-add, drop-drop, sets
 use Rattle.octets.specs.Octets.{at, over, placed}
 use Rattle.octets.proofs.Placing.{is-placed, placed-more}
 use Rattle.stations.specs.declared.Station.{Station}
-use Rattle.stations.specs.Table.{capacity, stationsFrom, tableIn, stationWords, wordsOf, memoryOf, stationAt, newStation}
+use Rattle.stations.specs.Table.{stationLimit, stationsFrom, tableIn, stationWords, wordsOf, memoryOf, stationAt, newStation}
 use Rattle.stations.proofs.Memory.{length-stations, length-table, length-words, words-append, words-of-stations, take-stations, drop-stations}
 
 -- the first words of a table are its first stations'
@@ -17,7 +17,7 @@ front-words : (memory : List ℕ) (place : ℕ) → place ≤ length (tableIn me
     → wordsOf (take place (tableIn memory)) ≡ take (4 * place) (drop 1 memory)
 unfolding tableIn
 front-words memory place h room =
-    let count = min (at memory 0) (capacity memory) in
+    let count = min (at memory 0) stationLimit in
     let words = drop 1 memory in
     let held : length (tableIn memory) ≡ count = length-table memory in
     let fits : 4 * place ≤ length words = simp length-drop (omega arith) in
@@ -64,7 +64,7 @@ pub replaced : (memory : List ℕ) (place : ℕ) (station : Station) → place <
     ≡ placed memory (4 * place + 1) (wordsOf (station ∷ drop (place + 1) (tableIn memory)))
 unfolding wordsOf tableIn
 replaced memory place station h room =
-    let count = min (at memory 0) (capacity memory) in
+    let count = min (at memory 0) stationLimit in
     let held : length (tableIn memory) ≡ count = length-table memory in
     let left = count - (place + 1) in
     let start = 4 * place + 1 in

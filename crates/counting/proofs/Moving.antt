@@ -10,7 +10,7 @@ use Rattle.octets.proofs.Placing.{is-placed, nothing-placed, length-placed}
 use Rattle.stations.specs.declared.Station.{Station}
 use Rattle.stations.specs.declared.Found.{Found}
 use Rattle.stations.specs.Asking.{foundAt}
-use Rattle.stations.specs.Table.{stationFrom, tableIn, stationWords, wordsOf, memoryOf, stationAt, newStation}
+use Rattle.stations.specs.Table.{memoryLength, stationFrom, tableIn, stationWords, wordsOf, memoryOf, stationAt, newStation}
 use Rattle.stations.proofs.Memory.{length-words, length-table, table-fits, table-station}
 use Rattle.stations.proofs.Answers.{station-is}
 use Rattle.counting.proofs.Laying.{grow, unread, laid, replaced}
@@ -18,12 +18,14 @@ use Rattle.counting.proofs.Laying.{grow, unread, laid, replaced}
 -- stations that are to stand from a place on, the first k of them laid into the memory
 pub record Lays (memory : List ℕ) (place : ℕ) (next : List Station) (k : ℕ) (now : List ℕ) : Type 0 where
   pub some : k ≤ length next
-  pub fits : 4 * (place + length next) + 1 ≤ length memory
+  pub long : length memory ≡ memoryLength
+  pub fits : place + length next ≤ 128
   pub is : now ≡ placed memory (4 * place + 1) (wordsOf (take k next))
 
-pub lays-none : (memory : List ℕ) (place : ℕ) (next : List Station) → 4 * (place + length next) + 1 ≤ length memory → Lays memory place next 0 memory
+pub lays-none : (memory : List ℕ) (place : ℕ) (next : List Station) → length memory ≡ memoryLength → place + length next ≤ 128
+    → Lays memory place next 0 memory
 unfolding wordsOf
-lays-none memory place next h = record { some = omega arith; fits = h; is = nothing-placed memory (4 * place + 1) }
+lays-none memory place next long h = record { some = omega arith; long = long; fits = h; is = nothing-placed memory (4 * place + 1) }
 
 pub lays-long : {memory : List ℕ} {place : ℕ} {next : List Station} {k : ℕ} {now : List ℕ} → Lays memory place next k now → length now ≡ length memory
 lays-long {memory} {place} {next} {k} l = ap length (l .is) ∙ length-placed memory (4 * place + 1) (wordsOf (take k next))
@@ -34,8 +36,9 @@ pub lays-more : {memory : List ℕ} {place : ℕ} {next : List Station} {k : ℕ
 lays-more {memory} {place} {next} {k} {now} i station later l h ei es el =
     record {
       some = omega arith;
+      long = l .long;
       fits = l .fits;
-      is = el ∙ rw (l .is, ei, es) (grow memory place k next h (omega (arith, l .fits)));
+      is = el ∙ rw (l .is, ei, es) (grow memory place k next h (omega (arith, l .fits, l .long)));
     }
 
 -- a station that is not laid over yet
@@ -43,7 +46,7 @@ pub lays-shows : {memory : List ℕ} {place : ℕ} {next : List Station} {k : �
     → j < length (tableIn memory) → stationFrom (drop (4 * j + 1) now) ≡ stationAt (tableIn memory) j
 lays-shows {memory} {place} {next} {k} {now} j l behind h =
     ap (λ (words : List ℕ). stationFrom (drop (4 * j + 1) words)) (l .is)
-    ∙ ap stationFrom (unread memory place k j next (l .some) behind (omega (arith, l .some, l .fits)))
+    ∙ ap stationFrom (unread memory place k j next (l .some) behind (omega (arith, l .some, l .fits, l .long)))
     ∙ sym (table-station memory j h)
 
 -- as many are held as before, and the place shows what stands there
@@ -52,9 +55,9 @@ lays-first {memory} {place} {next} {k} {now} l =
     let part = wordsOf (take k next) in
     let start = 4 * place + 1 in
     let long : length part ≡ 4 * k = length-words (take k next) ∙ ap (λ (n : ℕ). 4 * n) (length-take-le k next (l .some)) in
-    let front : 0 < length (take start memory) = omega (arith, length-take-le start memory (omega (arith, l .fits))) in
+    let front : 0 < length (take start memory) = omega (arith, length-take-le start memory (omega (arith, l .fits, l .long))) in
     let both : 0 < length (take start memory ++ part) = omega (arith, front, length-append (take start memory) part) in
-    ap (λ (words : List ℕ). at words 0) (l .is ∙ is-placed memory start part (omega (arith, l .some, l .fits)))
+    ap (λ (words : List ℕ). at words 0) (l .is ∙ is-placed memory start part (omega (arith, l .some, l .fits, l .long)))
     ∙ List·getD-append (take start memory ++ part) (drop (start + length part) memory) 0 0 both
     ∙ List·getD-append (take start memory) part 0 0 front ∙ getD-take start memory 0 0 (omega arith)
 
@@ -73,11 +76,11 @@ pub lays-all : {memory : List ℕ} {place : ℕ} {next : List Station} {k : ℕ}
     → length next ≤ k → place ≤ length (tableIn memory) → held ≡ place + length next → last ≡ set now 0 held
     → last ≡ memoryOf (take place (tableIn memory) ++ next) memory
 lays-all {memory} {place} {next} {k} {now} held last l all h eh el =
-    let room : 4 * length (tableIn memory) + 1 ≤ length memory = omega (arith, table-fits memory .1, l .fits) in
+    let room : 4 * length (tableIn memory) + 1 ≤ length memory = omega (arith, table-fits memory, l .long) in
     let laid-now : now ≡ placed memory (4 * place + 1) (wordsOf next) =
     l .is ∙ ap (λ (stations : List Station). placed memory (4 * place + 1) (wordsOf stations)) (take-all k next all) in
     el ∙ ap (λ (words : List ℕ). set words 0 held) laid-now
-    ∙ laid memory place held next h room eh (omega (arith, l .fits, eh))
+    ∙ laid memory place held next h room eh (omega (arith, l .fits, l .long, eh))
 
 -- putting in: the station at i is carried
 pub record PutsIn (memory : List ℕ) (place end : ℕ) (station : Station) (now : List ℕ) (i : ℕ) (carried : Station) : Type 0 where
@@ -89,16 +92,16 @@ pub record PutsIn (memory : List ℕ) (place end : ℕ) (station : Station) (now
   pub small : carried .«shortest_path» < 65535
 
 pub puts-first : (memory : List ℕ) (place end : ℕ) (station : Station) → place ≤ length (tableIn memory) → end ≡ length (tableIn memory)
-    → 4 * (end + 1) + 1 ≤ length memory → station .«shortest_path» < 65535 → PutsIn memory place end station memory place station
-puts-first memory place end station h e room small =
+    → length memory ≡ memoryLength → end < 128 → station .«shortest_path» < 65535 → PutsIn memory place end station memory place station
+puts-first memory place end station h e long room small =
     let none : 0 ≡ place - place = omega arith in
     let next = station ∷ drop place (tableIn memory) in
-    let fits : 4 * (place + length next) + 1 ≤ length memory = omega (arith, length-drop place (tableIn memory)) in
+    let fits : place + length next ≤ 128 = omega (arith, length-drop place (tableIn memory)) in
     record {
       from = omega arith;
       upto = omega arith;
       held = e;
-      lays = rw (← none) (lays-none memory place next fits);
+      lays = rw (← none) (lays-none memory place next long fits);
       carries = rw (← none);
       small = small;
     }
@@ -139,13 +142,13 @@ pub record TakesOut (memory : List ℕ) (place end : ℕ) (now : List ℕ) (i : 
   pub held : end ≡ length (tableIn memory)
   pub lays : Lays memory place (drop (place + 1) (tableIn memory)) (i - (place + 1)) now
 
-pub takes-first : (memory : List ℕ) (place end : ℕ) → place < length (tableIn memory) → end ≡ length (tableIn memory)
+pub takes-first : (memory : List ℕ) (place end : ℕ) → place < length (tableIn memory) → end ≡ length (tableIn memory) → length memory ≡ memoryLength
     → TakesOut memory place end memory (place + 1)
-takes-first memory place end h e =
+takes-first memory place end h e long =
     let none : 0 ≡ place + 1 - (place + 1) = omega arith in
     let next = drop (place + 1) (tableIn memory) in
-    let fits : 4 * (place + length next) + 1 ≤ length memory = omega (arith, length-drop (place + 1) (tableIn memory), table-fits memory .1) in
-    record { from = omega arith; upto = omega arith; held = e; lays = rw (← none) (lays-none memory place next fits) }
+    let fits : place + length next ≤ 128 = omega (arith, length-drop (place + 1) (tableIn memory), table-fits memory) in
+    record { from = omega arith; upto = omega arith; held = e; lays = rw (← none) (lays-none memory place next long fits) }
 
 pub takes-next : {memory : List ℕ} {place end : ℕ} {now : List ℕ} {i : ℕ} (next : Station) (later : List ℕ) → TakesOut memory place end now i
     → i < end → next ≡ stationFrom (drop (4 * i + 1) now) → later ≡ placed now (4 * (i - 1) + 1) (stationWords next)
@@ -174,27 +177,13 @@ takes-last {memory} {place} {end} {now} {i} last held t h eh es =
     let long : length (drop (place + 1) table) ≡ i - (place + 1) = omega (arith, t .from, t .upto, t .held, length-drop (place + 1) table) in
     lays-all held last (t .lays) (omega (arith, long)) (omega (arith, t .from, t .upto, t .held)) (omega (arith, long, t .from, t .upto)) es
 
--- a memory keeps its length
-pub same-after : {memory : List ℕ} {place : ℕ} {next : List Station} {k : ℕ} {now : List ℕ} (later last part : List ℕ) (i held : ℕ)
-    → Lays memory place next k now → later ≡ placed now i part → last ≡ set later 0 held → length last ≡ length memory
-same-after {now = now} later last part i held l el es =
-    ap length es ∙ length-set later 0 held ∙ ap length el ∙ length-placed now i part ∙ lays-long l
-
 -- a station in the place of another
 pub placed-one : (memory : List ℕ) (place : ℕ) (station : Station) (later last : List ℕ) (held : ℕ) → place < length (tableIn memory)
-    → held ≡ length (tableIn memory) → later ≡ placed memory (4 * place + 1) (stationWords station) → last ≡ set later 0 held
-    → last ≡ memoryOf (take place (tableIn memory) ++ station ∷ drop (place + 1) (tableIn memory)) memory
-placed-one memory place station later last held h eh el es =
+    → held ≡ length (tableIn memory) → length memory ≡ memoryLength → later ≡ placed memory (4 * place + 1) (stationWords station)
+    → last ≡ set later 0 held → last ≡ memoryOf (take place (tableIn memory) ++ station ∷ drop (place + 1) (tableIn memory)) memory
+placed-one memory place station later last held h eh long el es =
     let table = tableIn memory in
-    let room : 4 * length table + 1 ≤ length memory = omega (arith, table-fits memory .1) in
+    let room : 4 * length table + 1 ≤ length memory = omega (arith, table-fits memory) in
     let all : held ≡ place + length (station ∷ drop (place + 1) table) = omega (arith, length-drop (place + 1) table) in
     es ∙ ap (λ (words : List ℕ). set words 0 held) (el ∙ replaced memory place station h room)
     ∙ laid memory place held (station ∷ drop (place + 1) table) (omega arith) room all (omega arith)
-
-pub still-room : {memory : List ℕ} {place : ℕ} {next : List Station} {k : ℕ} {now : List ℕ} (later part : List ℕ) (i : ℕ) → Lays memory place next k now
-    → later ≡ placed now i part → 0 < length later
-still-room {now = now} later part i l el = omega (arith, l .fits, lays-long l, ap length el, length-placed now i part)
-
-pub same-at-end : {memory : List ℕ} {place : ℕ} {next : List Station} {k : ℕ} {now : List ℕ} (last : List ℕ) (held : ℕ) → Lays memory place next k now
-    → last ≡ set now 0 held → length last ≡ length memory
-same-at-end {now = now} last held l es = ap length es ∙ length-set now 0 held ∙ lays-long l

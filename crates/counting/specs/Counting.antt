@@ -7,7 +7,7 @@ use lib.ListN.{length, take, drop}
 use Rattle.octets.specs.Numbers.{_gives_}
 use Rattle.stations.specs.declared.Station.{Station}
 use Rattle.counting.specs.declared.Heard.{Heard}
-use Rattle.stations.specs.Table.{capacity, tableIn, memoryOf, addresses, newStation, stationAt, placeOf, isHeld}
+use Rattle.stations.specs.Table.{stationLimit, tableIn, memoryOf, addresses, newStation, stationAt, placeOf, isHeld}
 
 -- one more, up to 65,535
 abbrev pub oneMore : ℕ → ℕ
@@ -28,10 +28,10 @@ counted heard station =
       «shortest_path» = cond (heard .«path_bit») (shorter station (heard .«path_count»)) (station .«shortest_path»);
     }
 
--- a new station while as many are held as there is room for: 55, and nothing changes
+-- a new station while 128 are held: 55, and nothing changes
 unfoldable pub countNumber : Heard → List ℕ → ℕ
 countNumber heard memory =
-    (not (isHeld (heard .source) (addresses (tableIn memory))) && leb (capacity memory) (length (tableIn memory))) gives 55
+    (not (isHeld (heard .source) (addresses (tableIn memory))) && leb stationLimit (length (tableIn memory))) gives 55
 
 -- the station with the PDU counted stands at the address's place, before the stations that it pushes on where it is new
 unfoldable pub tableAfterCount : Heard → List Station → List Station

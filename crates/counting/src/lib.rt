@@ -5,7 +5,7 @@ ghost use mathlib.Core.List.{_∷_, _++_};
 ghost use Prim.Native.Nat.{_+_, _*_, _<_, _≤_};
 ghost use lib.ListN.{length, take, drop, set};
 ghost use Rattle.octets.specs.Octets.{placed};
-ghost use Rattle.stations.specs.Table.{capacity, tableIn, memoryOf, stationWords, newStation};
+ghost use Rattle.stations.specs.Table.{tableIn, memoryOf, stationWords, newStation};
 ghost use Rattle.counting.specs.Counting.{oneMore, shorter, counted, countNumber, memoryAfterCount};
 ghost use Rattle.counting.specs.Removing.{without, removalNumber, memoryAfterRemoval};
 use stations::Station;
@@ -118,8 +118,7 @@ fn path_word(station: Station) -> u16
     }
 }
 
-fn set_held(table: &mut [u16], count: u16)
-    requires { ⌜ 0 < length (now table) ⌝ }
+fn set_held(table: &mut [u16; Station::MEMORY], count: u16)
     ensures { λ _. ⌜ now (table .exit) ≡ set (now (table .entry)) 0 count ⌝ }
 {
     table[0] = count;
@@ -133,7 +132,7 @@ fn narrow(count: usize) -> u16
 }
 
 // Puts a station in the place of the one that stands there.
-fn replace(table: &mut [u16], place: usize, station: Station)
+fn replace(table: &mut [u16; Station::MEMORY], place: usize, station: Station)
     requires { ⌜ (place < length (tableIn (now table))) × (station .«shortest_path» < 65535) ⌝ }
     ensures { λ _. ⌜ now (table .exit)
         ≡ memoryOf (take place (tableIn (now (table .entry))) ++ station ∷ drop (place + 1) (tableIn (now (table .entry)))) (now (table .entry)) ⌝ }
@@ -144,8 +143,8 @@ fn replace(table: &mut [u16], place: usize, station: Station)
 }
 
 // Puts a station in at a place and moves those from there on by one.
-fn insert(table: &mut [u16], place: usize, station: Station)
-    requires { ⌜ (place ≤ length (tableIn (now table))) × (length (tableIn (now table)) < capacity (now table)) × (station .«shortest_path» < 65535) ⌝ }
+fn insert(table: &mut [u16; Station::MEMORY], place: usize, station: Station)
+    requires { ⌜ (place ≤ length (tableIn (now table))) × (length (tableIn (now table)) < 128) × (station .«shortest_path» < 65535) ⌝ }
     ensures { λ _. ⌜ now (table .exit)
         ≡ memoryOf (take place (tableIn (now (table .entry))) ++ station ∷ drop place (tableIn (now (table .entry)))) (now (table .entry)) ⌝ }
 {
@@ -163,7 +162,7 @@ fn insert(table: &mut [u16], place: usize, station: Station)
 }
 
 // Takes the station at a place out and moves those after it by one.
-fn take_out(table: &mut [u16], place: usize)
+fn take_out(table: &mut [u16; Station::MEMORY], place: usize)
     requires { ⌜ place < length (tableIn (now table)) ⌝ }
     ensures { λ _. ⌜ now (table .exit) ≡ memoryOf (without place (tableIn (now (table .entry)))) (now (table .entry)) ⌝ }
 {
@@ -178,7 +177,7 @@ fn take_out(table: &mut [u16], place: usize)
 }
 
 // Removes the station of an address: 0, or 56 where it is not held and nothing changes. Heard again later, it starts anew. Document 02, W-201.
-pub fn remove(table: &mut [u16], address: u16) -> u8
+pub fn remove(table: &mut [u16; Station::MEMORY], address: u16) -> u8
     ensures { λ r. ⌜ (r ≡ removalNumber address (tableIn (now (table .entry))))
         × (now (table .exit) ≡ memoryAfterRemoval address (now (table .entry))) ⌝ }
 {
@@ -190,8 +189,8 @@ pub fn remove(table: &mut [u16], address: u16) -> u8
     NOT_HELD
 }
 
-// Counts a PDU that was read: 0, or 55 where its source is new while there is no room for another, and nothing changes. Document 02, W-201.
-pub fn count(table: &mut [u16], heard: Heard) -> u8
+// Counts a PDU that was read: 0, or 55 where its source is new while 128 stations are held, and nothing changes. Document 02, W-201.
+pub fn count(table: &mut [u16; Station::MEMORY], heard: Heard) -> u8
     ensures { λ r. ⌜ (r ≡ countNumber heard (now (table .entry))) × (now (table .exit) ≡ memoryAfterCount heard (now (table .entry))) ⌝ }
 {
     let found = stations::seek(table, heard.source);
@@ -200,7 +199,7 @@ pub fn count(table: &mut [u16], heard: Heard) -> u8
         replace(table, found.place, counted(heard, known.station));
         return 0;
     }
-    if stations::held(table) == stations::capacity(table) {
+    if stations::held(table) == Station::LIMIT {
         return FULL;
     }
     insert(

@@ -6,7 +6,7 @@ use mathlib.Core.List.{List, [], _∷_, _++_}
 use mathlib.Core.Path.{_≡_, refl, ap, sym, _∙_}
 use lib.Dec.{leb}
 use lib.ListN.{length}
-use borrow.Author.Tests.{ne-eqb, le-leb, lt-leb}
+use borrow.Author.Tests.{ne-eqb, le-leb, lt-leb, leb-true}
 use Rattle.octets.specs.Numbers.{flag, _gives_, _orElse_}
 use Rattle.octets.specs.Octets.{at, AllBytes}
 use Rattle.octets.proofs.Words.{bytes-joined}
@@ -17,7 +17,7 @@ use Rattle.pdu.specs.Header.{headerOf}
 use Rattle.pdu.specs.Reading.{readOf, readingNumber}
 use Rattle.pdu.proofs.Number.{read-0}
 use Rattle.writing.specs.Writing.{onlyIf, headerBytes}
-use Rattle.sources.specs.Sources.{Accepted, capacity, entriesFrom, recordIn, placeOf, isHeld, lastNumber, numberFault, sourceFault, memoryWithout}
+use Rattle.sources.specs.Sources.{Accepted, entriesFrom, recordIn, placeOf, isHeld, lastNumber, numberFault, sourceFault, memoryWithout}
 use Rattle.sources.proofs.Laws.{length-record}
 use Rattle.sources.proofs.Noting.{last-accepted, last-other}
 use Rattle.sources.proofs.Forgotten.{record-without, removed-new, others-left}
@@ -57,11 +57,11 @@ module _ (source number : ℕ) (held : List Accepted) where
   is-first h = rw h
 
 module _ (source : ℕ) (memory : List ℕ) where
-  is-84 : isHeld source (recordIn memory) ≡ false → leb (capacity memory) (length (recordIn memory)) ≡ true → sourceFault source memory ≡ 84
+  is-84 : isHeld source (recordIn memory) ≡ false → leb 64 (length (recordIn memory)) ≡ true → sourceFault source memory ≡ 84
   unfolding sourceFault _gives_
   is-84 h l = rw (h, l)
 
-  has-room : leb (capacity memory) (length (recordIn memory)) ≡ false → sourceFault source memory ≡ 0
+  has-room : leb 64 (length (recordIn memory)) ≡ false → sourceFault source memory ≡ 0
   unfolding sourceFault _gives_
   has-room l = rw l (go (isHeld source (recordIn memory)))
     where
@@ -73,9 +73,24 @@ module _ (source : ℕ) (memory : List ℕ) where
   unfolding sourceFault _gives_
   is-held h = rw h
 
+exactly-84 : (source : ℕ) (memory : List ℕ)
+    → let full = (isHeld source (recordIn memory) ≡ false) × (length (recordIn memory) ≡ 64) in
+    (sourceFault source memory ≡ 84 → full) × (full → sourceFault source memory ≡ 84)
+exactly-84 source memory =
+    (λ e. go e (isHeld source (recordIn memory)) refl, λ f. is-84 source memory (f .0) (le-leb 64 (length (recordIn memory)) (omega (arith, f .1))))
+  where
+    filled : sourceFault source memory ≡ 84 → (none-left : Bool) → leb 64 (length (recordIn memory)) ≡ none-left → length (recordIn memory) ≡ 64
+    filled e true l = omega (arith, leb-true 64 (length (recordIn memory)) l, length-record memory)
+    filled e false l = absurd (omega (arith, e, has-room source memory l))
+
+    go : sourceFault source memory ≡ 84 → (held : Bool) → isHeld source (recordIn memory) ≡ held
+        → (isHeld source (recordIn memory) ≡ false) × (length (recordIn memory) ≡ 64)
+    go e true h = absurd (omega (arith, e, is-held source memory h))
+    go e false h = (h, filled e (leb 64 (length (recordIn memory))) refl)
+
 none-held : (memory : List ℕ) → at memory 0 ≡ 0 → recordIn memory ≡ []
 unfolding recordIn entriesFrom
-none-held memory e = let z : min (at memory 0) (capacity memory) ≡ 0 = omega arith in rw z
+none-held memory e = let z : min (at memory 0) 64 ≡ 0 = omega arith in rw z
 
 seal-nothing : (key : List ℕ) (number : ℕ) (bytes output : List ℕ) → (sealNumber number bytes (length output) ≡ 0 → ⊥)
     → (sealWritten number bytes (length output) .length ≡ 0) × (sealOutput key number bytes output ≡ output)
@@ -169,15 +184,16 @@ module _ where
 pub encrypted-payloads : EncryptedPayloads
 encrypted-payloads =
     record {
-      room-for-64 = λ memory h. omega arith;
+      sized = refl;
       at-most-64 = λ memory. omega (arith, length-record memory);
       empty = none-held;
       not-greater = λ source number held h l. is-82 source number held h (le-leb number (lastNumber source held) l);
       greater = λ source number held h l. is-greater source number held h (lt-leb number (lastNumber source held) l);
       first-number = is-first;
-      full = λ source memory h l. is-84 source memory h (le-leb (capacity memory) (length (recordIn memory)) l);
-      not-full = λ source memory l. has-room source memory (lt-leb (capacity memory) (length (recordIn memory)) l);
+      full = λ source memory h l. is-84 source memory h (le-leb 64 (length (recordIn memory)) (omega (arith, l)));
+      not-full = λ source memory l. has-room source memory (lt-leb 64 (length (recordIn memory)) l);
       held-already = is-held;
+      eighty-four-exactly = exactly-84;
       unread = λ number room bytes some. sym (sealing.reading-refused number room bytes _ refl some);
       encrypted-already = λ number room bytes read e. sym (sealing.encrypted-refused number room bytes (headerOf bytes) refl read e);
       no-room-for-hash = λ number room bytes read e h. sym (sealing.long-refused number room bytes (headerOf bytes) refl read e h);

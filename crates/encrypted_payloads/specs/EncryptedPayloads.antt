@@ -16,7 +16,7 @@ use Rattle.pdu.specs.Reading.{readOf, readingNumber}
 use Rattle.pdu.specs.Parts.{pathIn, payloadIn}
 use Rattle.writing.specs.Writing.{onlyIf, headerBytes}
 use Rattle.node.specs.Answers.{repeatNumber}
-use Rattle.sources.specs.Sources.{Accepted, capacity, recordIn, isHeld, lastNumber, numberFault, sourceFault, withAccepted}
+use Rattle.sources.specs.Sources.{Accepted, memoryLength, recordIn, isHeld, lastNumber, numberFault, sourceFault, withAccepted}
 use Rattle.sources.specs.Sources.{withoutSource, memoryWithout}
 use Rattle.message.specs.Protection.{messageNumberBytes, hashedHeader, hashBytes, nonceOf}
 use Rattle.message.specs.Sealable.{sealNumber}
@@ -132,8 +132,8 @@ pub record EncryptedPayloads : Type 0 where
       → headerOf bytes .«payload_length» ≤ space → AllRepeat repeats (sealedPdu key number bytes ++ behind)
       → let heard = heardAtLast repeats (sealedPdu key number bytes ++ behind) in
       (openNumber key memory heard space ≡ 0) × (plainPayload key heard ≡ payloadIn (headerOf bytes) bytes)
-  -- no replay: over any openings from any memory, what is accepted from a source later has a greater number
-  pub no-replay : (memory : List ℕ) (first : Opening) (between : List Opening) (second : Opening)
+  -- no replay: over any openings from any memory of that length, what is accepted from a source later has a greater number
+  pub no-replay : (memory : List ℕ) → length memory ≡ memoryLength → (first : Opening) (between : List Opening) (second : Opening)
       → openNumber (first .key) memory (first .bytes) (first .room) ≡ 0 → sourceOf (first .bytes) ≡ sourceOf (second .bytes)
       → openNumber (second .key) (memoryAfterAll (memoryAfterOne memory first) between) (second .bytes) (second .room) ≡ 0
       → messageNumber (first .bytes) < messageNumber (second .bytes)
@@ -149,8 +149,8 @@ pub record EncryptedPayloads : Type 0 where
   pub counted-once : (source other number later j k : ℕ) → number ≤ 16777215 → later ≤ 16777215 → j < 2 ^ 64 → k < 2 ^ 64
       → counterBlock (nonceOf source number) j ≡ counterBlock (nonceOf other later) k → (source ≡ other) × (number ≡ later) × (j ≡ k)
   -- II. CASE BY CASE, what the definitions of the record, of sealing and of opening say
-  -- the record: a memory of 129 words or more has room for 64 sources, any memory holds at most 64, and none where its first word is 0
-  pub room-for-64 : (memory : List ℕ) → 129 ≤ length memory → capacity memory ≡ 64
+  -- the record: its memory is 129 words; any memory holds at most 64 sources, and none where its first word is 0
+  pub sized : memoryLength ≡ 129
   pub at-most-64 : (memory : List ℕ) → length (recordIn memory) ≤ 64
   pub empty : (memory : List ℕ) → at memory 0 ≡ 0 → recordIn memory ≡ []
   -- 82 exactly where the source is held and the number is not greater than its last; of a new source any number is taken
@@ -159,11 +159,15 @@ pub record EncryptedPayloads : Type 0 where
   pub greater : (source number : ℕ) (held : List Accepted) → isHeld source held ≡ true → lastNumber source held < number
       → numberFault source number held ≡ 0
   pub first-number : (source number : ℕ) (held : List Accepted) → isHeld source held ≡ false → numberFault source number held ≡ 0
-  -- 84 exactly where the source is new and there is no room for another
-  pub full : (source : ℕ) (memory : List ℕ) → isHeld source (recordIn memory) ≡ false → capacity memory ≤ length (recordIn memory)
+  -- 84 where the source is new and 64 are held
+  pub full : (source : ℕ) (memory : List ℕ) → isHeld source (recordIn memory) ≡ false → length (recordIn memory) ≡ 64
       → sourceFault source memory ≡ 84
-  pub not-full : (source : ℕ) (memory : List ℕ) → length (recordIn memory) < capacity memory → sourceFault source memory ≡ 0
+  pub not-full : (source : ℕ) (memory : List ℕ) → length (recordIn memory) < 64 → sourceFault source memory ≡ 0
   pub held-already : (source : ℕ) (memory : List ℕ) → isHeld source (recordIn memory) ≡ true → sourceFault source memory ≡ 0
+  -- so in 02's words: 84 exactly if the source is new and 64 are held
+  pub eighty-four-exactly : (source : ℕ) (memory : List ℕ)
+      → let full = (isHeld source (recordIn memory) ≡ false) × (length (recordIn memory) ≡ 64) in
+      (sourceFault source memory ≡ 84 → full) × (full → sourceFault source memory ≡ 84)
   -- a source removed: the memory shows the others; it is new then, every other source is as before, and one that was not held changes no word
   pub removed : (source : ℕ) (memory : List ℕ) → recordIn (memoryWithout source memory) ≡ withoutSource source (recordIn memory)
   pub removed-new : (source : ℕ) (held : List Accepted) → isHeld source (withoutSource source held) ≡ false
@@ -246,7 +250,7 @@ pub record EncryptedPayloads : Type 0 where
       × (openOutput key memory bytes output ≡ plainPayload key bytes ++ drop (plainLength bytes) output)
   pub open-answer : (key memory bytes : List ℕ) (room : ℕ) → openWritten key memory bytes room .number ≡ openNumber key memory bytes room
   -- with 0 the number is noted in the record
-  pub noted : (key memory bytes : List ℕ) (room : ℕ) → openNumber key memory bytes room ≡ 0
+  pub noted : (key memory bytes : List ℕ) (room : ℕ) → openNumber key memory bytes room ≡ 0 → length memory ≡ memoryLength
       → recordIn (memoryAfterOpening key memory bytes room) ≡ withAccepted (sourceOf bytes) (messageNumber bytes) (recordIn memory)
   -- in a record so made the source is held with that number, and every other source as before
   pub last-noted : (source number : ℕ) (held : List Accepted)

@@ -9,9 +9,9 @@ use lib.ListN.{length, take, drop}
 use borrow.Author.Tests.{eqb-true, eqb-false, leb-false}
 use Rattle.octets.specs.Numbers.{_gives_}
 use Rattle.stations.specs.declared.Station.{Station}
-use Rattle.stations.specs.Table.{capacity, tableIn, memoryOf, addresses, newStation, stationAt, placeOf, isHeld}
+use Rattle.stations.specs.Table.{tableIn, memoryOf, addresses, newStation, stationAt, placeOf, isHeld}
 use Rattle.stations.specs.Asking.{stationOf}
-use Rattle.stations.proofs.Memory.{length-table, table-fits, length-addresses}
+use Rattle.stations.proofs.Memory.{table-fits, length-addresses}
 use Rattle.stations.proofs.Places.{place-inside}
 use Rattle.counting.specs.declared.Heard.{Heard}
 use Rattle.counting.specs.Counting.{counted, countNumber, tableAfterCount, memoryAfterCount}
@@ -55,13 +55,13 @@ module _ (memory : List ℕ) (heard : Heard) (heards : ℕ → List Heard) (befo
   abbrev more : ℕ → List Heard
   more address = cond (eqb (heard .source) address) (heard ∷ heards address) (heards address)
 
-  count-room : isHeld (heard .source) known ≡ false → countNumber heard memory ≡ 0 → length table < capacity memory
+  count-room : isHeld (heard .source) known ≡ false → countNumber heard memory ≡ 0 → length table < 128
   unfolding countNumber _gives_
-  count-room e n = go (leb (capacity memory) (length table)) refl (rw e at n)
+  count-room e n = go (leb 128 (length table)) refl (rw e at n)
     where
-      go : (t : Bool) → leb (capacity memory) (length table) ≡ t → _≡_ {A = ℕ} (cond t 55 0) 0 → length table < capacity memory
+      go : (t : Bool) → leb 128 (length table) ≡ t → _≡_ {A = ℕ} (cond t 55 0) 0 → length table < 128
       go true f z = absurd (omega arith)
-      go false f z = leb-false (capacity memory) (length table) f
+      go false f z = leb-false 128 (length table) f
 
   told-held : isHeld (heard .source) known ≡ true
       → Told (memoryOf (take place table ++ counted heard (stationAt table place) ∷ drop (place + 1) table) memory) more
@@ -83,14 +83,13 @@ module _ (memory : List ℕ) (heard : Heard) (heards : ℕ → List Heard) (befo
       let sound : AllSound all =
       sound-append (take place table) (after ∷ drop (place + 1) table) (sound-take place table (table-sound memory))
       (sound-counted heard old (sound-at table place (table-sound memory)), sound-drop (place + 1) table (table-sound memory)) in
-      let kept-all : tableIn (memoryOf all memory) ≡ all =
-      table-kept all memory sound (omega (arith, long, length-table memory)) (omega (arith, fits .1, inside)) in
+      let kept-all : tableIn (memoryOf all memory) ≡ all = table-kept all memory sound (omega (arith, long, fits)) in
       let kept : tableIn (memoryOf all memory) ≡ inserted place after rest = kept-all ∙ now in
       let rises-old : Rises (addresses (inserted place old rest)) = subst (λ (t : List Station). Rises (addresses t)) was (before .rises) in
       let rises-new : Rises (addresses (inserted place after rest)) =
       subst Rises (same-addresses (take place rest) (drop place rest) old after refl) rises-old in
-      let short : length (inserted place after rest) ≤ 255 = omega (arith, ap length (sym now), long, fits .0) in
-      let short-old : length (inserted place old rest) ≤ 255 = omega (arith, ap length (sym was), fits .0) in
+      let short : length (inserted place after rest) ≤ 255 = omega (arith, ap length (sym now), long, fits) in
+      let short-old : length (inserted place old rest) ≤ 255 = omega (arith, ap length (sym was), fits) in
       let own : stationOf (after .address) table ≡ found old =
       ap (stationOf (old .address)) was ∙ shows-new place old rest within rises-old short-old in
       let others : (address : ℕ) → (address ≡ after .address → ⊥) → stationOf address rest ≡ shownBy address (heards address) =
@@ -104,7 +103,7 @@ module _ (memory : List ℕ) (heard : Heard) (heards : ℕ → List Heard) (befo
             (shown-more (after .address) heard (heards (after .address)) old (sym (before .told (after .address)) ∙ own)) address;
       }
 
-  told-new : isHeld (heard .source) known ≡ false → length table < capacity memory
+  told-new : isHeld (heard .source) known ≡ false → length table < 128
       → Told (memoryOf (take place table ++ counted heard (newStation (heard .source)) ∷ drop place table) memory) more
   unfolding counted
   told-new e room =
@@ -116,8 +115,8 @@ module _ (memory : List ℕ) (heard : Heard) (heards : ℕ → List Heard) (befo
       let sound : AllSound all =
       sound-append (take place table) (after ∷ drop place table) (sound-take place table (table-sound memory))
       (sound-counted heard (newStation (heard .source)) (λ z. refl), sound-drop place table (table-sound memory)) in
-      let kept : tableIn (memoryOf all memory) ≡ all = table-kept all memory sound (omega (arith, long, room)) (omega (arith, room)) in
-      let rises-new : Rises (addresses all) = rises-after place after table within (before .rises) (omega (arith, fits .0)) e refl in
+      let kept : tableIn (memoryOf all memory) ≡ all = table-kept all memory sound (omega (arith, long, room)) in
+      let rises-new : Rises (addresses all) = rises-after place after table within (before .rises) (omega (arith, fits)) e refl in
       let short : length all ≤ 255 = omega (arith, long, room) in
       let none : heards (heard .source) ≡ [] =
       shown-none (heard .source) (heards (heard .source)) (sym (not-shown (heard .source) table e) ∙ before .told (heard .source)) in

@@ -10,7 +10,7 @@ use borrow.Author.Tests.{ne-eqb}
 use Rattle.octets.specs.Octets.{at, over}
 use Rattle.octets.proofs.Placing.{length-over}
 use Rattle.stations.specs.declared.Station.{Station}
-use Rattle.stations.specs.Table.{capacity, stationFrom, stationsFrom, tableIn, stationWords, wordsOf, memoryOf, stationAt}
+use Rattle.stations.specs.Table.{stationLimit, stationFrom, stationsFrom, tableIn, stationWords, wordsOf, memoryOf, stationAt}
 use Rattle.stations.proofs.Memory.{length-words}
 use Rattle.counting.specs.declared.Heard.{Heard}
 use Rattle.counting.specs.Counting.{counted}
@@ -38,7 +38,7 @@ all-from (suc count) words = (from-sound words, all-from count (drop 4 words))
 
 pub table-sound : (memory : List ℕ) → AllSound (tableIn memory)
 unfolding tableIn
-table-sound memory = all-from (min (at memory 0) (capacity memory)) (drop 1 memory)
+table-sound memory = all-from (min (at memory 0) stationLimit) (drop 1 memory)
 
 pub sound-append : (first later : List Station) → AllSound first → AllSound later → AllSound (first ++ later)
 sound-append [] later f l = l
@@ -97,16 +97,11 @@ stations-back (station ∷ stations) rest s =
     (ap stationFrom apart ∙ station-back station (wordsOf stations ++ rest) (s .0))
     (ap (λ (all : List ℕ). stationsFrom (length stations) (drop 4 all)) apart ∙ stations-back stations rest (s .1))
 
-pub table-kept : (stations : List Station) (memory : List ℕ) → AllSound stations → length stations ≤ capacity memory → 0 < length memory
-    → tableIn (memoryOf stations memory) ≡ stations
+pub table-kept : (stations : List Station) (memory : List ℕ) → AllSound stations → length stations ≤ 128 → tableIn (memoryOf stations memory) ≡ stations
 unfolding tableIn memoryOf over
-table-kept stations memory s h p =
-    let all = length stations ∷ wordsOf stations in
-    let rest = drop (length all) memory in
-    let long : length (memoryOf stations memory) ≡ length memory =
-    length-over all memory (omega (arith, length-words stations)) in
-    let held : min (length stations) (capacity (memoryOf stations memory)) ≡ length stations = omega (arith, long) in
-    rw held (stations-back stations rest s)
+table-kept stations memory s h =
+    let held : min (length stations) stationLimit ≡ length stations = omega arith in
+    rw held (stations-back stations (drop (length (length stations ∷ wordsOf stations)) memory) s)
 
 pub first-word : (stations : List Station) (memory : List ℕ) → at (memoryOf stations memory) 0 ≡ length stations
 unfolding memoryOf over

@@ -9,9 +9,9 @@ use lib.ListN.{length, take, drop}
 use borrow.Author.Tests.{eqb-true, eqb-false}
 use Rattle.octets.specs.Octets.{at}
 use Rattle.stations.specs.declared.Station.{Station}
-use Rattle.stations.specs.Table.{capacity, stationsFrom, tableIn, memoryOf, addresses, stationAt, nextPlace, searched, placeOf, isHeld}
+use Rattle.stations.specs.Table.{stationLimit, stationsFrom, tableIn, memoryOf, addresses, stationAt, nextPlace, searched, placeOf, isHeld}
 use Rattle.stations.specs.Asking.{foundIf, stationOf}
-use Rattle.stations.proofs.Memory.{length-table, table-fits, length-addresses}
+use Rattle.stations.proofs.Memory.{table-fits, length-addresses}
 use Rattle.node.specs.declared.Answer.{Answer}
 use Rattle.counting.specs.declared.Heard.{Heard}
 use Rattle.counting.specs.Counting.{countNumber, memoryAfterCount}
@@ -54,10 +54,9 @@ removal-told memory heards before removed = go (isHeld removed (addresses (table
         let sound : AllSound rest =
         sound-append (take place table) (drop (place + 1) table) (sound-take place table (table-sound memory))
         (sound-drop (place + 1) table (table-sound memory)) in
-        let kept : tableIn (memoryOf rest memory) ≡ rest =
-        table-kept rest memory sound (omega (arith, long, length-table memory)) (omega (arith, fits .1, inside)) in
+        let kept : tableIn (memoryOf rest memory) ≡ rest = table-kept rest memory sound (omega (arith, long, fits)) in
         let rises-old : Rises (addresses (inserted place old rest)) = subst (λ (t : List Station). Rises (addresses t)) was (before .rises) in
-        let short : length (inserted place old rest) ≤ 255 = omega (arith, ap length (sym was), fits .0) in
+        let short : length (inserted place old rest) ≤ 255 = omega (arith, ap length (sym was), fits) in
         let shown : (t : Bool) (address : ℕ) → eqb removed address ≡ t → stationOf address rest ≡ shownBy address (cond t [] (heards address)) =
         λ t address. shown-after t address old rest was own within rises-old short in
         record {
@@ -93,10 +92,10 @@ empty-held : (address : ℕ) → isHeld address [] ≡ false
 unfolding searched nextPlace
 empty-held address = refl
 
-empty-table : (memory : List ℕ) → at memory 0 ≡ 0 → tableIn memory ≡ []
+pub empty-table : (memory : List ℕ) → at memory 0 ≡ 0 → tableIn memory ≡ []
 unfolding tableIn stationsFrom
 empty-table memory e =
-    let none : min (at memory 0) (capacity memory) ≡ 0 = omega (arith, e) in ap (λ (n : ℕ). stationsFrom n (drop 1 memory)) none
+    let none : min (at memory 0) stationLimit ≡ 0 = omega (arith, e) in ap (λ (n : ℕ). stationsFrom n (drop 1 memory)) none
 
 empty-told : (memory : List ℕ) → at memory 0 ≡ 0 → Told memory (λ (address : ℕ). [])
 empty-told memory e =

@@ -3,6 +3,7 @@ ghost use mathlib.Core.Path.{_≡_};
 ghost use Rattle.listening.specs.Listening.{isEchoNumber, heardOf, answerNumber, memoryAfterAnswer};
 use counting::Heard;
 use node::Answer;
+use stations::Station;
 
 fn is_echo_number(number: u8) -> bool
     ensures { λ r. ⌜ r ≡ isEchoNumber number ⌝ }
@@ -25,7 +26,7 @@ fn heard_of(received: &[u8], answer: Answer) -> Heard
 
 // Counts the PDU at the start of `received` by what a node answered for it, as after a step of a walk: nothing where no PDU was read. Answers the
 // table's number, 0 or 55. Of an answer that is not for these bytes, what they hold is counted. Document 02, W-201.
-pub fn count_answer(table: &mut [u16], received: &[u8], answer: Answer) -> u8
+pub fn count_answer(table: &mut [u16; Station::MEMORY], received: &[u8], answer: Answer) -> u8
     ensures { λ r. ⌜ (r ≡ answerNumber answer (now (received .entry)) (now (table .entry)))
         × (now (table .exit) ≡ memoryAfterAnswer answer (now (received .entry)) (now (table .entry))) ⌝ }
 {

@@ -24,7 +24,12 @@ pub extern "C" fn mant_seal(key: Key, number: u64, pdu: &[u8], output: &mut [u8]
 // and answers 0 and its length. Answers 1 to 6, 80, 81, 82, 83, 84 or 87 with length 0, output and record as they were. Output past the payload keeps
 // its bytes. Document 02, W-212.
 #[no_mangle]
-pub extern "C" fn mant_open(key: Key, memory: &mut [u32], pdu: &[u8], output: &mut [u8]) -> Written
+pub extern "C" fn mant_open(
+    key: Key,
+    memory: &mut [u32; sources::MEMORY],
+    pdu: &[u8],
+    output: &mut [u8],
+) -> Written
     ensures { λ r. ⌜ (r ≡ openWritten (key .bytes) (now (memory .entry)) (now (pdu .entry)) (length (now (output .entry))))
         × (now (output .exit) ≡ openOutput (key .bytes) (now (memory .entry)) (now (pdu .entry)) (now (output .entry)))
         × (now (memory .exit) ≡ memoryAfterOpening (key .bytes) (now (memory .entry)) (now (pdu .entry)) (length (now (output .entry)))) ⌝ }
@@ -43,7 +48,7 @@ pub extern "C" fn mant_message_number(pdu: &[u8]) -> Numbered
 
 // Removes a source from the record, and returns whether it was held. Nothing changes where it was not. Document 02, W-212.
 #[no_mangle]
-pub extern "C" fn mant_remove_source(memory: &mut [u32], source: u16) -> bool
+pub extern "C" fn mant_remove_source(memory: &mut [u32; sources::MEMORY], source: u16) -> bool
     ensures { λ r. ⌜ (r ≡ isHeld source (recordIn (now (memory .entry)))) × (now (memory .exit) ≡ memoryWithout source (now (memory .entry))) ⌝ }
 {
     sources::remove(memory, source)

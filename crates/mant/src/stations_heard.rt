@@ -5,28 +5,21 @@ use boundary::MantListened;
 use boundary::MantNode;
 use counting::Heard;
 use stations::Found;
+use stations::Station;
 ghost use mathlib.Core.Path.{_≡_};
 ghost use lib.ListN.{length};
 ghost use Rattle.lists.specs.Lists.{listsIn};
 ghost use Rattle.decision.specs.Decision.{nodeOf};
-ghost use Rattle.stations.specs.Table.{capacity, tableIn};
+ghost use Rattle.stations.specs.Table.{tableIn};
 ghost use Rattle.stations.specs.Asking.{stationOf, foundAt};
 ghost use Rattle.counting.specs.Counting.{countNumber, memoryAfterCount};
 ghost use Rattle.counting.specs.Removing.{removalNumber, memoryAfterRemoval};
 ghost use Rattle.listening.specs.Listening.{answerNumber, memoryAfterAnswer};
 ghost use Rattle.boundary.specs.Boundary.{nodeFromC, answerFromC, ListensInC};
 
-// How many stations a memory has room for: 128 in 513 words or more, fewer in less. Document 02, W-201.
+// How many stations a table holds. A memory that says more than 128 is a full table. Document 02, W-201.
 #[no_mangle]
-pub extern "C" fn mant_stations_capacity(table: &[u16]) -> usize
-    ensures { λ r. ⌜ r ≡ capacity (now (table .entry)) ⌝ }
-{
-    stations::capacity(table)
-}
-
-// How many stations a table holds. A memory that says more than it has room for is a full table. Document 02, W-201.
-#[no_mangle]
-pub extern "C" fn mant_stations_held(table: &[u16]) -> usize
+pub extern "C" fn mant_stations_held(table: &[u16; Station::MEMORY]) -> usize
     ensures { λ r. ⌜ r ≡ length (tableIn (now (table .entry))) ⌝ }
 {
     stations::held(table)
@@ -34,7 +27,7 @@ pub extern "C" fn mant_stations_held(table: &[u16]) -> usize
 
 // The station at a place of the rising order of addresses, the lowest at 0; 56 from the number held on. Document 02, W-201.
 #[no_mangle]
-pub extern "C" fn mant_station_at(table: &[u16], place: usize) -> Found
+pub extern "C" fn mant_station_at(table: &[u16; Station::MEMORY], place: usize) -> Found
     ensures { λ r. ⌜ r ≡ foundAt place (tableIn (now (table .entry))) ⌝ }
 {
     stations::station_at(table, place)
@@ -42,7 +35,7 @@ pub extern "C" fn mant_station_at(table: &[u16], place: usize) -> Found
 
 // The station of an address, or 56 where it is not held. Document 02, W-201.
 #[no_mangle]
-pub extern "C" fn mant_station_of(table: &[u16], address: u16) -> Found
+pub extern "C" fn mant_station_of(table: &[u16; Station::MEMORY], address: u16) -> Found
     ensures { λ r. ⌜ r ≡ stationOf address (tableIn (now (table .entry))) ⌝ }
 {
     stations::station_of(table, address)
@@ -50,16 +43,16 @@ pub extern "C" fn mant_station_of(table: &[u16], address: u16) -> Found
 
 // Removes the station of an address: 0, or 56 where it is not held and the table stays as it was. Document 02, W-201.
 #[no_mangle]
-pub extern "C" fn mant_remove_station(table: &mut [u16], address: u16) -> u8
+pub extern "C" fn mant_remove_station(table: &mut [u16; Station::MEMORY], address: u16) -> u8
     ensures { λ r. ⌜ (r ≡ removalNumber address (tableIn (now (table .entry))))
         × (now (table .exit) ≡ memoryAfterRemoval address (now (table .entry))) ⌝ }
 {
     counting::remove(table, address)
 }
 
-// Counts a PDU that was read: 0, or 55 where its source is new while there is no room for another, and the table stays as it was. Document 02, W-201.
+// Counts a PDU that was read: 0, or 55 where its source is new while 128 stations are held, and the table stays as it was. Document 02, W-201.
 #[no_mangle]
-pub extern "C" fn mant_count_heard(table: &mut [u16], heard: Heard) -> u8
+pub extern "C" fn mant_count_heard(table: &mut [u16; Station::MEMORY], heard: Heard) -> u8
     ensures { λ r. ⌜ (r ≡ countNumber heard (now (table .entry))) × (now (table .exit) ≡ memoryAfterCount heard (now (table .entry))) ⌝ }
 {
     counting::count(table, heard)
@@ -68,7 +61,11 @@ pub extern "C" fn mant_count_heard(table: &mut [u16], heard: Heard) -> u8
 // Counts the PDU at the start of `received` by what a node answered for it, as after a step of a walk; nothing where no PDU was read. Answers the
 // table's number, 0 or 55. Of an answer that is not for these bytes, what they hold is counted. Document 02, W-201.
 #[no_mangle]
-pub extern "C" fn mant_count_answer(table: &mut [u16], received: &[u8], answer: MantAnswer) -> u8
+pub extern "C" fn mant_count_answer(
+    table: &mut [u16; Station::MEMORY],
+    received: &[u8],
+    answer: MantAnswer,
+) -> u8
     ensures { λ r. ⌜ (r ≡ answerNumber (answerFromC answer) (now (received .entry)) (now (table .entry)))
         × (now (table .exit) ≡ memoryAfterAnswer (answerFromC answer) (now (received .entry)) (now (table .entry))) ⌝ }
 {
@@ -83,7 +80,7 @@ pub extern "C" fn mant_hear_and_count(
     lists: &[u16],
     received: &[u8],
     output: &mut [u8],
-    table: &mut [u16],
+    table: &mut [u16; Station::MEMORY],
 ) -> MantListened
     ensures { λ r. ⌜ ListensInC (nodeOf (nodeFromC node) (listsIn (now (lists .entry))))
         (now (received .entry)) (now (output .entry)) (now (table .entry)) r (now (output .exit)) (now (table .exit)) ⌝ }

@@ -58,7 +58,7 @@ pub fn message_number(pdu: &[u8]) -> Numbered
 }
 
 // The first thing that keeps the PDU from being opened whatever the key is: 1 to 6, 80, 81, 82, or 0.
-fn keyless_fault(memory: &[u32], pdu: &[u8]) -> u8
+fn keyless_fault(memory: &[u32; sources::MEMORY], pdu: &[u8]) -> u8
     ensures { λ r. ⌜ r ≡ keylessFault (now (memory .entry)) (now (pdu .entry)) ⌝ }
 {
     let early = sealed_fault(pdu);
@@ -71,7 +71,13 @@ fn keyless_fault(memory: &[u32], pdu: &[u8]) -> u8
 }
 
 // What is refused once the key is used: 83, 84, 87, or 0.
-fn keyed_fault(keys: &[u8; 176], memory: &[u32], pdu: &[u8], header: Header, room: usize) -> u8
+fn keyed_fault(
+    keys: &[u8; 176],
+    memory: &[u32; sources::MEMORY],
+    pdu: &[u8],
+    header: Header,
+    room: usize,
+) -> u8
     requires { ⌜ header ≡ headerOf (now pdu) ⌝ }
     ensures { λ r. ⌜ r ≡ (not (genuineUnder (now (keys .entry)) (now (pdu .entry))) gives 83
         orElse sourceFault (sourceOf (now (pdu .entry))) (now (memory .entry))
@@ -114,7 +120,7 @@ fn put_plain(
 }
 
 // Notes a number as the last accepted from a source, unless the PDU is refused.
-fn note(fault: u8, memory: &mut [u32], source: u16, number: u32)
+fn note(fault: u8, memory: &mut [u32; sources::MEMORY], source: u16, number: u32)
     ensures { λ _. ⌜ now (memory .exit) ≡ cond (eqb fault 0) (memoryAccepted source number (now (memory .entry))) (now (memory .entry)) ⌝ }
 {
     if fault != 0 {
@@ -126,9 +132,14 @@ fn note(fault: u8, memory: &mut [u32], source: u16, number: u32)
 // Opens the sealed PDU at the start of `pdu` under a key, against the record in `memory`: writes the plain payload at the start of the output, notes
 // the message number as the last accepted from the source, and answers 0 and the payload's length. Answers 1 to 6 where there is no PDU, 80 where it is
 // not encrypted, 81 where its payload is too short for number and hash, 82 where the number is not greater than the last accepted from the source, 83
-// where the hash differs, 84 where the source is new and the record is full, and 87 where the output is too short; each with length 0, output and record
+// where the hash differs, 84 where the source is new and 64 are held, and 87 where the output is too short; each with length 0, output and record
 // as they were. Output past the payload keeps its bytes. Document 02, W-212; document 000, 3.5.3.
-pub fn open(key: [u8; 16], memory: &mut [u32], pdu: &[u8], output: &mut [u8]) -> Written
+pub fn open(
+    key: [u8; 16],
+    memory: &mut [u32; sources::MEMORY],
+    pdu: &[u8],
+    output: &mut [u8],
+) -> Written
     ensures { λ r. ⌜ (r ≡ openWritten key (now (memory .entry)) (now (pdu .entry)) (length (now (output .entry))))
         × (now (output .exit) ≡ openOutput key (now (memory .entry)) (now (pdu .entry)) (now (output .entry)))
         × (now (memory .exit) ≡ memoryAfterOpening key (now (memory .entry)) (now (pdu .entry)) (length (now (output .entry)))) ⌝ }

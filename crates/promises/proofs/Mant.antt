@@ -30,8 +30,6 @@ use Rattle.mant.proofs.planning.mant_most_bytes.Reads as mant-most-bytes-reads
 use Rattle.mant.proofs.planning.mant_most_bytes.Kinds as mant-most-bytes-kinds
 use Rattle.mant.proofs.planning.mant_limits.Reads as mant-limits-reads
 use Rattle.mant.proofs.planning.mant_limits.Kinds as mant-limits-kinds
-use Rattle.mant.proofs.stations_heard.mant_stations_capacity.Reads as mant-stations-capacity-reads
-use Rattle.mant.proofs.stations_heard.mant_stations_capacity.Kinds as mant-stations-capacity-kinds
 use Rattle.mant.proofs.stations_heard.mant_stations_held.Reads as mant-stations-held-reads
 use Rattle.mant.proofs.stations_heard.mant_stations_held.Kinds as mant-stations-held-kinds
 use Rattle.mant.proofs.stations_heard.mant_station_at.Reads as mant-station-at-reads
@@ -121,10 +119,6 @@ mant-most-bytes = (λ κs a. tt, λ κs a x y s t p q. p ∙ sym q)
 
 pub mant-limits : Promised 0 mant-limits-kinds.ps mant-limits-kinds.r mant-limits-reads.Asked mant-limits-reads.Post (λ κs x. x)
 mant-limits = (λ κs a. tt, λ κs a x y s t p q. p ∙ sym q)
-
-pub mant-stations-capacity : Promised 1 mant-stations-capacity-kinds.ps mant-stations-capacity-kinds.r mant-stations-capacity-reads.Asked
-    mant-stations-capacity-reads.Post (λ κs x. x)
-mant-stations-capacity = (λ κs a. tt, λ κs a x y s t p q. p ∙ sym q)
 
 pub mant-stations-held : Promised 1 mant-stations-held-kinds.ps mant-stations-held-kinds.r mant-stations-held-reads.Asked
     mant-stations-held-reads.Post (λ κs x. x)

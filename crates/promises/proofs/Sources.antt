@@ -2,8 +2,6 @@
 use mathlib.Core.Path.{refl, sym, _∙_}
 use denote.Ref.{now}
 use Rattle.promises.specs.Promise.{Promised, PromisedWithOutput}
-use Rattle.sources.proofs.capacity.Reads as capacity-reads
-use Rattle.sources.proofs.capacity.Kinds as capacity-kinds
 use Rattle.sources.proofs.held.Reads as held-reads
 use Rattle.sources.proofs.held.Kinds as held-kinds
 use Rattle.sources.proofs.number_fault.Reads as number-fault-reads
@@ -14,9 +12,6 @@ use Rattle.sources.proofs.accept.Reads as accept-reads
 use Rattle.sources.proofs.accept.Kinds as accept-kinds
 use Rattle.sources.proofs.remove.Reads as remove-reads
 use Rattle.sources.proofs.remove.Kinds as remove-kinds
-
-pub capacity : Promised 1 capacity-kinds.ps capacity-kinds.r capacity-reads.Asked capacity-reads.Post (λ κs x. x)
-capacity = (λ κs a. tt, λ κs a x y s t p q. p .0 ∙ sym (q .0))
 
 pub held : Promised 1 held-kinds.ps held-kinds.r held-reads.Asked held-reads.Post (λ κs x. x)
 held = (λ κs a. tt, λ κs a x y s t p q. p .0 ∙ sym (q .0))

@@ -1,8 +1,6 @@
 -- Every public function of `stations`: its promise asks nothing of the caller and determines what the caller sees.
 use mathlib.Core.Path.{sym, _∙_}
 use Rattle.promises.specs.Promise.{Promised}
-use Rattle.stations.proofs.capacity.Reads as capacity-reads
-use Rattle.stations.proofs.capacity.Kinds as capacity-kinds
 use Rattle.stations.proofs.held.Reads as held-reads
 use Rattle.stations.proofs.held.Kinds as held-kinds
 use Rattle.stations.proofs.seek.Reads as seek-reads
@@ -11,9 +9,6 @@ use Rattle.stations.proofs.station_at.Reads as station-at-reads
 use Rattle.stations.proofs.station_at.Kinds as station-at-kinds
 use Rattle.stations.proofs.station_of.Reads as station-of-reads
 use Rattle.stations.proofs.station_of.Kinds as station-of-kinds
-
-pub capacity : Promised 1 capacity-kinds.ps capacity-kinds.r capacity-reads.Asked capacity-reads.Post (λ κs x. x)
-capacity = (λ κs a. tt, λ κs a x y s t p q. p .0 ∙ sym (q .0))
 
 pub held : Promised 1 held-kinds.ps held-kinds.r held-reads.Asked held-reads.Post (λ κs x. x)
 held = (λ κs a. tt, λ κs a x y s t p q. p .0 ∙ sym (q .0))

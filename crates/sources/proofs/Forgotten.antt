@@ -1,17 +1,17 @@
 -- The record once a source was removed: the memory shows the entries left, the source is new, every other source is as before.
-use Prim.Native.Nat.{ℕ, suc, _+_, _-_, _*_, _/_, _≤_, _<_, min}
+use Prim.Native.Nat.{ℕ, suc, _≤_, min}
 use native.Mathlib.Omega.{arith}
 use mathlib.Core.Bool.{Bool, true, false, cond}
 use mathlib.Core.List.{List, [], _∷_, _++_}
 use mathlib.Core.Path.{_≡_, refl, ap, sym, _∙_}
 use lib.Dec.{eqb}
-use lib.ListN.{length, drop, length-append, length-drop}
-use borrow.Author.Tests.{ltb-true, ltb-false, eqb-true, ne-eqb}
+use lib.ListN.{length, drop}
+use borrow.Author.Tests.{ltb-false, eqb-true, ne-eqb}
 use Rattle.octets.specs.Octets.{over}
-use Rattle.sources.specs.Sources.{Accepted, capacity, entriesFrom, recordIn, placeOf, isHeld, lastNumber, withoutSource, entryWords, memoryWithout}
+use Rattle.sources.specs.Sources.{Accepted, sourceLimit, entriesFrom, recordIn, placeOf, isHeld, lastNumber, withoutSource, entryWords, memoryWithout}
 use Rattle.sources.proofs.Laws.{length-record}
 use Rattle.sources.proofs.Noting.{nextNumber, next-is, same-next}
-use Rattle.sources.proofs.Removing.{length-words, no-more, none-left-out}
+use Rattle.sources.proofs.Removing.{no-more, none-left-out}
 
 entries-words : (left : List Accepted) (rest : List ℕ) → entriesFrom (length left) (entryWords left ++ rest) ≡ left
 unfolding entriesFrom entryWords
@@ -19,16 +19,11 @@ entries-words [] rest = refl
 entries-words (x ∷ later) rest = ap (λ (l : List Accepted). x ∷ l) (entries-words later rest)
 
 -- a memory with entries written over it shows these
-record-over : (left : List Accepted) (memory : List ℕ) → length left ≤ capacity memory → 2 * length left < length memory
-    → recordIn (over (length left ∷ entryWords left) memory) ≡ left
+record-over : (left : List Accepted) (memory : List ℕ) → length left ≤ 64 → recordIn (over (length left ∷ entryWords left) memory) ≡ left
 unfolding recordIn over
-record-over left memory few fits =
+record-over left memory few =
     let rest = drop (suc (length (entryWords left))) memory in
-    let after = length left ∷ (entryWords left ++ rest) in
-    let same : length after ≡ length memory =
-    omega (arith, length-append (entryWords left) rest, length-drop (suc (length (entryWords left))) memory, length-words left) in
-    let room : capacity after ≡ capacity memory = ap (λ (n : ℕ). min ((n - 1) / 2) 64) same in
-    let all : min (length left) (capacity after) ≡ length left = omega (arith, room) in
+    let all : min (length left) sourceLimit ≡ length left = omega arith in
     ap (λ (n : ℕ). entriesFrom n (entryWords left ++ rest)) all ∙ entries-words left rest
 
 pub record-without : (source : ℕ) (memory : List ℕ) → recordIn (memoryWithout source memory) ≡ withoutSource source (recordIn memory)
@@ -42,8 +37,7 @@ record-without source memory = go (isHeld source (recordIn memory)) refl
         let left = withoutSource source (recordIn memory) in
         let counted = length-record memory in
         let fewer = no-more source (recordIn memory) in
-        let inside = ltb-true (placeOf source (recordIn memory)) (length (recordIn memory)) e in
-        record-over left memory (omega arith) (omega arith)
+        record-over left memory (omega arith)
     go false e = sym (none-left-out source (recordIn memory) (ltb-false (placeOf source (recordIn memory)) (length (recordIn memory)) e))
 
 next-removed : (source : ℕ) (held : List Accepted) → nextNumber source (withoutSource source held) ≡ 0

@@ -11,7 +11,7 @@ use lib.ListN.{drop-of-length-le}
 use borrow.Author.Tests.{ltb-true, leb-false, lt-ltb, le-ltb, le-leb, lt-leb, eq-eqb, ne-eqb}
 use Rattle.octets.specs.Numbers.{_gives_}
 use Rattle.octets.specs.Octets.{at}
-use Rattle.sources.specs.Sources.{Accepted, capacity, entriesFrom, recordIn, placeOf, isHeld, lastNumber}
+use Rattle.sources.specs.Sources.{Accepted, sourceLimit, entriesFrom, recordIn, placeOf, isHeld, lastNumber}
 use Rattle.sources.specs.Sources.{numberFault, sourceFault, withAccepted, memoryAccepted}
 
 abbrev pub none : Accepted
@@ -22,9 +22,9 @@ unfolding entriesFrom
 length-entries zero words = refl
 length-entries (suc count) words = ap suc (length-entries count (drop 2 words))
 
-pub length-record : (memory : List ℕ) → length (recordIn memory) ≡ min (at memory 0) (capacity memory)
+pub length-record : (memory : List ℕ) → length (recordIn memory) ≡ min (at memory 0) sourceLimit
 unfolding recordIn
-length-record memory = length-entries (min (at memory 0) (capacity memory)) (drop 1 memory)
+length-record memory = length-entries (min (at memory 0) sourceLimit) (drop 1 memory)
 
 entry-from : (place count : ℕ) (words : List ℕ) → place < count
     → getD (entriesFrom count words) place none ≡ record { source = at words (2 * place); number = at words (2 * place + 1) }
@@ -44,7 +44,7 @@ unfolding recordIn
 entry-at memory place h =
     let one : 1 + 2 * place ≡ 2 * place + 1 = omega arith in
     let two : 1 + (2 * place + 1) ≡ 2 * place + 2 = omega arith in
-    entry-from place (min (at memory 0) (capacity memory)) (drop 1 memory) (omega (arith, length-record memory))
+    entry-from place (min (at memory 0) sourceLimit) (drop 1 memory) (omega (arith, length-record memory))
     ∙ rw (getD-drop 1 memory (2 * place) 0, getD-drop 1 memory (2 * place + 1) 0, one, two)
 
 pub source-at : (memory : List ℕ) (place : ℕ) → place < length (recordIn memory)
@@ -110,31 +110,29 @@ module _ (source : ℕ) (memory : List ℕ) (place : ℕ) (is : place ≡ placeO
   unfolding sourceFault _gives_
   source-held h = rw (← is, lt-ltb _ _ h)
 
-  pub source-full : length (recordIn memory) ≤ place → capacity memory ≤ length (recordIn memory) → _≡_ {A = ℕ} 84 (sourceFault source memory)
+  pub source-full : length (recordIn memory) ≤ place → 64 ≤ length (recordIn memory) → _≡_ {A = ℕ} 84 (sourceFault source memory)
   unfolding sourceFault _gives_
   source-full h l = rw (← is, le-ltb _ _ h, le-leb _ _ l)
 
-  pub source-room : length (recordIn memory) ≤ place → length (recordIn memory) < capacity memory → _≡_ {A = ℕ} 0 (sourceFault source memory)
+  pub source-room : length (recordIn memory) ≤ place → length (recordIn memory) < 64 → _≡_ {A = ℕ} 0 (sourceFault source memory)
   unfolding sourceFault _gives_
   source-room h l = rw (← is, le-ltb _ _ h, lt-leb _ _ l)
 
 -- where there is no 84, the source's place is one that there is room for
-pub place-fits : (source : ℕ) (memory : List ℕ) → sourceFault source memory ≡ 0 → placeOf source (recordIn memory) < capacity memory
+pub place-fits : (source : ℕ) (memory : List ℕ) → sourceFault source memory ≡ 0 → placeOf source (recordIn memory) < 64
 unfolding sourceFault _gives_
 place-fits source memory e =
-    go (isHeld source (recordIn memory)) (leb (capacity memory) (length (recordIn memory))) refl refl e
+    go (isHeld source (recordIn memory)) (leb sourceLimit (length (recordIn memory))) refl refl e
   where
-    go : (held full : Bool) → isHeld source (recordIn memory) ≡ held → leb (capacity memory) (length (recordIn memory)) ≡ full
-        → _≡_ {A = ℕ} (cond (not held && full) 84 0) 0 → placeOf source (recordIn memory) < capacity memory
+    go : (held full : Bool) → isHeld source (recordIn memory) ≡ held → leb sourceLimit (length (recordIn memory)) ≡ full
+        → _≡_ {A = ℕ} (cond (not held && full) 84 0) 0 → placeOf source (recordIn memory) < 64
     go true full eh ef z = omega (arith, ltb-true (placeOf source (recordIn memory)) (length (recordIn memory)) eh, length-record memory)
     go false true eh ef z = absurd (omega arith)
-    go false false eh ef z = omega (arith, leb-false (capacity memory) (length (recordIn memory)) ef, place-within source (recordIn memory))
+    go false false eh ef z = omega (arith, leb-false sourceLimit (length (recordIn memory)) ef, place-within source (recordIn memory))
 
 pub place-room : (source place fault : ℕ) (memory : List ℕ) → fault ≡ sourceFault source memory → fault ≡ 0 → place ≡ placeOf source (recordIn memory)
-    → (place < 64) × (2 * place + 2 < length memory)
-place-room source place fault memory e z is =
-    let fits = place-fits source memory (sym e ∙ z) in
-    (omega (arith, is), omega (arith, is))
+    → place < 64
+place-room source place fault memory e z is = omega (arith, is, place-fits source memory (sym e ∙ z))
 
 -- how many are held once a number was accepted
 pub length-accepted : (source number : ℕ) (held : List Accepted)

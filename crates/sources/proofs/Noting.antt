@@ -1,5 +1,5 @@
 -- The record as it goes on: what a memory shows once a number was accepted, and that no source's last number falls.
-use Prim.Native.Nat.{ℕ, zero, suc, _+_, _-_, _*_, _/_, _≤_, _<_, min}
+use Prim.Native.Nat.{ℕ, zero, suc, _+_, _-_, _*_, _≤_, _<_, min}
 use native.Mathlib.Omega.{arith}
 use mathlib.Core.Bool.{Bool, true, false, cond, _&&_}
 use mathlib.Core.List.{List, [], _∷_, _++_}
@@ -8,7 +8,7 @@ use lib.Dec.{eqb, ltb, leb, leb·suc-suc}
 use lib.ListN.{length, getD, take, drop, set, length-set}
 use borrow.Author.Tests.{lt-ltb, leb-false, eqb-true, eqb-false, eq-eqb, ne-eqb}
 use Rattle.octets.proofs.Numbering.{gives-zero}
-use Rattle.sources.specs.Sources.{Accepted, capacity, entriesFrom, recordIn, placeOf, isHeld, lastNumber}
+use Rattle.sources.specs.Sources.{Accepted, sourceLimit, memoryLength, entriesFrom, recordIn, placeOf, isHeld, lastNumber}
 use Rattle.sources.specs.Sources.{numberFault, sourceFault, withAccepted, memoryAccepted}
 use Rattle.sources.proofs.Laws.{none, length-record, place-fits, place-within, length-accepted}
 
@@ -34,45 +34,37 @@ entries-set (suc place) (suc count) source number (a ∷ b ∷ words) h l =
     let behind : suc place + 1 ≡ suc (place + 1) = omega arith in
     rw (all, next, more, behind) (ap (λ (l : List Accepted). entry a b ∷ l) (entries-set place count source number words (omega arith) (omega arith)))
 
-min-first : (a b : ℕ) → a ≤ b → min a b ≡ a
-min-first a b h = omega arith
-
-min-second : (a b : ℕ) → min a b ≤ b
-min-second a b = omega arith
-
-within-room : (place count room : ℕ) → place < room → count ≤ room → place + 1 + (count - (place + 1)) ≤ room
-within-room place count room h l = omega arith
-
-inside-words : (place words : ℕ) → place < min ((suc words - 1) / 2) 64 → 2 * place + 1 < words
-inside-words place words h = omega arith
-
 -- the memory left shows the record left
-pub record-accepted : (source number : ℕ) (memory : List ℕ) → sourceFault source memory ≡ 0
+pub record-accepted : (source number : ℕ) (memory : List ℕ) → length memory ≡ memoryLength → sourceFault source memory ≡ 0
     → recordIn (memoryAccepted source number memory) ≡ withAccepted source number (recordIn memory)
 unfolding memoryAccepted recordIn withAccepted
-record-accepted source number [] e = absurd (omega (arith, place-fits source [] e))
-record-accepted source number (first ∷ words) e =
+record-accepted source number [] long e = absurd (omega arith)
+record-accepted source number (first ∷ words) long e =
     let memory = first ∷ words in
     let held = recordIn memory in
     let place = placeOf source held in
-    let count = min first (capacity memory) in
-    let long = length (withAccepted source number held) in
+    let count = min first sourceLimit in
+    let after = length (withAccepted source number held) in
     let fits = place-fits source memory e in
     let counted = length-record memory in
     let one : 2 * place + 1 ≡ suc (2 * place) = omega arith in
     let two : 2 * place + 2 ≡ suc (2 * place + 1) = omega arith in
-    let is-long : long ≡ place + 1 + (count - (place + 1)) = length-accepted source number held ∙ ap (λ (n : ℕ). place + 1 + (n - (place + 1))) counted in
-    let inside = inside-words place (length words) fits in
+    let is-after : after ≡ place + 1 + (count - (place + 1)) = length-accepted source number held ∙ ap (λ (n : ℕ). place + 1 + (n - (place + 1))) counted in
     let set-words = set (set words (2 * place) source) (2 * place + 1) number in
-    let same : length set-words ≡ length words = length-set (set words (2 * place) source) (2 * place + 1) number ∙ length-set words (2 * place) source in
-    let room : capacity (long ∷ set-words) ≡ capacity memory = ap (λ (n : ℕ). min ((suc n - 1) / 2) 64) same in
-    let most = within-room place count (capacity memory) fits (min-second first (capacity memory)) in
-    let all : min long (capacity (long ∷ set-words)) ≡ place + 1 + (count - (place + 1)) =
-    ap₂ min is-long room ∙ min-first (place + 1 + (count - (place + 1))) (capacity memory) most in
-    let is-memory : memoryAccepted source number memory ≡ long ∷ set-words =
-    rw e (ap₂ (λ (a b : ℕ). set (set (set memory 0 long) a source) b number) one two) in
+    let all : min after sourceLimit ≡ place + 1 + (count - (place + 1)) = omega (arith, is-after, fits) in
+    let is-memory : memoryAccepted source number memory ≡ after ∷ set-words =
+    rw e (ap₂ (λ (a b : ℕ). set (set (set memory 0 after) a source) b number) one two) in
     ap recordIn is-memory ∙ ap (λ (n : ℕ). entriesFrom n set-words) all
-    ∙ entries-set place count source number words (omega (arith, place-within source held, counted)) inside
+    ∙ entries-set place count source number words (omega (arith, place-within source held, counted)) (omega (arith, long, fits))
+
+pub length-memory : (source number : ℕ) (memory : List ℕ) → length (memoryAccepted source number memory) ≡ length memory
+unfolding memoryAccepted
+length-memory source number memory = go (eqb (sourceFault source memory) 0) _ _ _
+  where
+    go : (taken : Bool) → (a b n : ℕ)
+        → length (cond taken (set (set (set memory 0 n) a source) b number) memory) ≡ length memory
+    go true a b n = length-set (set (set memory 0 n) a source) b number ∙ length-set (set memory 0 n) a source ∙ length-set memory 0 n
+    go false a b n = refl
 
 -- one more than the number last accepted from a source, 0 while it is new
 unfoldable pub nextNumber : ℕ → List Accepted → ℕ

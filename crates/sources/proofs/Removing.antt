@@ -9,7 +9,7 @@ use lib.ListN.{length, getD, take, drop, set, length-append, length-take, length
 use lib.Seq.{take-suc, drop-cons, take-all, set-at, getD-append-add, getD-drop}
 use borrow.Author.Tests.{eq-eqb, ne-eqb, le-ltb, lt-ltb}
 use Rattle.octets.specs.Octets.{at, over}
-use Rattle.sources.specs.Sources.{Accepted, recordIn, placeOf, isHeld, withoutSource, entryWords, memoryWithout}
+use Rattle.sources.specs.Sources.{Accepted, memoryLength, recordIn, placeOf, isHeld, withoutSource, entryWords, memoryWithout}
 use Rattle.sources.proofs.Laws.{none, length-record, entry-at}
 
 pub length-words : (held : List Accepted) → length (entryWords held) ≡ 2 * length held
@@ -55,12 +55,6 @@ laid kept memory = (at memory 0 ∷ entryWords kept) ++ drop (2 * length kept + 
 length-front : (kept : List Accepted) (first : ℕ) → length (first ∷ entryWords kept) ≡ 2 * length kept + 1
 length-front kept first = omega (arith, length-words kept)
 
-pub length-laid : (kept : List Accepted) (memory : List ℕ) → 2 * length kept < length memory → length (laid kept memory) ≡ length memory
-unfolding laid
-length-laid kept memory h =
-    length-append (at memory 0 ∷ entryWords kept) (drop (2 * length kept + 1) memory)
-    ∙ omega (arith, length-front kept (at memory 0), length-drop (2 * length kept + 1) memory)
-
 pub laid-none : (memory : List ℕ) → 0 < length memory → memory ≡ laid [] memory
 unfolding laid entryWords
 laid-none [] h = absurd (omega arith)
@@ -105,6 +99,7 @@ laid-more kept memory x h =
 
 -- the entries looked at up to a place: how many are kept, and the memory
 pub record Kept (source place : ℕ) (memory : List ℕ) (count : ℕ) (after : List ℕ) : Type 0 where
+  pub long : length memory ≡ memoryLength
   pub counted : count ≡ length (withoutSource source (take place (recordIn memory)))
   pub is : after ≡ laid (withoutSource source (take place (recordIn memory))) memory
 
@@ -112,38 +107,29 @@ module _ (source place : ℕ) (memory : List ℕ) where
   abbrev before : List Accepted
   before = withoutSource source (take place (recordIn memory))
 
-  pub kept-none : 0 < length memory → Kept source 0 memory 0 memory
+  pub kept-none : length memory ≡ memoryLength → Kept source 0 memory 0 memory
   unfolding withoutSource
-  kept-none h = record { counted = refl; is = laid-none memory h }
+  kept-none long = record { long = long; counted = refl; is = laid-none memory (omega arith) }
 
-  module _ {count : ℕ} {after : List ℕ} (kept : Kept source place memory count after) (some : 0 < length (recordIn memory)) where
+  module _ {count : ℕ} {after : List ℕ} (kept : Kept source place memory count after) where
     few : (count ≤ place) × (count ≤ length (recordIn memory))
     few =
         let most = no-more source (take place (recordIn memory)) in
         let looked = length-take place (recordIn memory) in
         (omega (arith, kept .counted), omega (arith, kept .counted))
 
-    words : 2 * length (recordIn memory) < length memory
-    words = omega (arith, length-record memory)
-
     pub kept-64 : count ≤ 64
     kept-64 = omega (arith, few .1, length-record memory)
 
-    pub kept-length : length after ≡ length memory
-    kept-length = ap length (kept .is) ∙ length-laid before memory (omega (arith, kept .counted, few .1, words))
-
   module _ {count : ℕ} {after : List ℕ} (kept : Kept source place memory count after) (inside : place < length (recordIn memory)) where
-    some : 0 < length (recordIn memory)
-    some = omega arith
-
     fewer : count ≤ place
-    fewer = few kept some .0
+    fewer = few kept .0
 
     word-at : (k : ℕ) → 2 * place < k → at after k ≡ at memory k
     word-at k l = ap (λ (m : List ℕ). at m k) (kept .is) ∙ laid-behind before memory place k (omega (arith, kept .counted, fewer)) l
 
-    pub kept-room : (count ≤ place) × (place < 64) × (2 * place + 2 < length after)
-    kept-room = (fewer, omega (arith, length-record memory), omega (arith, kept-length kept some, words kept some))
+    pub kept-room : (count ≤ place) × (place < 64)
+    kept-room = (fewer, omega (arith, length-record memory))
 
     next-before : withoutSource source (take (place + 1) (recordIn memory))
         ≡ before ++ cond (eqb (at after (2 * place + 1)) source) [] (getD (recordIn memory) place none ∷ [])
@@ -165,7 +151,7 @@ module _ (source place : ℕ) (memory : List ℕ) where
         let is-number = word-at (2 * place + 2) (omega arith) ∙ sym (ap (λ (e : Accepted). e .number) (entry-at memory place inside)) in
         ap₂ (λ (a b : ℕ). set (set after (2 * count + 1) a) (2 * count + 2) b) is-source is-number
         ∙ ap₂ (λ (l : List ℕ) (n : ℕ). set (set l (2 * n + 1) (x .source)) (2 * n + 2) (x .number)) (kept .is) (kept .counted)
-        ∙ laid-more before memory x (omega (arith, kept .counted, fewer, words kept some))
+        ∙ laid-more before memory x (omega (arith, kept .counted, kept .long, fewer, length-record memory))
 
     pub kept-more : {next : ℕ} {later : List ℕ} → next ≡ cond (eqb (at after (2 * place + 1)) source) count (count + 1)
         → later ≡ cond (eqb (at after (2 * place + 1)) source) after
@@ -182,12 +168,14 @@ module _ (source place : ℕ) (memory : List ℕ) where
         go true e n l =
             let same = sym (e ∙ append-nil before) in
             record {
+              long = kept .long;
               counted = n ∙ kept .counted ∙ ap length same;
               is = l ∙ kept .is ∙ ap (λ (k : List Accepted). laid k memory) same;
             }
         go false e n l =
             let x = getD (recordIn memory) place none in
             record {
+              long = kept .long;
               counted = n ∙ omega (arith, kept .counted, length-append before (x ∷ [])) ∙ ap length (sym e);
               is = l ∙ moved ∙ ap (λ (k : List Accepted). laid k memory) (sym e);
             }

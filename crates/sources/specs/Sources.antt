@@ -1,5 +1,5 @@
 -- Document 02, W-212: the record of the numbers last accepted, a list of sources, and the memory that holds it.
-use Prim.Native.Nat.{ℕ, zero, suc, _+_, _-_, _*_, _/_, min}
+use Prim.Native.Nat.{ℕ, zero, suc, _+_, _*_, min}
 use mathlib.Core.Bool.{Bool, not, cond, _&&_}
 use mathlib.Core.List.{List, [], _∷_, _++_}
 use lib.Dec.{eqb, ltb, leb}
@@ -12,14 +12,15 @@ pub record Accepted : Type 0 where
   pub source : ℕ
   pub number : ℕ
 
--- so many sources are held at most, and fewer in a memory that is too short for them
+-- so many sources are held at most
 abbrev pub sourceLimit : ℕ
 sourceLimit = 64
 
-abbrev pub capacity : List ℕ → ℕ
-capacity memory = min ((length memory - 1) / 2) sourceLimit
+-- the memory, 129 words: how many sources are held, then two for each of them
+abbrev pub memoryLength : ℕ
+memoryLength = 1 + 2 * sourceLimit
 
--- the memory's words: how many sources are held, then two for each: the source and its number
+-- a source's words: the source and its number
 abbrev pub entryFrom : List ℕ → Accepted
 entryFrom words = record { source = at words 0; number = at words 1 }
 
@@ -27,9 +28,9 @@ unfoldable pub entriesFrom : ℕ → List ℕ → List Accepted
 entriesFrom zero words = []
 entriesFrom (suc count) words = entryFrom words ∷ entriesFrom count (drop 2 words)
 
--- the record in a memory: any memory holds one, a full one where it says that there are more sources
+-- the record in a memory: any memory holds one, a full one where it says more than 64
 unfoldable pub recordIn : List ℕ → List Accepted
-recordIn memory = entriesFrom (min (at memory 0) (capacity memory)) (drop 1 memory)
+recordIn memory = entriesFrom (min (at memory 0) sourceLimit) (drop 1 memory)
 
 -- where a source stands: at its first entry, or behind the last where it is new
 unfoldable pub placeOf : ℕ → List Accepted → ℕ
@@ -47,9 +48,9 @@ lastNumber source held = getD held (placeOf source held) (record { source = 0; n
 unfoldable pub numberFault : ℕ → ℕ → List Accepted → ℕ
 numberFault source number held = (isHeld source held && leb number (lastNumber source held)) gives 82
 
--- 84: the source is new, and as many are held as there is room for
+-- 84: the source is new, and 64 are held
 unfoldable pub sourceFault : ℕ → List ℕ → ℕ
-sourceFault source memory = (not (isHeld source (recordIn memory)) && leb (capacity memory) (length (recordIn memory))) gives 84
+sourceFault source memory = (not (isHeld source (recordIn memory)) && leb sourceLimit (length (recordIn memory))) gives 84
 
 -- the record once a number was accepted: the source's entry has it, a new source's stands behind the others
 unfoldable pub withAccepted : ℕ → ℕ → List Accepted → List Accepted

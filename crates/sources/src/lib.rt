@@ -5,10 +5,13 @@ ghost use mathlib.Core.Bool.{cond};
 ghost use lib.Dec.{eqb};
 ghost use lib.ListN.{length, set};
 ghost use Rattle.octets.specs.Octets.{at};
-ghost use Rattle.sources.specs.Sources.{capacity, recordIn, placeOf, isHeld, numberFault, sourceFault, memoryAccepted, memoryWithout};
+ghost use Rattle.sources.specs.Sources.{memoryLength, recordIn, placeOf, isHeld, numberFault, sourceFault, memoryAccepted, memoryWithout};
 
 // The most sources that a record holds. Document 02, W-212.
 const LIMIT: usize = 64;
+
+// A record's memory: a word that says how many sources are held, and two words for each.
+pub const MEMORY: usize = 129;
 
 fn value(word: u32) -> usize
     ensures { λ r. ⌜ r ≡ word ⌝ }
@@ -22,32 +25,23 @@ fn wide(address: u16) -> u32
     address as u32
 }
 
-// How many sources the memory has room for: 64 in 129 words or more, fewer in less. Document 02, W-212.
-pub fn capacity(memory: &[u32]) -> usize
-    ensures { λ r. ⌜ (r ≡ capacity (now (memory .entry))) × (r ≤ 64) × (2 * r ≤ length (now (memory .entry)) - 1) ⌝ }
+fn first_word(memory: &[u32]) -> u32
+    requires { ⌜ 0 < length (now memory) ⌝ }
+    ensures { λ r. ⌜ r ≡ at (now (memory .entry)) 0 ⌝ }
 {
-    let words = memory.len();
-    if words == 0 {
-        return 0;
-    }
-    let room = (words - 1) / 2;
-    if room < LIMIT { room } else { LIMIT }
+    memory[0]
 }
 
-// How many sources are held. A memory that says more than it has room for is a full record. Document 02, W-212.
-pub fn held(memory: &[u32]) -> usize
-    ensures { λ r. ⌜ (r ≡ length (recordIn (now (memory .entry)))) × (r ≤ 64) × (2 * r ≤ length (now (memory .entry)) - 1) ⌝ }
+// How many sources are held; a memory that says more than 64 is a full record, and it is as long as is said of one. Document 02, W-212.
+pub fn held(memory: &[u32; MEMORY]) -> usize
+    ensures { λ r. ⌜ (r ≡ length (recordIn (now (memory .entry)))) × (r ≤ 64) × (length (now (memory .entry)) ≡ memoryLength) ⌝ }
 {
-    let most = capacity(memory);
-    if most == 0 {
-        return 0;
-    }
-    let first = value(memory[0]);
-    if first < most { first } else { most }
+    let first = value(first_word(memory));
+    if first < LIMIT { first } else { LIMIT }
 }
 
 // The place of a source: its first entry, or behind the last where it is new.
-fn place_of(memory: &[u32], source: u16) -> usize
+fn place_of(memory: &[u32; MEMORY], source: u16) -> usize
     ensures { λ r. ⌜ (r ≡ placeOf source (recordIn (now (memory .entry)))) × (r ≤ length (recordIn (now (memory .entry)))) ⌝ }
 {
     let end = held(memory);
@@ -63,7 +57,7 @@ fn place_of(memory: &[u32], source: u16) -> usize
 }
 
 // 82 where the source is held with a number that is not below this one, else 0: any number may be a source's first. Document 02, W-212.
-pub fn number_fault(memory: &[u32], source: u16, number: u32) -> u8
+pub fn number_fault(memory: &[u32; MEMORY], source: u16, number: u32) -> u8
     ensures { λ r. ⌜ r ≡ numberFault source number (recordIn (now (memory .entry))) ⌝ }
 {
     let place = place_of(memory, source);
@@ -77,20 +71,19 @@ pub fn number_fault(memory: &[u32], source: u16, number: u32) -> u8
     }
 }
 
-// 84 where the source is new and as many are held as there is room for, else 0. Document 02, W-212.
-pub fn source_fault(memory: &[u32], source: u16) -> u8
+// 84 where the source is new and 64 are held, else 0. Document 02, W-212.
+pub fn source_fault(memory: &[u32; MEMORY], source: u16) -> u8
     ensures { λ r. ⌜ r ≡ sourceFault source (now (memory .entry)) ⌝ }
 {
     let end = held(memory);
     if place_of(memory, source) < end {
         return 0;
     }
-    if capacity(memory) <= end { 84 } else { 0 }
+    if LIMIT <= end { 84 } else { 0 }
 }
 
-// Notes a number as the last accepted from a source; a new one stands behind the others. Nothing changes where there is no room for it.
-// Document 02, W-212.
-pub fn accept(memory: &mut [u32], source: u16, number: u32)
+// Notes a number as the last accepted from a source; a new one stands behind the others. Nothing changes with 84. Document 02, W-212.
+pub fn accept(memory: &mut [u32; MEMORY], source: u16, number: u32)
     ensures { λ _. ⌜ now (memory .exit) ≡ memoryAccepted source number (now (memory .entry)) ⌝ }
 {
     if source_fault(memory, source) != 0 {
@@ -104,7 +97,7 @@ pub fn accept(memory: &mut [u32], source: u16, number: u32)
 }
 
 // How many sources are held once one stands at a place.
-fn count_with(memory: &[u32], place: usize) -> u32
+fn count_with(memory: &[u32; MEMORY], place: usize) -> u32
     requires { ⌜ place < 64 ⌝ }
     ensures { λ r. ⌜ r ≡ place + 1 + (length (recordIn (now (memory .entry))) - (place + 1)) ⌝ }
 {
@@ -117,8 +110,8 @@ fn count_with(memory: &[u32], place: usize) -> u32
 }
 
 // Stores the entry of one place at another, unless it is the source's, and returns the place behind what is kept.
-fn keep(memory: &mut [u32], source: u16, kept: usize, place: usize) -> usize
-    requires { ⌜ (kept ≤ place) × (place < 64) × (2 * place + 2 < length (now memory)) ⌝ }
+fn keep(memory: &mut [u32; MEMORY], source: u16, kept: usize, place: usize) -> usize
+    requires { ⌜ (kept ≤ place) × (place < 64) ⌝ }
     ensures { λ r. ⌜ (r ≡ cond (eqb (at (now (memory .entry)) (2 * place + 1)) source) kept (kept + 1))
         × (now (memory .exit) ≡ cond (eqb (at (now (memory .entry)) (2 * place + 1)) source) (now (memory .entry)) (set (set (now (memory .entry))
         (2 * kept + 1) (at (now (memory .entry)) (2 * place + 1))) (2 * kept + 2) (at (now (memory .entry)) (2 * place + 2)))) ⌝ }
@@ -134,7 +127,7 @@ fn keep(memory: &mut [u32], source: u16, kept: usize, place: usize) -> usize
 }
 
 // Removes a source, and returns whether it was held. Nothing changes where it was not. Its next number may be any.
-pub fn remove(memory: &mut [u32], source: u16) -> bool
+pub fn remove(memory: &mut [u32; MEMORY], source: u16) -> bool
     ensures { λ r. ⌜ (r ≡ isHeld source (recordIn (now (memory .entry)))) × (now (memory .exit) ≡ memoryWithout source (now (memory .entry))) ⌝ }
 {
     let end = held(memory);

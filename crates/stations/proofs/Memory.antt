@@ -11,7 +11,7 @@ use lib.Seq.{getD-drop, drop-drop}
 use borrow.Author.Tests.{ne-eqb}
 use Rattle.octets.specs.Octets.{at}
 use Rattle.stations.specs.declared.Station.{Station}
-use Rattle.stations.specs.Table.{capacity, stationFrom, stationsFrom, tableIn, stationWords, wordsOf, addresses, stationAt}
+use Rattle.stations.specs.Table.{stationLimit, stationFrom, stationsFrom, tableIn, stationWords, wordsOf, addresses, stationAt}
 
 -- one more than what is one less, where there is something
 path-word : (x : ℕ) → cond (not (eqb x 0)) (x - 1 + 1) 0 ≡ x
@@ -93,13 +93,13 @@ address-in (suc place) (suc count) words h =
     ∙ getD-drop 4 words (4 * place) 0 ∙ ap (at words) (omega arith)
 
 -- the table of a memory
-pub length-table : (memory : List ℕ) → length (tableIn memory) ≡ min (at memory 0) (capacity memory)
+pub length-table : (memory : List ℕ) → length (tableIn memory) ≡ min (at memory 0) stationLimit
 unfolding tableIn
-length-table memory = length-stations (min (at memory 0) (capacity memory)) (drop 1 memory)
+length-table memory = length-stations (min (at memory 0) stationLimit) (drop 1 memory)
 
--- a table has no more stations than it may have, and fits its memory
-pub table-fits : (memory : List ℕ) → (length (tableIn memory) ≤ 128) × (4 * length (tableIn memory) ≤ length memory - 1)
-table-fits memory = (omega (arith, length-table memory), omega (arith, length-table memory))
+-- a table has no more stations than it may have
+pub table-fits : (memory : List ℕ) → length (tableIn memory) ≤ 128
+table-fits memory = omega (arith, length-table memory)
 
 pub length-addresses : (stations : List Station) → length (addresses stations) ≡ length stations
 length-addresses stations = length-map stations (λ (station : Station). station .address)
@@ -107,14 +107,14 @@ length-addresses stations = length-map stations (λ (station : Station). station
 pub table-address : (memory : List ℕ) (place : ℕ) → place < length (tableIn memory) → at (addresses (tableIn memory)) place ≡ at memory (4 * place + 1)
 unfolding tableIn
 table-address memory place h =
-    address-in place (min (at memory 0) (capacity memory)) (drop 1 memory) (omega (arith, length-table memory))
+    address-in place (min (at memory 0) stationLimit) (drop 1 memory) (omega (arith, length-table memory))
     ∙ getD-drop 1 memory (4 * place) 0 ∙ ap (at memory) (omega arith)
 
 pub table-station : (memory : List ℕ) (place : ℕ) → place < length (tableIn memory)
     → stationAt (tableIn memory) place ≡ stationFrom (drop (4 * place + 1) memory)
 unfolding tableIn
 table-station memory place h =
-    station-in place (min (at memory 0) (capacity memory)) (drop 1 memory) (omega (arith, length-table memory))
+    station-in place (min (at memory 0) stationLimit) (drop 1 memory) (omega (arith, length-table memory))
     ∙ ap stationFrom (rw (add-comm (4 * place) 1) (drop-drop (4 * place) 1 memory))
 
 -- a station as it is read, word by word

@@ -1,5 +1,5 @@
 -- Document 02, W-201: the table of stations heard, as a list, and the memory that holds it.
-use Prim.Native.Nat.{ℕ, zero, suc, _+_, _-_, _/_, _^_, min}
+use Prim.Native.Nat.{ℕ, zero, suc, _+_, _-_, _*_, _^_, min}
 use mathlib.Core.Bool.{Bool, false, not, cond, _&&_}
 use mathlib.Core.List.{List, [], _∷_, _++_, map}
 use lib.Dec.{eqb, ltb, leb}
@@ -7,15 +7,15 @@ use lib.ListN.{length, getD, drop}
 use Rattle.octets.specs.Octets.{at, over}
 use Rattle.stations.specs.declared.Station.{Station}
 
--- so many stations are held at most, and fewer in a memory that is too short for them
+-- so many stations are held at most
 abbrev pub stationLimit : ℕ
 stationLimit = 128
 
-abbrev pub capacity : List ℕ → ℕ
-capacity memory = min ((length memory - 1) / 4) stationLimit
+-- the memory, 513 words: how many stations are held, then four for each of them
+abbrev pub memoryLength : ℕ
+memoryLength = 1 + 4 * stationLimit
 
--- the memory's words: how many stations are held, then four for each: its address, the PDUs read from it, those of them dropped by echo, and one more
--- than its shortest path count, 0 while that is absent
+-- a station's words: its address, the PDUs read from it, those of them dropped by echo, and one more than its shortest path count, 0 while that is absent
 unfoldable pub stationFrom : List ℕ → Station
 stationFrom words =
     record {
@@ -30,9 +30,9 @@ unfoldable pub stationsFrom : ℕ → List ℕ → List Station
 stationsFrom zero words = []
 stationsFrom (suc count) words = stationFrom words ∷ stationsFrom count (drop 4 words)
 
--- the table in a memory: any memory holds one, a full one where it says that there are more stations
+-- the table in a memory: any memory holds one, a full one where it says more than 128
 unfoldable pub tableIn : List ℕ → List Station
-tableIn memory = stationsFrom (min (at memory 0) (capacity memory)) (drop 1 memory)
+tableIn memory = stationsFrom (min (at memory 0) stationLimit) (drop 1 memory)
 
 -- a station's four words, a table's, and the memory that a table leaves: what stands behind its stations stays
 abbrev pub stationWords : Station → List ℕ

@@ -4,12 +4,16 @@ ghost use mathlib.Core.Bool.{false, cond};
 ghost use mathlib.Core.List.{[]};
 ghost use Prim.Native.Nat.{_+_, _-_, _*_, _/_, _<_, _≤_};
 ghost use lib.ListN.{length, drop};
-ghost use Rattle.stations.specs.Table.{capacity, tableIn, stationFrom, addresses, nextPlace, placeOf, isAt};
+ghost use Rattle.octets.specs.Octets.{at};
+ghost use Rattle.stations.specs.Table.{memoryLength, tableIn, stationFrom, addresses, nextPlace, placeOf, isAt};
 ghost use Rattle.stations.specs.Asking.{sought, foundIf, stationOf, foundAt};
 
 impl Station {
     // The most stations that a table holds.
     pub const LIMIT: usize = 128;
+
+    // A table's memory: a word that says how many stations are held, and four words for each.
+    pub const MEMORY: usize = 513;
 }
 
 // A source address that was heard: how many PDUs were read from it, how many of those were dropped by echo, and the least path count of those that
@@ -36,43 +40,33 @@ pub struct Sought {
     pub is_held: bool,
 }
 
-fn size(word: u16) -> usize
-    ensures { λ r. ⌜ r ≡ word ⌝ }
+fn first_word(table: &[u16]) -> u16
+    requires { ⌜ 0 < length (now table) ⌝ }
+    ensures { λ r. ⌜ r ≡ at (now (table .entry)) 0 ⌝ }
 {
-    word as usize
+    table[0]
 }
 
-// How many stations the memory has room for: 128 in 513 words or more, fewer in less.
-pub fn capacity(table: &[u16]) -> usize
-    ensures { λ r. ⌜ (r ≡ capacity (now (table .entry))) × (r ≤ 128) × (4 * r ≤ length (now (table .entry)) - 1) ⌝ }
+// How many stations are held; a memory that says more than 128 is a full table, and it is as long as is said of one. Document 02, W-201.
+pub fn held(table: &[u16; Station::MEMORY]) -> usize
+    ensures { λ r. ⌜ (r ≡ length (tableIn (now (table .entry)))) × (r ≤ 128) × (length (now (table .entry)) ≡ memoryLength) ⌝ }
 {
-    let words = table.len();
-    if words == 0 {
-        return 0;
-    }
-    let room = (words - 1) / 4;
-    if room < Station::LIMIT {
-        room
+    let first = octets::word_value(first_word(table));
+    if first < Station::LIMIT {
+        first
     } else {
         Station::LIMIT
     }
 }
 
-// How many stations are held. A memory that says more than it has room for is a full table. Document 02, W-201.
-pub fn held(table: &[u16]) -> usize
-    ensures { λ r. ⌜ (r ≡ length (tableIn (now (table .entry)))) × (r ≤ 128) × (4 * r ≤ length (now (table .entry)) - 1) ⌝ }
-{
-    let most = capacity(table);
-    if most == 0 {
-        return 0;
-    }
-    let first = size(table[0]);
-    if first < most { first } else { most }
-}
-
-fn next_place(table: &[u16], address: u16, end: usize, place: usize, step: usize) -> usize
-    requires { ⌜ (end ≡ length (tableIn (now table))) × (end ≤ 128) × (4 * end ≤ length (now table) - 1)
-        × (place ≤ end) × (0 < step) × (step ≤ 128) ⌝ }
+fn next_place(
+    table: &[u16; Station::MEMORY],
+    address: u16,
+    end: usize,
+    place: usize,
+    step: usize,
+) -> usize
+    requires { ⌜ (end ≡ length (tableIn (now table))) × (end ≤ 128) × (place ≤ end) × (0 < step) × (step ≤ 128) ⌝ }
     ensures { λ r. ⌜ (r ≡ nextPlace address (addresses (tableIn (now (table .entry)))) place step) × (r ≤ end) ⌝ }
 {
     let next = place + step;
@@ -91,9 +85,14 @@ fn either(test: bool, first: usize, second: usize) -> usize
 }
 
 // Two steps, the second half as long. Both addresses that the second may look at are read with the first's, so that it does not wait for the first.
-fn next_two(table: &[u16], address: u16, end: usize, place: usize, step: usize) -> usize
-    requires { ⌜ (end ≡ length (tableIn (now table))) × (end ≤ 128) × (4 * end ≤ length (now table) - 1)
-        × (place ≤ end) × (1 < step) × (step ≤ 64) ⌝ }
+fn next_two(
+    table: &[u16; Station::MEMORY],
+    address: u16,
+    end: usize,
+    place: usize,
+    step: usize,
+) -> usize
+    requires { ⌜ (end ≡ length (tableIn (now table))) × (end ≤ 128) × (place ≤ end) × (1 < step) × (step ≤ 64) ⌝ }
     ensures { λ r. ⌜ (r ≡ nextPlace address (addresses (tableIn (now (table .entry))))
         (nextPlace address (addresses (tableIn (now (table .entry)))) place step) (step / 2)) × (r ≤ end) ⌝ }
 {
@@ -115,25 +114,25 @@ fn next_two(table: &[u16], address: u16, end: usize, place: usize, step: usize) 
     next_place(table, address, end, next, half)
 }
 
-fn place_of(table: &[u16], address: u16) -> usize
+fn place_of(table: &[u16; Station::MEMORY], address: u16) -> usize
     ensures { λ r. ⌜ r ≡ placeOf address (addresses (tableIn (now (table .entry)))) ⌝ }
 {
-    let end = held(&table[..]);
-    if next_place(&table[..], address, end, 0, 128) == 128 {
+    let end = held(table);
+    if next_place(table, address, end, 0, 128) == 128 {
         return 128;
     }
     let mut place: usize = 0;
     let mut step: usize = 64;
     let mut left: usize = 3;
     while left > 0 {
-        place = next_two(&table[..], address, end, place, step);
+        place = next_two(table, address, end, place, step);
         step /= 4;
         left -= 1;
     }
-    next_place(&table[..], address, end, place, 1)
+    next_place(table, address, end, place, 1)
 }
 
-fn is_at(table: &[u16], address: u16, place: usize) -> bool
+fn is_at(table: &[u16; Station::MEMORY], address: u16, place: usize) -> bool
     ensures { λ r. ⌜ r ≡ isAt address (addresses (tableIn (now (table .entry)))) place ⌝ }
 {
     if place < held(table) {
@@ -144,7 +143,7 @@ fn is_at(table: &[u16], address: u16, place: usize) -> bool
 }
 
 // The place of an address, found in eight halved steps. Document 02, W-201: listing by rising address.
-pub fn seek(table: &[u16], address: u16) -> Sought
+pub fn seek(table: &[u16; Station::MEMORY], address: u16) -> Sought
     ensures { λ r. ⌜ r ≡ sought address (addresses (tableIn (now (table .entry)))) ⌝ }
 {
     let place = place_of(table, address);
@@ -154,8 +153,8 @@ pub fn seek(table: &[u16], address: u16) -> Sought
     }
 }
 
-fn station_from(table: &[u16], place: usize) -> Station
-    requires { ⌜ (place < 128) × (4 * place + 4 < length (now table)) ⌝ }
+fn station_from(table: &[u16; Station::MEMORY], place: usize) -> Station
+    requires { ⌜ place < 128 ⌝ }
     ensures { λ r. ⌜ (r ≡ stationFrom (drop (4 * place + 1) (now (table .entry)))) × (r .«shortest_path» < 65535) ⌝ }
 {
     let first = 4 * place + 1;
@@ -192,7 +191,7 @@ fn refused() -> Found
 }
 
 // The station at a place of the rising order, the lowest address at 0; 56 from the number held on. Document 02, W-201.
-pub fn station_at(table: &[u16], place: usize) -> Found
+pub fn station_at(table: &[u16; Station::MEMORY], place: usize) -> Found
     ensures { λ r. ⌜ (r ≡ foundAt place (tableIn (now (table .entry)))) × (r .station .«shortest_path» < 65535) ⌝ }
 {
     if place < held(table) {
@@ -205,7 +204,7 @@ pub fn station_at(table: &[u16], place: usize) -> Found
 }
 
 // The station of an address, or 56 where it is not held. Document 02, W-201.
-pub fn station_of(table: &[u16], address: u16) -> Found
+pub fn station_of(table: &[u16; Station::MEMORY], address: u16) -> Found
     ensures { λ r. ⌜ r ≡ stationOf address (tableIn (now (table .entry))) ⌝ }
 {
     let place = place_of(table, address);

@@ -6,7 +6,7 @@ use mathlib.Core.List.{List}
 use mathlib.Core.Path.{_≡_, refl}
 use lib.Dec.{ltb}
 use lib.ListN.{length}
-use borrow.Author.Tests.{lt-ltb, le-ltb, ne-eqb}
+use borrow.Author.Tests.{lt-ltb, le-ltb, ltb-true, ltb-false, ne-eqb}
 use Rattle.octets.specs.Octets.{at}
 use Rattle.decision.specs.Decision.{Node}
 use Rattle.node.specs.declared.Answer.{Answer}
@@ -14,14 +14,15 @@ use Rattle.node.specs.Answers.{nodeOrReadingFault, answerOf}
 use Rattle.stations.specs.declared.Station.{Station}
 use Rattle.stations.specs.Table.{tableIn, addresses, placeOf, isHeld}
 use Rattle.stations.specs.Asking.{foundIf, stationOf, foundAt}
-use Rattle.stations.proofs.Memory.{length-table, table-fits, length-addresses}
+use Rattle.stations.proofs.Memory.{table-fits, length-addresses}
+use Rattle.counting.specs.declared.Heard.{Heard}
 use Rattle.counting.specs.Counting.{countNumber, memoryAfterCount}
 use Rattle.counting.proofs.Answers.{held-counts, room-counts, full-refuses, held-removed, absent-refused}
 use Rattle.listening.specs.Listening.{wasRead, heardOf, answerNumber, memoryAfterAnswer}
 use Rattle.listening.specs.History.{tableMemory, Rises}
 use Rattle.listening.proofs.Judging.{read-judged, unread-judged, echo-judged}
 use Rattle.listening.proofs.Rising.{place-within, found-where, not-held}
-use Rattle.listening.proofs.Told.{history-told}
+use Rattle.listening.proofs.Told.{empty-table, history-told}
 use Rattle.stations_heard.specs.StationsHeard.{StationsHeard}
 
 counted-not : (answer : Answer) (received memory : List ℕ) → wasRead answer ≡ false
@@ -74,10 +75,29 @@ listed-so stations rises short i = (inside, λ h. rw (le-ltb i (length stations)
         let found = found-where (at known i) known rises (omega (arith, long, short)) i (omega (arith, long, h)) refl in
         rw (lt-ltb i (length stations) h, found .1, found .0)
 
+exactly-55 : (heard : Heard) (memory : List ℕ)
+    → let full = (isHeld (heard .source) (addresses (tableIn memory)) ≡ false) × (length (tableIn memory) ≡ 128) in
+    (countNumber heard memory ≡ 55 → full) × (full → countNumber heard memory ≡ 55)
+exactly-55 heard memory = (λ e. go e (isHeld (heard .source) (addresses table)) refl, λ f. full-refuses heard memory (f .0) (f .1) .0)
+  where
+    table : List Station
+    table = tableIn memory
+
+    filled : countNumber heard memory ≡ 55 → (room : Bool) → ltb (length table) 128 ≡ room → length table ≡ 128
+    filled e true l = absurd (omega (arith, e, room-counts heard memory (ltb-true (length table) 128 l)))
+    filled e false l = omega (arith, ltb-false (length table) 128 l, table-fits memory)
+
+    go : countNumber heard memory ≡ 55 → (held : Bool) → isHeld (heard .source) (addresses table) ≡ held
+        → (isHeld (heard .source) (addresses table) ≡ false) × (length table ≡ 128)
+    go e true h = absurd (omega (arith, e, held-counts heard memory h))
+    go e false h = (h, filled e (ltb (length table) 128) refl)
+
 pub stations-heard : StationsHeard
 stations-heard =
     record {
-      room-for-128 = λ memory h. omega arith;
+      sized = refl;
+      at-most-128 = table-fits;
+      empty = empty-table;
       counted = counted-so;
       heard = λ answer received. (refl, refl, refl);
       read = λ node room received e. (read-judged node room received e, echo-judged node room received e);
@@ -85,12 +105,13 @@ stations-heard =
       not-read = nothing-counted;
       counted-held = held-counts;
       counted-new = room-counts;
-      full = λ heard memory e h. full-refuses heard memory e (omega (arith, h, length-table memory));
+      full = full-refuses;
+      fifty-five-exactly = exactly-55;
       full-unchanged = unchanged;
       removed = held-removed;
       not-removed = absent-refused;
       limit = λ memory e deeds.
-          let t = history-told memory e deeds in (t .says, omega (arith, t .says, table-fits (tableMemory memory deeds) .0));
+          let t = history-told memory e deeds in (t .says, omega (arith, t .says, table-fits (tableMemory memory deeds)));
       rises = λ memory e deeds. history-told memory e deeds .rises;
       shows = λ memory e deeds. history-told memory e deeds .told;
       place = λ address known rises short.
@@ -99,6 +120,6 @@ stations-heard =
       not-held = λ address known rises short. not-held address known rises (omega arith);
       listed = λ memory e deeds.
           let now-held = tableIn (tableMemory memory deeds) in
-          listed-so now-held (history-told memory e deeds .rises) (table-fits (tableMemory memory deeds) .0);
+          listed-so now-held (history-told memory e deeds .rises) (table-fits (tableMemory memory deeds));
       listened-in-c = λ node received output memory left after told e. (e .0 .0, e .0 .1, e .1, e .2);
     }

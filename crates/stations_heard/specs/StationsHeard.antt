@@ -1,7 +1,7 @@
 -- Document 02, W-201, as one record; `proofs/StationsHeard.antt` gives it from its parts.
 use Prim.Native.Nat.{ℕ, _≤_, _<_}
 use mathlib.Core.Bool.{true, false, _||_}
-use mathlib.Core.List.{List}
+use mathlib.Core.List.{List, []}
 use mathlib.Core.Path.{_≡_}
 use lib.ListN.{length}
 use Rattle.octets.specs.Octets.{at}
@@ -9,7 +9,7 @@ use Rattle.pdu.specs.Header.{headerOf}
 use Rattle.decision.specs.Decision.{Node, isEcho, isOwnReport}
 use Rattle.node.specs.declared.Answer.{Answer}
 use Rattle.node.specs.Answers.{nodeOrReadingFault, answerOf, outputAfter}
-use Rattle.stations.specs.Table.{capacity, tableIn, addresses, placeOf, isHeld}
+use Rattle.stations.specs.Table.{memoryLength, tableIn, addresses, placeOf, isHeld}
 use Rattle.stations.specs.Asking.{stationOf, foundAt}
 use Rattle.counting.specs.declared.Heard.{Heard}
 use Rattle.counting.specs.Counting.{countNumber, memoryAfterCount}
@@ -38,13 +38,19 @@ pub record StationsHeard : Type 0 where
   -- where it was not read, with 17 as with a fault of the lists or of reading, nothing is counted
   pub not-read : (node : Node) (room : ℕ) (received memory : List ℕ) → (nodeOrReadingFault node received ≡ 0 → ⊥)
       → let answer = answerOf node room received in (answerNumber answer received memory ≡ 0) × (memoryAfterAnswer answer received memory ≡ memory)
-  -- a memory of 513 words or more has room for 128 stations
-  pub room-for-128 : (memory : List ℕ) → 513 ≤ length memory → capacity memory ≡ 128
-  -- one from a station that is held, or while there is room, is counted; any other is answered 55, and the table stays as it was
+  -- a memory is 513 words; any memory holds at most 128 stations, and none where its first word is 0
+  pub sized : memoryLength ≡ 513
+  pub at-most-128 : (memory : List ℕ) → length (tableIn memory) ≤ 128
+  pub empty : (memory : List ℕ) → at memory 0 ≡ 0 → tableIn memory ≡ []
+  -- one from a station that is held, or while fewer than 128 are, is counted; any other is answered 55, and the table stays as it was
   pub counted-held : (heard : Heard) (memory : List ℕ) → isHeld (heard .source) (addresses (tableIn memory)) ≡ true → countNumber heard memory ≡ 0
-  pub counted-new : (heard : Heard) (memory : List ℕ) → length (tableIn memory) < capacity memory → countNumber heard memory ≡ 0
+  pub counted-new : (heard : Heard) (memory : List ℕ) → length (tableIn memory) < 128 → countNumber heard memory ≡ 0
   pub full : (heard : Heard) (memory : List ℕ) → isHeld (heard .source) (addresses (tableIn memory)) ≡ false
-      → capacity memory ≤ length (tableIn memory) → (countNumber heard memory ≡ 55) × (memoryAfterCount heard memory ≡ memory)
+      → length (tableIn memory) ≡ 128 → (countNumber heard memory ≡ 55) × (memoryAfterCount heard memory ≡ memory)
+  -- so in 02's words: 55 exactly if the station is new and 128 are held
+  pub fifty-five-exactly : (heard : Heard) (memory : List ℕ)
+      → let full = (isHeld (heard .source) (addresses (tableIn memory)) ≡ false) × (length (tableIn memory) ≡ 128) in
+      (countNumber heard memory ≡ 55 → full) × (full → countNumber heard memory ≡ 55)
   pub full-unchanged : (answer : Answer) (received memory : List ℕ) → answerNumber answer received memory ≡ 55
       → memoryAfterAnswer answer received memory ≡ memory
   -- removing: 0 for a station that is held; else 56, and the table stays as it was

@@ -5,7 +5,7 @@ use crate::same::{node, Input};
 use crate::table::{answer_for, in_reference, is_read, Table, NOT_HELD};
 use crate::Compared;
 use generator::{any_table, good_block, settings, source_near, Deed, Hearing, Random};
-use mant::raw::{self, Found, Station};
+use mant::raw::{self, Found, Station, STATION_LIMIT};
 use reference::{counts_as_echo, Stations};
 
 /// Compares some deeds on any words, each by what the words held before.
@@ -32,7 +32,6 @@ pub fn compare(random: &mut Random) -> Compared {
 fn compare_shown(input: &Input, table: &Table, address: u16) -> Compared {
     let words = table.words();
     let stations = table.stations();
-    input.same("room", raw::stations_capacity(words), table.room())?;
     input.same("held", raw::stations_held(words), stations.len())?;
     for (place, station) in stations.iter().enumerate() {
         let found = raw::station_at(words, place);
@@ -142,7 +141,7 @@ fn compare_count(
         number: missing,
         station,
     } = raw::station_of(before.words(), heard.source);
-    if missing != 0 && before.stations().len() == before.room() {
+    if missing != 0 && before.stations().len() == STATION_LIMIT {
         input.same("number of a count without room", number, 55)?;
         return input.same("words", table, before);
     }
@@ -157,7 +156,7 @@ fn compare_count(
 /// The station after the count.
 fn counted(known: Option<Station>, heard: raw::Heard) -> Station {
     let held: Vec<_> = known.into_iter().map(in_reference).collect();
-    let mut stations = Stations::holding(1, &held);
+    let mut stations = Stations::holding(&held);
     let path_count = heard.path_bit.then_some(u16::from(heard.path_count));
     stations.count(heard.source, heard.echo, path_count);
     differential::station(stations.list()[0])

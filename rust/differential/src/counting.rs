@@ -6,16 +6,15 @@ use crate::same::{lists, node, number, wrapped, wrapped_node, Input};
 use crate::table::{answer_for, in_reference, is_read, Table, NOT_HELD};
 use crate::Compared;
 use differential::answer;
-use generator::{address, history, source_near, Deed, Hearing, Random};
+use generator::{address, history, source_near, Deed, Hearing, Random, TABLE_WORDS};
 use mant::raw::{self, Found};
 use reference::{counts_as_echo, hear, hear_and_count, read, Stations};
 
-/// A table in the library and in the reference, and in the wrapper where it
-/// has the wrapper's size.
+/// A table in the library, in the reference and in the wrapper.
 struct Tables {
     library: Table,
     reference: Stations,
-    wrapper: Option<mant::Stations>,
+    wrapper: mant::Stations,
 }
 
 /// Compares a whole history.
@@ -49,13 +48,12 @@ pub fn compare(random: &mut Random) -> Compared {
 
 impl Tables {
     /// The three tables in the words.
-    fn of(random: &mut Random, words: &[u16]) -> Tables {
+    fn of(random: &mut Random, words: &[u16; TABLE_WORDS]) -> Tables {
         let library = Table::of(random, words);
         let stations: Vec<_> = library.stations().into_iter().map(in_reference).collect();
-        let wrapper = <[u16; 513]>::try_from(words).ok();
         Tables {
-            reference: Stations::holding(library.room(), &stations),
-            wrapper: wrapper.map(mant::Stations::from_words),
+            reference: Stations::holding(&stations),
+            wrapper: mant::Stations::from_words(*words),
             library,
         }
     }
@@ -123,7 +121,8 @@ impl Tables {
         hearing: &Hearing,
         (output, listened): (&Output, &raw::Listened),
     ) -> Compared {
-        let (Some(stations), Ok(laid)) = (&mut self.wrapper, lists(&hearing.lists.lists())) else {
+        let stations = &mut self.wrapper;
+        let Ok(laid) = lists(&hearing.lists.lists()) else {
             return Ok(());
         };
         let (mut output, mut other) = (output.clone(), output.clone());
@@ -167,9 +166,8 @@ impl Tables {
             echo,
             path_count,
         };
-        if let Some(stations) = &mut self.wrapper {
-            input.same("wrapped count", number(stations.count(&heard)), wanted)?;
-        }
+        let wrapped = number(self.wrapper.count(&heard));
+        input.same("wrapped count", wrapped, wanted)?;
         Ok(wanted == 0)
     }
 
@@ -183,11 +181,9 @@ impl Tables {
             _ => 0,
         };
         input.same("number of an answer", number, wanted)?;
-        if let Some(stations) = &mut self.wrapper {
-            let mut words = *stations.words();
-            raw::count_answer(&mut words, bytes, answer);
-            *stations = mant::Stations::from_words(words);
-        }
+        let mut words = *self.wrapper.words();
+        raw::count_answer(&mut words, bytes, answer);
+        self.wrapper = mant::Stations::from_words(words);
         Ok(is_read && wanted == 0)
     }
 
@@ -196,9 +192,8 @@ impl Tables {
         let removed = raw::remove_station(self.library.change(), address);
         let wanted = self.reference.remove(address);
         input.same("number of a removal", removed, wanted)?;
-        if let Some(stations) = &mut self.wrapper {
-            input.same("wrapped removal", number(stations.remove(address)), wanted)?;
-        }
+        let wrapped = number(self.wrapper.remove(address));
+        input.same("wrapped removal", wrapped, wanted)?;
         Ok(wanted == 0)
     }
 }
@@ -210,8 +205,6 @@ fn compare_shown(random: &mut Random, input: &Input, tables: &Tables) -> Compare
     let listed = tables.listed();
     let held = raw::stations_held(words);
     input.same("held", held, listed.len())?;
-    let room = raw::stations_capacity(words);
-    input.same("room", room, tables.library.room())?;
     let mut wanted: Vec<Found> = listed.into_iter().map(found).collect();
     wanted.push(NOT_HELD);
     let shown: Vec<Found> = (0..=held)
@@ -228,10 +221,7 @@ fn compare_shown(random: &mut Random, input: &Input, tables: &Tables) -> Compare
         let wanted = wanted.map_or(NOT_HELD, found);
         input.same("by address", raw::station_of(words, address), wanted)?;
     }
-    match &tables.wrapper {
-        Some(stations) => compare_wrapper(input, tables, stations, near),
-        None => Ok(()),
-    }
+    compare_wrapper(input, tables, near)
 }
 
 /// A station that is held, as asking answers it.
@@ -240,17 +230,9 @@ fn found(station: raw::Station) -> Found {
 }
 
 /// The wrapper shows the same.
-fn compare_wrapper(
-    input: &Input,
-    tables: &Tables,
-    stations: &mant::Stations,
-    near: u16,
-) -> Compared {
-    input.same(
-        "wrapper's words",
-        &stations.words()[..],
-        tables.library.words(),
-    )?;
+fn compare_wrapper(input: &Input, tables: &Tables, near: u16) -> Compared {
+    let stations = &tables.wrapper;
+    input.same("wrapper's words", stations.words(), tables.library.words())?;
     let listed = tables.reference.list();
     let shown: Vec<mant::Station> = stations.iter().collect();
     let wanted: Vec<mant::Station> = listed.iter().map(in_wrapper).collect();

@@ -41,11 +41,6 @@ impl<T: Copy> Guarded<T> {
         guarded
     }
 
-    /// How many elements there are.
-    pub fn length(&self) -> usize {
-        self.length
-    }
-
     /// The elements.
     pub fn elements(&self) -> &[T] {
         &self.all[self.start..self.start + self.length]

@@ -62,7 +62,7 @@ const KINDS: [Kind; 21] = [
     ("histories of a queue", 6, queueing::compare_history),
     ("arbitrary memory of a queue", 2, queueing::compare_by_hand),
     ("PDUs sealed", 6, sealing::compare_sealing),
-    ("histories of openings", 3, sealing::compare_history),
+    ("histories of openings", 6, sealing::compare_history),
     ("records put together by hand", 1, sealing::compare_by_hand),
 ];
 

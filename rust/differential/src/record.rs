@@ -3,7 +3,7 @@
 
 use crate::guarded::Guarded;
 use generator::Random;
-use mant::raw::SOURCE_LIMIT;
+use mant::raw::{SOURCE_LIMIT, SOURCE_WORDS};
 use reference::Accepted;
 
 /// A record's words and what surrounds them.
@@ -18,27 +18,21 @@ impl Words {
     }
 
     /// The record's words.
-    pub fn words(&self) -> &[u32] {
-        self.0.elements()
+    pub fn words(&self) -> &[u32; SOURCE_WORDS] {
+        self.0.elements().try_into().expect("a record's words")
     }
 
     /// The same to be changed.
-    pub fn change(&mut self) -> &mut [u32] {
-        self.0.change()
-    }
-
-    /// How many sources there is room for.
-    fn room(&self) -> usize {
-        (self.0.length().saturating_sub(1) / 2).min(SOURCE_LIMIT)
+    pub fn change(&mut self) -> &mut [u32; SOURCE_WORDS] {
+        self.0.change().try_into().expect("a record's words")
     }
 
     /// The entries that are held: source and number.
     fn entries(&self) -> Vec<(u32, u32)> {
         let words = self.words();
-        let said = words.first().map_or(0, |first| *first as usize);
-        let pairs = words.get(1..).unwrap_or(&[]).chunks_exact(2);
-        let held = pairs.take(said.min(self.room()));
-        held.map(|pair| (pair[0], pair[1])).collect()
+        let held = (words[0] as usize).min(SOURCE_LIMIT);
+        let pairs = words[1..].chunks_exact(2).take(held);
+        pairs.map(|pair| (pair[0], pair[1])).collect()
     }
 
     /// The record for the reference. Of the entries of a source the first
@@ -55,7 +49,7 @@ impl Words {
             }
         }
         let without_a_source = entries.len() - held.len();
-        Accepted::holding(self.room() - without_a_source, &held)
+        Accepted::holding(SOURCE_LIMIT - without_a_source, &held)
     }
 
     /// The words once a source was removed: its entries are gone, those behind

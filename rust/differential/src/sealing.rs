@@ -10,12 +10,11 @@ use generator::{any_record, empty_record, openings, repeated, to_seal, Random, T
 use mant::raw::{self, SOURCE_WORDS};
 use reference::{message_number, open, read, seal, Accepted, MOST_PAYLOAD};
 
-/// A record in the library, in the reference, and in the wrapper where it has
-/// the wrapper's size.
+/// A record in the library, in the reference and in the wrapper.
 struct Records {
     library: Words,
     reference: Accepted,
-    wrapper: Option<mant::Record>,
+    wrapper: mant::Record,
 }
 
 /// Compares the sealing of one PDU, and opens what was sealed after any
@@ -86,7 +85,7 @@ pub fn compare_by_hand(random: &mut Random) -> Compared {
 /// Compares all that is answered, and all words after each opening and each
 /// source removed. No number is accepted from a source twice, unless the source
 /// was removed in between.
-fn compare(random: &mut Random, words: &[u32]) -> Compared {
+fn compare(random: &mut Random, words: &[u32; SOURCE_WORDS]) -> Compared {
     let mut records = Records::of(random, words);
     let openings = openings(random);
     let mut accepted = vec![];
@@ -119,12 +118,11 @@ fn compare(random: &mut Random, words: &[u32]) -> Compared {
 
 impl Records {
     /// The three records in the words.
-    fn of(random: &mut Random, words: &[u32]) -> Records {
+    fn of(random: &mut Random, words: &[u32; SOURCE_WORDS]) -> Records {
         let library = Words::of(random, words);
-        let wrapper = <[u32; SOURCE_WORDS]>::try_from(words).ok();
         Records {
             reference: library.accepted(),
-            wrapper: wrapper.map(mant::Record::from_words),
+            wrapper: mant::Record::from_words(*words),
             library,
         }
     }
@@ -145,12 +143,10 @@ impl Records {
         let wanted = open(&asked.key, accepted, &asked.bytes, reference.room());
         input.same("opening", opened, written(wanted))?;
         input.same_bytes("output", library.all(), reference.all())?;
-        if let Some(record) = &mut self.wrapper {
-            let wrapped = record.open(&key, &asked.bytes, wrapper.room());
-            let wrapped = wrapped.map_err(mant::Refusal::number);
-            input.same("wrapped opening", wrapped, length_or_number(wanted))?;
-            input.same_bytes("wrapped output", wrapper.all(), reference.all())?;
-        }
+        let wrapped = self.wrapper.open(&key, &asked.bytes, wrapper.room());
+        let wrapped = wrapped.map_err(mant::Refusal::number);
+        input.same("wrapped opening", wrapped, length_or_number(wanted))?;
+        input.same_bytes("wrapped output", wrapper.all(), reference.all())?;
         Ok(match (wanted.0, read(&asked.bytes)) {
             (0, Ok(header)) => {
                 let number = self.reference.get(header.source);
@@ -172,9 +168,7 @@ impl Records {
         let removed = raw::remove_source(self.library.change(), source);
         input.same("removing", removed, held)?;
         input.same("words left", &self.library, &before.without(source))?;
-        if let Some(record) = &mut self.wrapper {
-            input.same("wrapped removing", record.remove(source), held)?;
-        }
+        input.same("wrapped removing", self.wrapper.remove(source), held)?;
         self.reference = self.library.accepted();
         input.same("removed", self.reference.get(source), None)?;
         self.compare_wrapper(&input)
@@ -182,10 +176,8 @@ impl Records {
 
     /// The wrapper holds the same.
     fn compare_wrapper(&self, input: &Input) -> Compared {
-        let Some(record) = &self.wrapper else {
-            return Ok(());
-        };
-        input.same("wrapper's words", &record.words()[..], self.library.words())?;
+        let record = &self.wrapper;
+        input.same("wrapper's words", record.words(), self.library.words())?;
         for (source, _) in record.iter() {
             if let Ok(source) = u16::try_from(source) {
                 let wanted = self.reference.get(source);

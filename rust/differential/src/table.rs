@@ -3,7 +3,7 @@
 
 use crate::guarded::Guarded;
 use generator::Random;
-use mant::raw::{self, Found, Station, STATION_LIMIT};
+use mant::raw::{self, Found, Station, STATION_LIMIT, STATION_WORDS};
 
 /// What asking answers where no station is held.
 pub const NOT_HELD: Found = Found {
@@ -29,26 +29,21 @@ impl Table {
     }
 
     /// The table's words.
-    pub fn words(&self) -> &[u16] {
-        self.0.elements()
+    pub fn words(&self) -> &[u16; STATION_WORDS] {
+        self.0.elements().try_into().expect("a table's words")
     }
 
     /// The same to be changed.
-    pub fn change(&mut self) -> &mut [u16] {
-        self.0.change()
-    }
-
-    /// How many stations there is room for.
-    pub fn room(&self) -> usize {
-        (self.0.length().saturating_sub(1) / 4).min(STATION_LIMIT)
+    pub fn change(&mut self) -> &mut [u16; STATION_WORDS] {
+        self.0.change().try_into().expect("a table's words")
     }
 
     /// The stations that are held.
     pub fn stations(&self) -> Vec<Station> {
         let words = self.words();
-        let said = words.first().map_or(0, |first| usize::from(*first));
-        let stations = words.get(1..).unwrap_or(&[]).chunks_exact(4);
-        stations.take(said.min(self.room())).map(station).collect()
+        let held = usize::from(words[0]).min(STATION_LIMIT);
+        let stations = words[1..].chunks_exact(4);
+        stations.take(held).map(station).collect()
     }
 
     /// The table once it holds these stations, the words behind them kept.

@@ -6,7 +6,7 @@ use crate::random::Random;
 use crate::received::received;
 use crate::settings::{edition, settings};
 use crate::shape::{address, shape};
-use crate::table::rising_table;
+use crate::table::{rising_table, TABLE_WORDS};
 use reference::Settings;
 
 /// What is done with a table.
@@ -40,7 +40,7 @@ pub struct Hearing {
 #[derive(Clone, Debug, PartialEq, Eq)]
 pub struct History {
     /// A table whose addresses rise.
-    pub words: Vec<u16>,
+    pub words: [u16; TABLE_WORDS],
     /// One after the other.
     pub deeds: Vec<Deed>,
 }

@@ -41,4 +41,4 @@ pub use sealed::{
 };
 pub use settings::{edition, good_edition, origination, payload_to_send, settings, settings_for};
 pub use shape::{address, shape, Shape};
-pub use table::{any_table, rising_table};
+pub use table::{any_table, rising_table, TABLE_WORDS};

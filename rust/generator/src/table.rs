@@ -5,25 +5,25 @@ use crate::shape::address;
 use reference::MOST_STATIONS;
 use std::collections::BTreeSet;
 
-/// The words of a table with addresses that rise: of any length, mostly of
-/// 513; empty, full or between; with counts often near their top. Behind the
-/// stations stand any words.
-pub fn rising_table(random: &mut Random) -> Vec<u16> {
+/// So many words hold a table.
+pub const TABLE_WORDS: usize = 1 + 4 * MOST_STATIONS;
+
+/// The words of a table with addresses that rise: empty, full or between; with
+/// counts often near their top. Behind the stations stand any words.
+pub fn rising_table(random: &mut Random) -> [u16; TABLE_WORDS] {
     let mut words = any_table(random);
-    let room = room_for_stations(words.len());
     let held = match random.below(8) {
         0..=3 => 0,
-        4..=5 => random.below(room.min(5) + 1),
-        6 => room,
-        _ => random.between(0, room),
+        4 => random.below(6),
+        5 => random.between(MOST_STATIONS - 2, MOST_STATIONS),
+        6 => MOST_STATIONS,
+        _ => random.between(0, MOST_STATIONS),
     };
     let mut addresses = BTreeSet::new();
     while addresses.len() < held {
         addresses.insert(address(random));
     }
-    if let Some(first) = words.first_mut() {
-        *first = first_word(random, held, room);
-    }
+    words[0] = first_word(random, held);
     for (place, address) in addresses.into_iter().enumerate() {
         let station = [address, count(random), count(random), path_word(random)];
         words[1 + 4 * place..5 + 4 * place].copy_from_slice(&station);
@@ -32,29 +32,17 @@ pub fn rising_table(random: &mut Random) -> Vec<u16> {
 }
 
 /// Any words; often the first is small.
-pub fn any_table(random: &mut Random) -> Vec<u16> {
-    let length = match random.below(8) {
-        0..=3 => 1 + 4 * MOST_STATIONS,
-        4 => random.between(0, 12),
-        5 => random.between(0, 60),
-        6 => random.between(505, 530),
-        _ => random.between(0, 700),
-    };
-    let mut words: Vec<u16> = (0..length).map(|_| random.word()).collect();
-    if random.flag() && length > 0 {
+pub fn any_table(random: &mut Random) -> [u16; TABLE_WORDS] {
+    let mut words = std::array::from_fn(|_| random.word());
+    if random.flag() {
         words[0] = random.below(140) as u16;
     }
     words
 }
 
-/// How many stations so many words have room for.
-fn room_for_stations(words: usize) -> usize {
-    (words.saturating_sub(1) / 4).min(MOST_STATIONS)
-}
-
 /// The number held; a full table may say more.
-fn first_word(random: &mut Random, held: usize, room: usize) -> u16 {
-    if held == room && random.flag() {
+fn first_word(random: &mut Random, held: usize) -> u16 {
+    if held == MOST_STATIONS && random.flag() {
         random.between(held, 65_535) as u16
     } else {
         held as u16
@@ -91,11 +79,9 @@ mod tests {
         let mut full = 0;
         for _ in 0..2000 {
             let words = rising_table(&mut random);
-            let room = room_for_stations(words.len());
-            let said = words.first().map_or(0, |first| usize::from(*first));
-            let held = said.min(room);
+            let held = usize::from(words[0]).min(MOST_STATIONS);
             full += usize::from(held == MOST_STATIONS);
-            let stations = words.get(1..).unwrap_or(&[]).chunks_exact(4).take(held);
+            let stations = words[1..].chunks_exact(4).take(held);
             let addresses: Vec<u16> = stations.map(|station| station[0]).collect();
             assert!(addresses.windows(2).all(|pair| pair[0] < pair[1]));
         }

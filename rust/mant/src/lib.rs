@@ -25,9 +25,8 @@
 //! to a type here: `mant_lay_lists` is [`Lists::lay`], whose error is what
 //! `mant_list_fault` returns, `mant_change_over` [`Node::change_over`],
 //! `mant_hear_and_count` [`Stations::hear`], `mant_hear_reliably`
-//! [`Reliable::hear`], `mant_station_of`
-//! [`Stations::get`], `mant_stations_held` [`Stations::len`],
-//! `mant_stations_capacity` [`Stations::LIMIT`], `mant_count_heard`
+//! [`Reliable::hear`], `mant_station_of` [`Stations::get`],
+//! `mant_stations_held` [`Stations::len`], `mant_count_heard`
 //! [`Stations::count`], `mant_queue_add` [`Queue::add`], `mant_retain`
 //! [`Reliable::retain`], which keeps the last time itself, `mant_open`
 //! [`Record::open`], `mant_meaning` [`Refusal::meaning`]. What C says with a

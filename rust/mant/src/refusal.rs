@@ -67,7 +67,7 @@ refusals! {
     ForThisNode = 41, "not repeated: it is for this node";
     OwnReport = 42, "echo: this node is the source";
     BatchTooLong = 54, "the batch has more than 16,384 bytes";
-    TableFull = 55, "a new station, and the table holds as many as it has room for";
+    TableFull = 55, "a new station, and the table holds 128";
     NotHeld = 56, "no such station is held";
     ElementCut = 57, "an element does not end within the run that it stands in";
     ElementTooDeep = 58, "an element stands at level 5";
@@ -87,7 +87,7 @@ refusals! {
     TooShortToOpen = 81, "its payload is too short for a message number and a hash";
     NumberNotGreater = 82, "its message number is not greater than the last accepted from its source";
     HashDiffers = 83, "its hash differs: another key, or it was changed on its way";
-    RecordFull = 84, "a new source, and the record holds as many as it has room for";
+    RecordFull = 84, "a new source, and the record holds 64";
     SealedTooLong = 85, "the sealed payload would have more than 4,095 bytes";
     NumberTooLarge = 86, "the message number is above 16,777,215";
     NoRoomForPayload = 87, "the output has no room for the sealed PDU, or for the plain payload";

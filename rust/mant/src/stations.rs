@@ -34,7 +34,7 @@ pub struct Heard {
 pub struct Listened {
     /// The node's answer, which does not depend on the table.
     pub answer: Answer,
-    /// 55 where the source is new and the table full.
+    /// 55 where the source is new and 128 stations are held.
     pub table: Result<(), Refusal>,
 }
 
@@ -102,7 +102,7 @@ impl Stations {
     }
 
     /// Counts a PDU that was read, or answers 55 where its source is new and
-    /// the table full.
+    /// [`Stations::LIMIT`] stations are held.
     pub fn count(&mut self, heard: &Heard) -> Result<(), Refusal> {
         Refusal::check(raw::count_heard(&mut self.words, heard.raw()))
     }
@@ -110,7 +110,8 @@ impl Stations {
     /// Counts the PDU at the start of the received bytes by what a node
     /// answered for it, as after a step of a walk. Where no PDU was read
     /// nothing is counted. Hand on only what the node answered for these bytes.
-    /// Refusal: 55 where the source is new and the table full.
+    /// Refusal: 55 where the source is new and [`Stations::LIMIT`] stations are
+    /// held.
     pub fn count_answer(&mut self, received: &[u8], answer: &Answer) -> Result<(), Refusal> {
         let answer = answer.raw();
         Refusal::check(raw::count_answer(&mut self.words, received, answer))

@@ -47,7 +47,7 @@ numbers! {
     JOB_LIST_COUNT = 52, "a list of the job has more than 64 ranges";
     JOB_LEFT_OVER = 53, "the job goes on after its batch";
     BATCH_SIZE = 54, "the batch has more than 16,384 bytes";
-    TABLE_FULL = 55, "a new station, and the table holds as many as it has room for";
+    TABLE_FULL = 55, "a new station, and the table holds 128";
     NOT_HELD = 56, "no such station is held";
     ELEMENT_CUT = 57, "an element does not end within the run that it stands in";
     ELEMENT_TOO_DEEP = 58, "an element stands at level 5";
@@ -67,7 +67,7 @@ numbers! {
     TOO_SHORT_TO_OPEN = 81, "its payload is too short for a message number and a hash";
     NUMBER_NOT_GREATER = 82, "its message number is not greater than the last accepted from its source";
     HASH_DIFFERS = 83, "its hash differs: another key, or it was changed on its way";
-    SOURCES_FULL = 84, "a new source, and the record holds as many as it has room for";
+    SOURCES_FULL = 84, "a new source, and the record holds 64";
     SEALED_PAYLOAD_SIZE = 85, "the sealed payload would have more than 4,095 bytes";
     MESSAGE_NUMBER = 86, "the message number is above 16,777,215";
     SEALED_OUTPUT_SHORT = 87, "the output has no room for the sealed PDU, or for the plain payload";

@@ -38,17 +38,16 @@ struct Entry {
 #[derive(Clone, Debug)]
 pub struct Stations {
     entries: BTreeMap<u16, Entry>,
-    most: usize,
 }
 
 impl Stations {
-    /// An empty table of 128 stations at most.
+    /// An empty table.
     pub fn empty() -> Stations {
-        Stations::holding(MOST_STATIONS, &[])
+        Stations::holding(&[])
     }
 
-    /// A table of so many stations at most that holds these.
-    pub fn holding(most: usize, stations: &[Station]) -> Stations {
+    /// A table that holds these.
+    pub fn holding(stations: &[Station]) -> Stations {
         let entries = stations.iter().map(|station| {
             let entry = Entry {
                 reads: u32::from(station.reads),
@@ -59,7 +58,6 @@ impl Stations {
         });
         Stations {
             entries: entries.collect(),
-            most,
         }
     }
 
@@ -73,7 +71,7 @@ impl Stations {
     /// The same by the three things that count.
     pub fn count(&mut self, source: u16, echo: bool, path_count: Option<u16>) -> u8 {
         let is_new = !self.entries.contains_key(&source);
-        if is_new && self.entries.len() >= self.most {
+        if is_new && self.entries.len() >= MOST_STATIONS {
             return TABLE_FULL;
         }
         let entry = self.entries.entry(source).or_default();

@@ -1,7 +1,6 @@
 use Rattle.counting.proofs.Answers.{held-inside, place-in, count-held, count-full, count-new}
 use Rattle.counting.specs.Counting.{counted}
 use Rattle.stations.proofs.Answers.{station-is}
-use Rattle.stations.proofs.Memory.{length-table}
 use mathlib.Core.Path.{sym, ap, _∙_}
 use native.Mathlib.Omega.{arith}
 use borrow.Author.Needs.{needs}
@@ -23,37 +22,24 @@ replace-requires c κs =
     let at-seek = at-if .before in
     (held-inside _ _ _ (at-seek .seek .ensures) (at-if .if1 .taken), c .counted .ensures .1)
 
-same-length : tie.Need-same-length
-same-length c = search needs
-
 returns : tie.Need-returns
 returns c =
-    let at-replace = c .before .before in
-    let at-counted = at-replace .before in
+    let at-counted = c .before in
     let at-station-at = at-counted .before .before in
     let at-if = at-station-at .before .before in
-    let at-seek = at-if .before in
-    let found = at-seek .seek .ensures in
+    let found = at-if .before .seek .ensures in
     let held = at-if .if1 .taken in
     let known = station-is _ _ _ (held-inside _ _ _ found held) (at-station-at .station-at .ensures .0) in
-    count-held _ _ _ found _ _ _ held known (at-counted .counted .ensures .0) (at-replace .replace .ensures)
+    count-held _ _ _ found _ _ _ held known (at-counted .counted .ensures .0) (c .replace .ensures)
 
 held-requires : tie.Need-held-requires
 held-requires c κs = search needs
 
-capacity-requires : tie.Need-capacity-requires
-capacity-requires c κs = search needs
-
-same-length-2 : tie.Need-same-length-2
-same-length-2 c = search needs
-
 returns-2 : tie.Need-returns-2
 returns-2 c =
-    let at-capacity = c .before in
-    let at-held = at-capacity .before .before in
+    let at-held = c .before in
     let at-if = at-held .before .before in
-    let at-seek = at-if .before in
-    count-full _ _ _ (at-seek .seek .ensures) (at-if .if1 .left) (sym (at-held .held .ensures .0) ∙ c .if2 .taken ∙ at-capacity .capacity .ensures .0)
+    count-full _ _ _ (at-if .before .seek .ensures) (at-if .if1 .left) (sym (at-held .held .ensures .0) ∙ c .if2 .taken)
 
 new-station-requires : tie.Need-new-station-requires
 new-station-requires c κs = search needs
@@ -63,30 +49,19 @@ counted-requires-2 c κs = rw (c .new-station .ensures) (omega arith)
 
 insert-requires : tie.Need-insert-requires
 insert-requires c κs =
-    let at-capacity = c .before .before .before .before in
-    let at-held = at-capacity .before .before in
-    let at-seek = at-held .before .before .before in
-    let start = at-seek .before .before .before in
-    let fits = length-table (start .args .table .now) in
-    (place-in _ _ _ (at-seek .seek .ensures), omega (arith, fits, at-held .held .ensures .0, at-capacity .capacity .ensures .0), c .counted2 .ensures .1)
-
-same-length-3 : tie.Need-same-length-3
-same-length-3 c = search needs
+    let at-held = c .before .before .before .before in
+    let h = at-held .held .ensures in
+    (place-in _ _ _ (at-held .before .before .before .seek .ensures), omega (arith, h .0, h .1), c .counted2 .ensures .1)
 
 returns-3 : tie.Need-returns-3
 returns-3 c =
-    let at-insert = c .before .before in
-    let at-counted = at-insert .before in
+    let at-counted = c .before in
     let at-new-station = at-counted .before in
-    let at-capacity = at-new-station .before .before .before in
-    let at-held = at-capacity .before .before in
+    let at-held = at-new-station .before .before .before in
+    let h = at-held .held .ensures in
     let at-if = at-held .before .before in
-    let at-seek = at-if .before in
-    let start = at-seek .before .before .before in
-    let fits = length-table (start .args .table .now) in
     let after = at-counted .counted2 .ensures .0 ∙ ap (counted _) (at-new-station .new-station .ensures) in
-    count-new _ _ _ (at-seek .seek .ensures) _ _ (at-if .if1 .left)
-    (omega (arith, fits, at-held .held .ensures .0, at-capacity .capacity .ensures .0)) after (at-insert .insert .ensures)
+    count-new _ _ _ (at-if .before .seek .ensures) _ _ (at-if .if1 .left) (omega (arith, h .0, h .1)) after (c .insert .ensures)
 
 pub count-spec : {M : Type 1} → statement M
 count-spec =
@@ -96,14 +71,10 @@ count-spec =
     station-at-requires
     counted-requires
     replace-requires
-    same-length
     returns
     held-requires
-    capacity-requires
-    same-length-2
     returns-2
     new-station-requires
     counted-requires-2
     insert-requires
-    same-length-3
     returns-3)

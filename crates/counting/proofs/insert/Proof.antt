@@ -1,4 +1,4 @@
-use Rattle.counting.proofs.Moving.{PutsIn, puts-first, puts-next, puts-last, lays-long, lays-station, same-after, still-room}
+use Rattle.counting.proofs.Moving.{PutsIn, puts-first, puts-next, puts-last, lays-long, lays-station}
 use Prim.Native.Nat.{_-_}
 use native.Mathlib.Omega.{arith}
 use borrow.Author.Needs.{needs}
@@ -16,8 +16,9 @@ held-requires c κs = search needs
 
 loop-holds : tie.Need-loop-holds Inv-loop μ-loop
 loop-holds c =
-    let s = c .before .before .before in
-    puts-first _ _ _ _ (s .pre .0) (c .held .ensures .0) (omega (arith, s .pre .1, c .held .ensures .0)) (s .pre .2)
+    let p = c .before .before .pre in
+    let h = c .held .ensures in
+    puts-first _ _ _ _ (p .0) (h .0) (h .2) (omega (arith, p .1, h .0)) (p .2)
 
 station-at-requires : tie.Need-station-at-requires Inv-loop μ-loop
 station-at-requires c κs = search needs
@@ -25,10 +26,9 @@ station-at-requires c κs = search needs
 put-station-requires : tie.Need-put-station-requires Inv-loop μ-loop
 put-station-requires c κs =
     let at-loop = c .before .before .before .before in
-    let at-held = at-loop .before in
     let p = at-loop .loop .inv in
-    let h = at-held .held .ensures in
-    (omega (arith, h .1), omega (arith, h .2, lays-long (p .lays)), p .small)
+    let h = at-loop .before .held .ensures in
+    (omega (arith, h .1), omega (arith, h .1, p .lays .long, lays-long (p .lays)), p .small)
 
 add-i : tie.Need-add-i Inv-loop μ-loop
 add-i c = search needs
@@ -38,11 +38,10 @@ loop-less c = search needs
 
 loop-again : tie.Need-loop-again Inv-loop μ-loop
 loop-again c =
-    let at-put-station = c .before .before .before in
+    let at-put-station = c .before in
     let at-station-at = at-put-station .before .before in
     let at-loop-test = at-station-at .before .before in
-    let at-loop = at-loop-test .before in
-    let p = at-loop .loop .inv in
+    let p = at-loop-test .before .loop .inv in
     let s = at-station-at .station-at .ensures in
     let inside = at-loop-test .loop-test .taken in
     puts-next _ _ p inside (lays-station _ _ (p .lays) (omega (arith, inside, p .held)) (s .0)) (s .1) (at-put-station .put-station .ensures)
@@ -50,41 +49,27 @@ loop-again c =
 put-station-requires-2 : tie.Need-put-station-requires-2 Inv-loop μ-loop
 put-station-requires-2 c κs =
     let at-loop = c .before .before in
-    let start = at-loop .before .before .before .before in
     let p = at-loop .loop .inv in
-    let more = start .pre .1 in
-    (omega (arith, more, p .held), omega (arith, more, p .held, lays-long (p .lays)), p .small)
+    let more = at-loop .before .before .before .pre .1 in
+    (omega (arith, more, p .held), omega (arith, more, p .held, p .lays .long, lays-long (p .lays)), p .small)
 
 add-narrow : tie.Need-add-narrow Inv-loop μ-loop
 add-narrow c = search needs
 
 narrow-requires : tie.Need-narrow-requires Inv-loop μ-loop
 narrow-requires c κs =
-    let at-loop = c .before .before .before .before .before .before in
-    let start = at-loop .before .before .before .before in
-    omega (arith, start .pre .1, at-loop .loop .inv .held)
+    let at-loop = c .before .before .before .before in
+    omega (arith, at-loop .before .before .before .pre .1, at-loop .loop .inv .held)
 
 set-held-requires : tie.Need-set-held-requires Inv-loop μ-loop
-set-held-requires c κs =
-    let at-put-station = c .before .before .before .before in
-    let at-loop = at-put-station .before .before .before in
-    still-room _ _ _ (at-loop .loop .inv .lays) (at-put-station .put-station2 .ensures)
-
-same-length : tie.Need-same-length Inv-loop μ-loop
-same-length c =
-    let at-set-held = c .before .before in
-    let at-put-station = at-set-held .before .before .before .before .before in
-    let at-loop = at-put-station .before .before .before in
-    same-after _ _ _ _ _ (at-loop .loop .inv .lays) (at-put-station .put-station2 .ensures) (at-set-held .set-held .ensures)
+set-held-requires c κs = search needs
 
 returns : tie.Need-returns Inv-loop μ-loop
 returns c =
-    let at-set-held = c .before .before in
-    let at-narrow = at-set-held .before in
-    let at-put-station = at-narrow .before .before .before .before in
-    let at-loop = at-put-station .before .before .before in
-    let p = at-loop .loop .inv in
-    puts-last _ _ _ p (omega arith) (at-put-station .put-station2 .ensures) (at-narrow .narrow .ensures) (at-set-held .set-held .ensures)
+    let at-narrow = c .before in
+    let at-put-station = at-narrow .before .before in
+    let p = at-put-station .before .before .before .loop .inv in
+    puts-last _ _ _ p (omega arith) (at-put-station .put-station2 .ensures) (at-narrow .narrow .ensures) (c .set-held .ensures)
 
 pub insert-spec : {M : Type 1} → statement M
 insert-spec =
@@ -103,5 +88,4 @@ insert-spec =
     add-narrow
     narrow-requires
     set-held-requires
-    same-length
     returns)

@@ -1,4 +1,4 @@
-use Rattle.counting.proofs.Moving.{TakesOut, takes-first, takes-next, takes-last, lays-long, lays-station, same-at-end}
+use Rattle.counting.proofs.Moving.{TakesOut, takes-first, takes-next, takes-last, lays-long, lays-station}
 use Prim.Native.Nat.{_-_}
 use native.Mathlib.Omega.{arith}
 use borrow.Author.Needs.{needs}
@@ -18,7 +18,7 @@ add-i : tie.Need-add-i Inv-loop μ-loop
 add-i c = search needs
 
 loop-holds : tie.Need-loop-holds Inv-loop μ-loop
-loop-holds c = takes-first _ _ _ (c .before .before .before .pre) (c .held .ensures .0)
+loop-holds c = takes-first _ _ _ (c .before .before .pre) (c .held .ensures .0) (c .held .ensures .2)
 
 station-at-requires : tie.Need-station-at-requires Inv-loop μ-loop
 station-at-requires c κs = search needs
@@ -30,10 +30,9 @@ put-station-requires : tie.Need-put-station-requires Inv-loop μ-loop
 put-station-requires c κs =
     let at-station-at = c .before in
     let at-loop = at-station-at .before .before .before in
-    let at-held = at-loop .before in
     let p = at-loop .loop .inv in
-    let h = at-held .held .ensures in
-    (omega (arith, h .1), omega (arith, h .2, lays-long (p .lays), p .from), at-station-at .station-at .ensures .1)
+    let h = at-loop .before .held .ensures in
+    (omega (arith, h .1), omega (arith, h .1, p .lays .long, lays-long (p .lays), p .from), at-station-at .station-at .ensures .1)
 
 add-i-2 : tie.Need-add-i-2 Inv-loop μ-loop
 add-i-2 c = search needs
@@ -43,14 +42,12 @@ loop-less c = search needs
 
 loop-again : tie.Need-loop-again Inv-loop μ-loop
 loop-again c =
-    let at-put-station = c .before .before in
-    let at-station-at = at-put-station .before .before in
+    let at-station-at = c .before .before in
     let at-loop-test = at-station-at .before .before in
-    let at-loop = at-loop-test .before in
-    let p = at-loop .loop .inv in
+    let p = at-loop-test .before .loop .inv in
     let inside = at-loop-test .loop-test .taken in
     let shown = at-station-at .station-at .ensures .0 in
-    takes-next _ _ p inside (lays-station _ _ (p .lays) (omega (arith, inside, p .held)) shown) (at-put-station .put-station .ensures)
+    takes-next _ _ p inside (lays-station _ _ (p .lays) (omega (arith, inside, p .held)) shown) (c .put-station .ensures)
 
 sub-narrow : tie.Need-sub-narrow Inv-loop μ-loop
 sub-narrow c = search needs
@@ -59,20 +56,13 @@ narrow-requires : tie.Need-narrow-requires Inv-loop μ-loop
 narrow-requires c κs = search needs
 
 set-held-requires : tie.Need-set-held-requires Inv-loop μ-loop
-set-held-requires c κs = let p = c .before .before .before .loop .inv in omega (arith, p .lays .fits, lays-long (p .lays))
-
-same-length : tie.Need-same-length Inv-loop μ-loop
-same-length c =
-    let at-set-held = c .before .before in
-    let at-loop = at-set-held .before .before .before .before in
-    same-at-end _ _ (at-loop .loop .inv .lays) (at-set-held .set-held .ensures)
+set-held-requires c κs = search needs
 
 returns : tie.Need-returns Inv-loop μ-loop
 returns c =
-    let at-set-held = c .before .before in
-    let at-narrow = at-set-held .before in
+    let at-narrow = c .before in
     let at-loop = at-narrow .before .before .before in
-    takes-last _ _ (at-loop .loop .inv) (omega arith) (at-narrow .narrow .ensures) (at-set-held .set-held .ensures)
+    takes-last _ _ (at-loop .loop .inv) (omega arith) (at-narrow .narrow .ensures) (c .set-held .ensures)
 
 pub take-out-spec : {M : Type 1} → statement M
 take-out-spec =
@@ -92,5 +82,4 @@ take-out-spec =
     sub-narrow
     narrow-requires
     set-held-requires
-    same-length
     returns)

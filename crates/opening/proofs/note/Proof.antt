@@ -8,9 +8,7 @@ returns : tie.Need-returns
 returns c = stays _ _ _ (c .if1 .taken)
 
 returns-2 : tie.Need-returns-2
-returns-2 c =
-    let at-accept = c .before .before in
-    at-accept .accept .ensures ∙ done _ _ _ (at-accept .before .before .if1 .left)
+returns-2 c = c .accept .ensures ∙ done _ _ _ (c .before .before .if1 .left)
 
 pub note-spec : {M : Type 1} → statement M
-note-spec = tie.close (tie.spec returns (λ c κs. search needs) (λ c. search needs) returns-2)
+note-spec = tie.close (tie.spec returns (λ c κs. search needs) returns-2)

@@ -1,7 +1,5 @@
 use Rattle.sources.proofs.Removing.{passed-over, kept-here}
-use lib.ListN.{length-set}
 use mathlib.Core.Path.{sym, _∙_}
-use native.Mathlib.Omega.{arith}
 use borrow.Author.Needs.{needs}
 use Rattle.sources.proofs.keep.Statement.{statement}
 use Rattle.sources.proofs.keep.Tie as tie
@@ -15,8 +13,8 @@ add-address c = search needs
 mul-address-2 : tie.Need-mul-address-2
 mul-address-2 c = search needs
 
-slice-read-address : tie.Need-slice-read-address
-slice-read-address c = search needs
+element-copy-out-address : tie.Need-element-copy-out-address
+element-copy-out-address c = search needs
 
 mul-number : tie.Need-mul-number
 mul-number c = search needs
@@ -27,8 +25,8 @@ add-number c = search needs
 mul-number-2 : tie.Need-mul-number-2
 mul-number-2 c = search needs
 
-slice-read-number : tie.Need-slice-read-number
-slice-read-number c = search needs
+element-copy-out-number : tie.Need-element-copy-out-number
+element-copy-out-number c = search needs
 
 wide-requires : tie.Need-wide-requires
 wide-requires c κs = search needs
@@ -45,8 +43,8 @@ add-memory c = search needs
 mul-memory-2 : tie.Need-mul-memory-2
 mul-memory-2 c = search needs
 
-slice-write-memory : tie.Need-slice-write-memory
-slice-write-memory c = search needs
+element-write-memory : tie.Need-element-write-memory
+element-write-memory c = search needs
 
 mul-memory-3 : tie.Need-mul-memory-3
 mul-memory-3 c = search needs
@@ -57,16 +55,11 @@ add-memory-2 c = search needs
 mul-memory-4 : tie.Need-mul-memory-4
 mul-memory-4 c = search needs
 
-slice-write-memory-2 : tie.Need-slice-write-memory-2
-slice-write-memory-2 c =
-    let start = c .before .before .before .before .before in
-    simp length-set (omega (arith, start .pre .0, start .pre .2))
+element-write-memory-2 : tie.Need-element-write-memory-2
+element-write-memory-2 c = search needs
 
 add-result : tie.Need-add-result
 add-result c = search needs
-
-same-length : tie.Need-same-length
-same-length c = search needs
 
 returns-2 : tie.Need-returns-2
 returns-2 c = kept-here _ _ _ _ _ (λ e. c .if1 .left (e ∙ sym (c .before .wide .ensures)))
@@ -78,21 +71,20 @@ keep-spec =
     mul-address
     add-address
     mul-address-2
-    slice-read-address
+    element-copy-out-address
     mul-number
     add-number
     mul-number-2
-    slice-read-number
+    element-copy-out-number
     wide-requires
     returns
     mul-memory
     add-memory
     mul-memory-2
-    slice-write-memory
+    element-write-memory
     mul-memory-3
     add-memory-2
     mul-memory-4
-    slice-write-memory-2
+    element-write-memory-2
     add-result
-    same-length
     returns-2)

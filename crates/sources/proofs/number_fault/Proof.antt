@@ -24,8 +24,8 @@ add-if2 c = search needs
 mul-if2-2 : tie.Need-mul-if2-2
 mul-if2-2 c = search needs
 
-shared-slice-read-if2 : tie.Need-shared-slice-read-if2
-shared-slice-read-if2 c = search needs
+element-copy-out-if2 : tie.Need-element-copy-out-if2
+element-copy-out-if2 c = search needs
 
 returns-2 : tie.Need-returns-2
 returns-2 c =
@@ -49,6 +49,6 @@ number-fault-spec =
     mul-if2
     add-if2
     mul-if2-2
-    shared-slice-read-if2
+    element-copy-out-if2
     returns-2
     returns-3)

@@ -16,39 +16,31 @@ Inv-loop memory source end sought place₀ place =
 abbrev μ-loop : tie.MeasureT-loop
 μ-loop memory source end sought place₀ place = end - place
 
--- src/lib.rt:50:9
 held-requires : tie.Need-held-requires Inv-loop μ-loop
 held-requires c κs = search needs
 
--- src/lib.rt:51:9
 wide-requires : tie.Need-wide-requires Inv-loop μ-loop
 wide-requires c κs = search needs
 
--- src/lib.rt:53:5
 loop-holds : tie.Need-loop-holds Inv-loop μ-loop
 loop-holds c = (c .before .held .ensures .0, omega arith, sym (zero-add _))
 
--- src/lib.rt:54:19
 mul-if1 : tie.Need-mul-if1 Inv-loop μ-loop
 mul-if1 c = search needs
 
--- src/lib.rt:54:19
 add-if1 : tie.Need-add-if1 Inv-loop μ-loop
 add-if1 c = search needs
 
--- src/lib.rt:54:12
 mul-if1-2 : tie.Need-mul-if1-2 Inv-loop μ-loop
 mul-if1-2 c = search needs
 
--- src/lib.rt:54:12
-shared-slice-read-if1 : tie.Need-shared-slice-read-if1 Inv-loop μ-loop
-shared-slice-read-if1 c = search needs
+element-copy-out-if1 : tie.Need-element-copy-out-if1 Inv-loop μ-loop
+element-copy-out-if1 c = search needs
 
--- src/lib.rt:55:13
 returns : tie.Need-returns Inv-loop μ-loop
 returns c =
     let at-loop = c .before .before .before in
-    let start = at-loop .before .before .before .before in
+    let start = at-loop .before .before .before in
     let m = start .args .memory .now in
     let inside = at-loop .before .before .held .ensures .0 in (
       sym (at-loop .loop .inv .2 ∙ found _ (recordIn m) (at-loop .loop .place) (omega (arith, at-loop .loop .inv .0))
@@ -56,19 +48,16 @@ returns c =
       omega (arith, at-loop .loop .inv .0),
     )
 
--- src/lib.rt:57:9
 add-place : tie.Need-add-place Inv-loop μ-loop
 add-place c = search needs
 
--- src/lib.rt:53:5
 loop-less : tie.Need-loop-less Inv-loop μ-loop
 loop-less c = search needs
 
--- src/lib.rt:53:5
 loop-again : tie.Need-loop-again Inv-loop μ-loop
 loop-again c =
     let at-loop = c .before .before .before in
-    let start = at-loop .before .before .before .before in
+    let start = at-loop .before .before .before in
     let m = start .args .memory .now in (
       at-loop .loop .inv .0,
       omega arith,
@@ -76,11 +65,10 @@ loop-again c =
           (λ e. c .if1 .left (sym (source-at m (at-loop .loop .place) (omega (arith, at-loop .loop .inv .0))) ∙ e ∙ sym (at-loop .before .wide .ensures))),
     )
 
--- src/lib.rt:47:1
 returns-2 : tie.Need-returns-2 Inv-loop μ-loop
 returns-2 c =
     let at-loop = c .before in
-    let start = at-loop .before .before .before .before in
+    let start = at-loop .before .before .before in
     let m = start .args .memory .now in (
       sym (at-loop .loop .inv .2 ∙ nowhere _ (recordIn m) (at-loop .loop .place) (at-loop .before .before .held .result)
           (omega (arith, at-loop .loop .inv .0)) (omega arith)),
@@ -99,7 +87,7 @@ place-of-spec =
     mul-if1
     add-if1
     mul-if1-2
-    shared-slice-read-if1
+    element-copy-out-if1
     returns
     add-place
     loop-less

@@ -1,7 +1,7 @@
 use Rattle.sources.specs.Sources.{recordIn}
-use Rattle.sources.proofs.Removing.{Kept, kept-none, kept-room, kept-64, kept-length, kept-more, kept-all, not-held, is-held}
+use Rattle.sources.proofs.Removing.{Kept, kept-none, kept-room, kept-64, kept-more, kept-all, not-held, is-held}
 use Prim.Native.Nat.{_-_, _≤_}
-use lib.ListN.{length, length-set}
+use lib.ListN.{length}
 use mathlib.Core.Path.{_≡_, sym}
 use native.Mathlib.Omega.{arith}
 use borrow.Author.Needs.{needs}
@@ -21,9 +21,6 @@ held-requires c κs = search needs
 place-of-requires : tie.Need-place-of-requires Inv-loop μ-loop
 place-of-requires c κs = search needs
 
-same-length : tie.Need-same-length Inv-loop μ-loop
-same-length c = search needs
-
 returns : tie.Need-returns Inv-loop μ-loop
 returns c =
     let at-held = c .before .before .before in
@@ -31,8 +28,8 @@ returns c =
 
 loop-holds : tie.Need-loop-holds Inv-loop μ-loop
 loop-holds c =
-    let at-held = c .before .before .before in
-    (at-held .held .ensures .0, omega arith, kept-none _ 0 _ (omega (arith, c .if1 .left, at-held .held .ensures .2)))
+    let h = c .before .before .before .held .ensures in
+    (h .0, omega arith, kept-none _ 0 _ (h .2))
 
 keep-requires : tie.Need-keep-requires Inv-loop μ-loop
 keep-requires c κs =
@@ -47,38 +44,18 @@ loop-less c = search needs
 
 loop-again : tie.Need-loop-again Inv-loop μ-loop
 loop-again c =
-    let at-keep = c .before .before in
-    let inside = at-keep .before .before in
+    let inside = c .before .before in
     let at-loop = inside .before in (
       at-loop .loop .inv .0,
       omega (arith, inside .loop-test .taken),
-      kept-more _ _ _ (at-loop .loop .inv .2) (omega (arith, at-loop .loop .inv .0, inside .loop-test .taken)) (at-keep .keep .ensures .0)
-          (at-keep .keep .ensures .1),
+      kept-more _ _ _ (at-loop .loop .inv .2) (omega (arith, at-loop .loop .inv .0, inside .loop-test .taken)) (c .keep .ensures .0) (c .keep .ensures .1),
     )
 
 cast-memory : tie.Need-cast-memory Inv-loop μ-loop
-cast-memory c =
-    let at-loop = c .before in
-    let at-if = at-loop .before in
-    let at-held = at-if .before .before .before in
-    let few = kept-64 _ _ _ (at-loop .loop .inv .2) (omega (arith, at-loop .loop .inv .0, at-if .if1 .left, at-held .held .ensures .0)) in
-    record { fits = omega (arith, few) }
+cast-memory c = record { fits = omega (arith, kept-64 _ _ _ (c .before .loop .inv .2)) }
 
-slice-write-memory : tie.Need-slice-write-memory Inv-loop μ-loop
-slice-write-memory c =
-    let at-loop = c .before in
-    let at-if = at-loop .before in
-    let at-held = at-if .before .before .before in
-    let same = kept-length _ _ _ (at-loop .loop .inv .2) (omega (arith, at-loop .loop .inv .0, at-if .if1 .left, at-held .held .ensures .0)) in
-    omega (arith, same, at-if .if1 .left, at-held .held .ensures .2)
-
-same-length-2 : tie.Need-same-length-2 Inv-loop μ-loop
-same-length-2 c =
-    let at-loop = c .before in
-    let at-if = at-loop .before in
-    let at-held = at-if .before .before .before in
-    let same = kept-length _ _ _ (at-loop .loop .inv .2) (omega (arith, at-loop .loop .inv .0, at-if .if1 .left, at-held .held .ensures .0)) in
-    simp length-set same
+element-write-memory : tie.Need-element-write-memory Inv-loop μ-loop
+element-write-memory c = search needs
 
 returns-2 : tie.Need-returns-2 Inv-loop μ-loop
 returns-2 c =
@@ -96,7 +73,6 @@ remove-spec =
     μ-loop
     held-requires
     place-of-requires
-    same-length
     returns
     loop-holds
     keep-requires
@@ -104,6 +80,5 @@ remove-spec =
     loop-less
     loop-again
     cast-memory
-    slice-write-memory
-    same-length-2
+    element-write-memory
     returns-2)

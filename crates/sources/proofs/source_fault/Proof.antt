@@ -15,22 +15,19 @@ returns c =
     let at-place = c .before in
     source-held _ _ _ (at-place .place-of .ensures .0) (omega (arith, at-place .before .held .ensures .0))
 
-capacity-requires : tie.Need-capacity-requires
-capacity-requires c κs = search needs
-
 returns-2 : tie.Need-returns-2
 returns-2 c =
-    let at-place = c .before .before .before in
+    let at-place = c .before .before in
     source-full _ _ _ (at-place .place-of .ensures .0) (omega (arith, at-place .before .held .ensures .0))
-    (omega (arith, at-place .before .held .ensures .0, c .before .capacity .ensures .0))
+    (omega (arith, at-place .before .held .ensures .0))
 
 returns-3 : tie.Need-returns-3
 returns-3 c =
-    let at-place = c .before .before .before in
+    let at-place = c .before .before in
     source-room _ _ _ (at-place .place-of .ensures .0) (omega (arith, at-place .before .held .ensures .0))
-    (omega (arith, at-place .before .held .ensures .0, c .before .capacity .ensures .0))
+    (omega (arith, at-place .before .held .ensures .0))
 
 pub source-fault-spec : {M : Type 1} → statement M
 source-fault-spec =
     tie.close
-    (tie.spec held-requires place-of-requires returns capacity-requires returns-2 returns-3)
+    (tie.spec held-requires place-of-requires returns returns-2 returns-3)

@@ -17,8 +17,8 @@ sub-if2 c = search needs
 mul-if2-2 : tie.Need-mul-if2-2
 mul-if2-2 c = search needs
 
-shared-slice-read-if2 : tie.Need-shared-slice-read-if2
-shared-slice-read-if2 c = search needs
+element-copy-out-if2 : tie.Need-element-copy-out-if2
+element-copy-out-if2 c = search needs
 
 returns : tie.Need-returns
 returns c = (sym (next-lower _ _ _ _ (omega arith) (omega arith) (c .if2 .taken)), omega arith)
@@ -32,4 +32,4 @@ returns-3 c = (sym (next-none _ _ _ _ (omega arith)), omega arith)
 pub next-place-spec : {M : Type 1} → statement M
 next-place-spec =
     tie.close
-    (tie.spec add-next mul-if2 sub-if2 mul-if2-2 shared-slice-read-if2 returns returns-2 returns-3)
+    (tie.spec add-next mul-if2 sub-if2 mul-if2-2 element-copy-out-if2 returns returns-2 returns-3)

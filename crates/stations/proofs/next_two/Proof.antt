@@ -30,8 +30,8 @@ sub-over-near c = search needs
 mul-over-near-2 : tie.Need-mul-over-near-2
 mul-over-near-2 c = search needs
 
-shared-slice-read-over-near : tie.Need-shared-slice-read-over-near
-shared-slice-read-over-near c = search needs
+element-copy-out-over-near : tie.Need-element-copy-out-over-near
+element-copy-out-over-near c = search needs
 
 mul-over-middle : tie.Need-mul-over-middle
 mul-over-middle c = search needs
@@ -42,8 +42,8 @@ sub-over-middle c = search needs
 mul-over-middle-2 : tie.Need-mul-over-middle-2
 mul-over-middle-2 c = search needs
 
-shared-slice-read-over-middle : tie.Need-shared-slice-read-over-middle
-shared-slice-read-over-middle c = search needs
+element-copy-out-over-middle : tie.Need-element-copy-out-over-middle
+element-copy-out-over-middle c = search needs
 
 mul-over-far : tie.Need-mul-over-far
 mul-over-far c = search needs
@@ -54,8 +54,8 @@ sub-over-far c = search needs
 mul-over-far-2 : tie.Need-mul-over-far-2
 mul-over-far-2 c = search needs
 
-shared-slice-read-over-far : tie.Need-shared-slice-read-over-far
-shared-slice-read-over-far c = search needs
+element-copy-out-over-far : tie.Need-element-copy-out-over-far
+element-copy-out-over-far c = search needs
 
 either-requires : tie.Need-either-requires
 either-requires c κs = search needs
@@ -68,7 +68,7 @@ either-requires-3 c κs = search needs
 
 returns : tie.Need-returns
 returns c =
-    let a = c .before .before .before .before .before .before .before .before .args in
+    let a = c .before .before .before .before .before .before .before .args in
     let memory = now (a .table) in
     let known = addresses (tableIn memory) in
     let so = two-so memory (a .address) (a .place) (a .step) (a .step / 2) _ _ _ (omega arith) (omega arith) refl refl refl (omega arith) in
@@ -86,7 +86,7 @@ next-place-requires-2 c κs = search needs
 
 returns-2 : tie.Need-returns-2
 returns-2 c =
-    let a = c .before .before .before .before .args in
+    let a = c .before .before .before .args in
     let known = addresses (tableIn (now (a .table))) in (
       c .next-place2 .ensures .0 ∙ ap (λ (from : ℕ). nextPlace (a .address) known from (a .step / 2)) (c .before .next-place .ensures .0),
       c .next-place2 .ensures .1,
@@ -102,15 +102,15 @@ next-two-spec =
     mul-over-near
     sub-over-near
     mul-over-near-2
-    shared-slice-read-over-near
+    element-copy-out-over-near
     mul-over-middle
     sub-over-middle
     mul-over-middle-2
-    shared-slice-read-over-middle
+    element-copy-out-over-middle
     mul-over-far
     sub-over-far
     mul-over-far-2
-    shared-slice-read-over-far
+    element-copy-out-over-far
     either-requires
     either-requires-2
     either-requires-3

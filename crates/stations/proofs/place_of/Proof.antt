@@ -26,7 +26,7 @@ next-place-requires c κs = search needs
 returns : tie.Need-returns Inv-loop μ-loop
 returns c =
     let h = c .before .before .held .ensures in
-    let stations = tableIn (now (c .before .before .before .before .args .table)) in
+    let stations = tableIn (now (c .before .before .before .args .table)) in
     sym (first-over _ stations (omega (arith, h .0, h .1)) (sym (c .before .next-place .ensures .0) ∙ c .if1 .taken))
 
 loop-holds : tie.Need-loop-holds Inv-loop μ-loop
@@ -43,7 +43,7 @@ next-two-requires c κs =
     let l = c .before .loop in
     let h = c .before .before .before .before .held .ensures in
     let s = step-size (l .left) (l .step) (omega arith) (omega arith) (l .inv .3) in
-    (l .inv .0, h .1, h .2, l .inv .1, s .0, s .1)
+    (l .inv .0, h .1, l .inv .1, s .0, s .1)
 
 sub-left : tie.Need-sub-left Inv-loop μ-loop
 sub-left c = search needs

@@ -16,41 +16,39 @@ add-path c = search needs
 mul-path : tie.Need-mul-path
 mul-path c = search needs
 
-shared-slice-read-path : tie.Need-shared-slice-read-path
-shared-slice-read-path c = search needs
+element-copy-out-path : tie.Need-element-copy-out-path
+element-copy-out-path c = search needs
 
 mul-t5 : tie.Need-mul-t5
 mul-t5 c = search needs
 
-shared-slice-read-t8 : tie.Need-shared-slice-read-t8
-shared-slice-read-t8 c = search needs
+element-copy-out-t9 : tie.Need-element-copy-out-t9
+element-copy-out-t9 c = search needs
 
 add-t6 : tie.Need-add-t6
 add-t6 c = search needs
 
-mul-t10 : tie.Need-mul-t10
-mul-t10 c = search needs
+mul-t12 : tie.Need-mul-t12
+mul-t12 c = search needs
 
-shared-slice-read-t12 : tie.Need-shared-slice-read-t12
-shared-slice-read-t12 c = search needs
+element-copy-out-t15 : tie.Need-element-copy-out-t15
+element-copy-out-t15 c = search needs
 
-add-t13 : tie.Need-add-t13
-add-t13 c = search needs
+add-t16 : tie.Need-add-t16
+add-t16 c = search needs
 
-mul-t14 : tie.Need-mul-t14
-mul-t14 c = search needs
+mul-t17 : tie.Need-mul-t17
+mul-t17 c = search needs
 
-shared-slice-read-t16 : tie.Need-shared-slice-read-t16
-shared-slice-read-t16 c = search needs
+element-copy-out-t20 : tie.Need-element-copy-out-t20
+element-copy-out-t20 c = search needs
 
 one-less-requires : tie.Need-one-less-requires
 one-less-requires c κs = search needs
 
 returns : tie.Need-returns
 returns c =
-    let at-before = c .before .before .before .before .before in
-    let start = at-before .before in
-    let s = at-before .before in
+    let s = c .before .before .before .before .before in
     (station-read (s .args .table .now) (4 * s .args .place + 1) _ (c .one-less .ensures .0), c .one-less .ensures .1)
 
 pub station-from-spec : {M : Type 1} → statement M
@@ -61,14 +59,14 @@ station-from-spec =
     add-first
     add-path
     mul-path
-    shared-slice-read-path
+    element-copy-out-path
     mul-t5
-    shared-slice-read-t8
+    element-copy-out-t9
     add-t6
-    mul-t10
-    shared-slice-read-t12
-    add-t13
-    mul-t14
-    shared-slice-read-t16
+    mul-t12
+    element-copy-out-t15
+    add-t16
+    mul-t17
+    element-copy-out-t20
     one-less-requires
     returns)

@@ -4,7 +4,8 @@ use super::Written;
 
 /// `MANT_SOURCE_LIMIT`.
 pub const SOURCE_LIMIT: usize = 64;
-/// `MANT_SOURCE_WORDS`.
+/// The words of a `MantSources`: how many sources are held, and two for each. It
+/// is empty if the first is 0.
 pub const SOURCE_WORDS: usize = 129;
 /// `MANT_SEAL_LENGTH`.
 pub const SEAL_LENGTH: usize = 7;
@@ -45,17 +46,17 @@ const _: () = assert!(size_of::<Numbered>() == 8);
 extern "C" {
     fn mant_seal(key: Key, number: u64, pdu: *const u8, pdu_length: usize, output: *mut u8, output_length: usize) -> Written;
     fn mant_open(
-        key: Key, record: *mut u32, record_words: usize, pdu: *const u8, pdu_length: usize, output: *mut u8, output_length: usize,
+        key: Key, record: *mut [u32; SOURCE_WORDS], pdu: *const u8, pdu_length: usize, output: *mut u8, output_length: usize,
     ) -> Written;
     fn mant_message_number(pdu: *const u8, pdu_length: usize) -> Numbered;
-    fn mant_remove_source(record: *mut u32, record_words: usize, source: u16) -> bool;
+    fn mant_remove_source(record: *mut [u32; SOURCE_WORDS], source: u16) -> bool;
 }
 
 /// `mant_seal`.
 #[inline]
 pub fn seal(key: Key, number: u64, pdu: &[u8], output: &mut [u8]) -> Written {
-    // SAFETY: here and below, pointers and lengths are those of live slices,
-    // and what is changed is borrowed alone.
+    // SAFETY: here and below, the record is a live one, pointers and lengths are
+    // those of live slices, and what is changed is borrowed alone.
     unsafe {
         mant_seal(
             key,
@@ -70,13 +71,12 @@ pub fn seal(key: Key, number: u64, pdu: &[u8], output: &mut [u8]) -> Written {
 
 /// `mant_open`.
 #[inline]
-pub fn open(key: Key, record: &mut [u32], pdu: &[u8], output: &mut [u8]) -> Written {
+pub fn open(key: Key, record: &mut [u32; SOURCE_WORDS], pdu: &[u8], output: &mut [u8]) -> Written {
     // SAFETY: as above.
     unsafe {
         mant_open(
             key,
-            record.as_mut_ptr(),
-            record.len(),
+            record,
             pdu.as_ptr(),
             pdu.len(),
             output.as_mut_ptr(),
@@ -94,7 +94,7 @@ pub fn message_number(pdu: &[u8]) -> Numbered {
 
 /// `mant_remove_source`.
 #[inline]
-pub fn remove_source(record: &mut [u32], source: u16) -> bool {
+pub fn remove_source(record: &mut [u32; SOURCE_WORDS], source: u16) -> bool {
     // SAFETY: as above.
-    unsafe { mant_remove_source(record.as_mut_ptr(), record.len(), source) }
+    unsafe { mant_remove_source(record, source) }
 }

@@ -4,7 +4,8 @@ use super::{Answer, Node};
 
 /// `MANT_STATION_LIMIT`.
 pub const STATION_LIMIT: usize = 128;
-/// `MANT_STATION_WORDS`.
+/// The words of a `MantStations`: how many stations are held, and four for each.
+/// It is empty if the first is 0.
 pub const STATION_WORDS: usize = 513;
 
 /// A station that was heard. The counts stop at 65,535, each by itself.
@@ -74,70 +75,55 @@ const _: () = {
 
 #[rustfmt::skip]
 extern "C" {
-    fn mant_stations_capacity(table: *const u16, table_words: usize) -> usize;
-    fn mant_stations_held(table: *const u16, table_words: usize) -> usize;
-    fn mant_station_at(table: *const u16, table_words: usize, place: usize) -> Found;
-    fn mant_station_of(table: *const u16, table_words: usize, address: u16) -> Found;
-    fn mant_remove_station(table: *mut u16, table_words: usize, address: u16) -> u8;
-    fn mant_count_heard(table: *mut u16, table_words: usize, heard: Heard) -> u8;
-    fn mant_count_answer(table: *mut u16, table_words: usize, received: *const u8, received_length: usize, answer: Answer) -> u8;
+    fn mant_stations_held(table: *const [u16; STATION_WORDS]) -> usize;
+    fn mant_station_at(table: *const [u16; STATION_WORDS], place: usize) -> Found;
+    fn mant_station_of(table: *const [u16; STATION_WORDS], address: u16) -> Found;
+    fn mant_remove_station(table: *mut [u16; STATION_WORDS], address: u16) -> u8;
+    fn mant_count_heard(table: *mut [u16; STATION_WORDS], heard: Heard) -> u8;
+    fn mant_count_answer(table: *mut [u16; STATION_WORDS], received: *const u8, received_length: usize, answer: Answer) -> u8;
     fn mant_hear_and_count(
         node: Node, lists: *const u16, lists_length: usize,
         received: *const u8, received_length: usize, output: *mut u8, output_length: usize,
-        table: *mut u16, table_words: usize,
+        table: *mut [u16; STATION_WORDS],
     ) -> Listened;
 }
 
-/// `mant_stations_capacity`.
-pub fn stations_capacity(table: &[u16]) -> usize {
-    // SAFETY: here and below, pointers and lengths are those of live slices,
-    // and what is changed is borrowed alone.
-    unsafe { mant_stations_capacity(table.as_ptr(), table.len()) }
-}
-
 /// `mant_stations_held`.
-pub fn stations_held(table: &[u16]) -> usize {
-    // SAFETY: as above.
-    unsafe { mant_stations_held(table.as_ptr(), table.len()) }
+pub fn stations_held(table: &[u16; STATION_WORDS]) -> usize {
+    // SAFETY: here and below, the table is a live one, pointers and lengths are
+    // those of live slices, and what is changed is borrowed alone.
+    unsafe { mant_stations_held(table) }
 }
 
 /// `mant_station_at`.
-pub fn station_at(table: &[u16], place: usize) -> Found {
+pub fn station_at(table: &[u16; STATION_WORDS], place: usize) -> Found {
     // SAFETY: as above.
-    unsafe { mant_station_at(table.as_ptr(), table.len(), place) }
+    unsafe { mant_station_at(table, place) }
 }
 
 /// `mant_station_of`.
-pub fn station_of(table: &[u16], address: u16) -> Found {
+pub fn station_of(table: &[u16; STATION_WORDS], address: u16) -> Found {
     // SAFETY: as above.
-    unsafe { mant_station_of(table.as_ptr(), table.len(), address) }
+    unsafe { mant_station_of(table, address) }
 }
 
 /// `mant_remove_station`.
-pub fn remove_station(table: &mut [u16], address: u16) -> u8 {
+pub fn remove_station(table: &mut [u16; STATION_WORDS], address: u16) -> u8 {
     // SAFETY: as above.
-    unsafe { mant_remove_station(table.as_mut_ptr(), table.len(), address) }
+    unsafe { mant_remove_station(table, address) }
 }
 
 /// `mant_count_heard`.
 #[inline]
-pub fn count_heard(table: &mut [u16], heard: Heard) -> u8 {
+pub fn count_heard(table: &mut [u16; STATION_WORDS], heard: Heard) -> u8 {
     // SAFETY: as above.
-    unsafe { mant_count_heard(table.as_mut_ptr(), table.len(), heard) }
+    unsafe { mant_count_heard(table, heard) }
 }
 
 /// `mant_count_answer`.
-pub fn count_answer(table: &mut [u16], received: &[u8], answer: Answer) -> u8 {
+pub fn count_answer(table: &mut [u16; STATION_WORDS], received: &[u8], answer: Answer) -> u8 {
     // SAFETY: as above.
-    unsafe {
-        mant_count_answer(
-            table.as_mut_ptr(),
-            table.len(),
-            received.as_ptr(),
-            received.len(),
-            answer,
-        )
-    }
+    unsafe { mant_count_answer(table, received.as_ptr(), received.len(), answer) }
 }
 
 /// `mant_hear_and_count`.
@@ -147,7 +133,7 @@ pub fn hear_and_count(
     lists: &[u16],
     received: &[u8],
     output: &mut [u8],
-    table: &mut [u16],
+    table: &mut [u16; STATION_WORDS],
 ) -> Listened {
     // SAFETY: as above.
     unsafe {
@@ -159,8 +145,7 @@ pub fn hear_and_count(
             received.len(),
             output.as_mut_ptr(),
             output.len(),
-            table.as_mut_ptr(),
-            table.len(),
+            table,
         )
     }
 }

@@ -110,7 +110,7 @@ fn the_129th_is_refused_and_changes_nothing() {
 #[test]
 fn counts_stop_each_by_itself() {
     let near = station(9, 65_534, 65_533, Some(7));
-    let mut stations = Stations::holding(MOST_STATIONS, &[near]);
+    let mut stations = Stations::holding(&[near]);
     heard(&mut stations, &pdu(9, Some(&[2000; 8])));
     assert_eq!(stations.get(9), Ok(station(9, 65_535, 65_534, Some(7))));
     heard(&mut stations, &pdu(9, Some(&[2000; 6])));

@@ -8,11 +8,8 @@ answer-from-c-requires c κs = search needs
 count-answer-requires : tie.Need-count-answer-requires
 count-answer-requires c κs = search needs
 
-same-length : tie.Need-same-length
-same-length c = search needs
-
 returns : tie.Need-returns
-returns c = rw (← c .before .before .before .answer-from-c .ensures) (c .before .before .count-answer .ensures)
+returns c = rw (← c .before .answer-from-c .ensures) (c .count-answer .ensures)
 
 pub mant-count-answer-spec : {M : Type 1} → statement M
-mant-count-answer-spec = tie.close (tie.spec answer-from-c-requires count-answer-requires same-length returns)
+mant-count-answer-spec = tie.close (tie.spec answer-from-c-requires count-answer-requires returns)

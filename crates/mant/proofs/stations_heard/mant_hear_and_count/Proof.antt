@@ -13,22 +13,12 @@ mant-count-answer-requires c κs = search needs
 same-length : tie.Need-same-length
 same-length c = search needs
 
-same-length-2 : tie.Need-same-length-2
-same-length-2 c = search needs
-
 returns : tie.Need-returns
 returns c =
-    let counts = c .before .before in
-    let hears = counts .before .before .before .before in
-    let a = hears .before .before .before .before .before .before .args in
-    counted-in-c _ (now (a .received)) (now (a .output)) _ (now (a .table)) _ _ _ (hears .mant-hear .ensures) (counts .mant-count-answer .ensures)
+    let hears = c .before .before .before .before in
+    let a = hears .before .before .before .before .before .args in
+    counted-in-c _ (now (a .received)) (now (a .output)) _ (now (a .table)) _ _ _ (hears .mant-hear .ensures) (c .mant-count-answer .ensures)
 
 pub mant-hear-and-count-spec : {M : Type 1} → statement M
 mant-hear-and-count-spec =
-    tie.close
-    (tie.spec
-    mant-hear-requires
-    mant-count-answer-requires
-    same-length
-    same-length-2
-    returns)
+    tie.close (tie.spec mant-hear-requires mant-count-answer-requires same-length returns)
