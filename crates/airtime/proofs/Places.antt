@@ -1,8 +1,8 @@
 -- The count by marks, as the functions of crate `ways` make it, and the count of paths by addresses: the same. Assumes nothing.
-use mathlib.Core.Path.{_≡_, refl, sym, ap, subst, _∙_}
-use mathlib.Core.Logic.{_≢_, by-cases, ⊎-elim}
+use mathlib.Core.Path.{_≡_, refl, sym, ap, _∙_}
+use mathlib.Core.Logic.{by-cases}
 use mathlib.Core.Bool.{Bool, true, false, not, cond, _&&_, _||_}
-use mathlib.Core.List.{List, [], _∷_, _++_, List·Memᴰ, List·Memᴰ·not-nil, List·Nodup, nodup-nil, map-id}
+use mathlib.Core.List.{List, [], _∷_, _++_}
 use Prim.Native.Nat.{ℕ, zero, suc, _+_, _*_, _<_}
 use native.Mathlib.Decide.{ℕ-discrete}
 use native.Mathlib.Nat.{mul-suc, mul-zero}
@@ -14,11 +14,9 @@ use lib.Seq.{getD-set-same, getD-set-other}
 use Rattle.octets.specs.Octets.{at}
 use Rattle.pdu.specs.Parts.{inPath, lastOr}
 use Rattle.pdu.proofs.Senders.{last-none, last-behind}
-use Rattle.chains.specs.Lengths.{placesOfNodes}
-use Rattle.chains.proofs.Fewer.{below-places}
-use Rattle.ways.specs.Ways.{sumBelow, isUnmarked, waysFrom}
+use Rattle.chains.specs.Lengths.{placesOfNodes, isUnmarked}
+use Rattle.ways.specs.Ways.{sumBelow, waysFrom}
 use Rattle.flood.specs.Flood.{total, keep}
-use Rattle.flood.proofs.Lists.{nodup-more}
 use Rattle.airtime.specs.Airtime.{airFrom}
 
 -- a sum over places is one over those that are kept

@@ -1,21 +1,22 @@
 -- What the count does not depend on: the order in which the nodes are listed, hops that no path can use, and what the nodes are called. Assumes nothing.
 use mathlib.Core.Path.{_≡_, refl, sym, ap, subst, _∙_}
-use mathlib.Core.Logic.{_≢_, by-cases, ⊎-elim}
-use mathlib.Core.Bool.{Bool, true, false, not, cond, _&&_, _||_}
+use mathlib.Core.Logic.{by-cases, ⊎-elim}
+use mathlib.Core.Bool.{Bool, true, not, cond, _&&_, _||_}
 use mathlib.Core.List.{List, [], _∷_, _++_, map, map-append}
-use mathlib.Core.List.{List·Memᴰ, List·Memᴰ·head, List·Memᴰ·tail, List·Memᴰ·cases-cons, List·Memᴰ·append-cases, List·Memᴰ·eq-of-singleton}
+use mathlib.Core.List.{List·Memᴰ, List·Memᴰ·head, List·Memᴰ·tail, List·Memᴰ·append-cases, List·Memᴰ·eq-of-singleton}
 use mathlib.Core.List.{Memᴰ·cast, List·Nodup, nodup-nil}
 use Prim.Native.Nat.{ℕ, zero, suc, _+_, _≤_, min}
 use native.Mathlib.Decide.{ℕ-discrete}
 use native.Mathlib.Omega.{arith}
 use borrow.Author.Tests.{eq-eqb, ne-eqb}
 use lib.Dec.{eqb}
-use lib.ListN.{length, length-map}
+use lib.ListN.{length}
 use Rattle.pdu.specs.Parts.{inPath}
 use Rattle.flood.specs.Flood.{total}
 use Rattle.flood.proofs.Lists.{no-more, no-longer, total-map, total-same}
+use Rattle.coverage.proofs.Walks.{Walk, ends, goes, walk-once, walk-known}
 use Rattle.airtime.specs.Airtime.{airFrom}
-use Rattle.airtime.proofs.Walks.{Walk, ends, goes, walks, total-walks, listed, walked, nodup-walks, walk-once, walk-known}
+use Rattle.airtime.proofs.Walks.{walks, total-walks, listed, walked, nodup-walks}
 
 -- by equal weights
 pub air-weights : (weight other : List ℕ → ℕ) → ((q : List ℕ) → weight q ≡ other q) → (hears : ℕ → ℕ → Bool) (counted : List ℕ) (m x : ℕ) (p : List ℕ)

@@ -1,11 +1,11 @@
 -- What the functions of crate `ways` answer is how often the message goes out in that network, and how many bytes that is. Assumes nothing.
 use mathlib.Core.Path.{_≡_, refl, sym, ap, subst, _∙_}
-use mathlib.Core.Logic.{_≢_, by-cases, ⊎-elim}
+use mathlib.Core.Logic.{_≢_, by-cases}
 use mathlib.Core.Bool.{Bool, true, false, cond, false≢true}
 use mathlib.Core.Option.{some, Option·some-injective}
 use mathlib.Core.List.{List, [], _∷_, map, map-id, List·Memᴰ, List·Memᴰ·head, List·Memᴰ·tail, List·Memᴰ·not-nil, Memᴰ·cast, Memᴰ·map, Memᴰ·of-map}
 use mathlib.Core.List.{List·Nodup, nodup-nil, nodup-cons}
-use Prim.Native.Nat.{ℕ, zero, suc, _+_, _*_, _≤_, _<_, min}
+use Prim.Native.Nat.{ℕ, zero, suc, _+_, _*_, _<_, min}
 use native.Mathlib.Decide.{ℕ-discrete}
 use native.Mathlib.Nat.{zero-mul}
 use native.Mathlib.Omega.{arith}
@@ -18,30 +18,26 @@ use Rattle.pdu.specs.declared.Header.{Header}
 use Rattle.pdu.specs.Parts.{lastOr}
 use Rattle.bound.specs.Bound.{terms}
 use Rattle.bound.proofs.Series.{terms-seven, terms-below}
-use Rattle.chains.specs.Lengths.{isHeard, placesOfNodes, nodeLimit}
+use Rattle.chains.specs.Lengths.{isHeard, placesOfNodes, isUnmarked}
 use Rattle.chains.proofs.Fewer.{in-places, below-places}
-use Rattle.ways.specs.Ways.{isUnmarked, waysFrom, ofAll, ofOne}
+use Rattle.ways.specs.Ways.{ofAll, ofOne}
 use Rattle.ways.specs.Answer.{hopsOf, ways}
 use Rattle.ways.proofs.Answers.{hops-seven, hops-below}
 use Rattle.flood.specs.Air.{Repeater, address, canRepeat, repeaters, Nodes}
 use Rattle.flood.specs.Flood.{keep}
 use Rattle.flood.proofs.Kept.{kept, kept-are, kept-differ}
-use Rattle.flood.proofs.Lists.{apart, nodup-more, no-longer, at-mem, mem-at, at-map, same-place}
-use Rattle.flood.proofs.Repeaters.{Can, can-is, is-can, repeaters-are, are-repeaters, repeaters-differ}
+use Rattle.flood.proofs.Lists.{apart, nodup-more, no-longer, at-mem, mem-at, at-map}
+use Rattle.flood.proofs.Repeaters.{can-is, is-can, repeaters-are, are-repeaters, repeaters-differ}
+use Rattle.coverage.specs.Marks.{MarksSay}
 use Rattle.coverage.specs.Told.{Says}
-use Rattle.coverage.proofs.Places.{at-place}
+use Rattle.coverage.proofs.Places.{at-place, one-place}
 use Rattle.coverage.proofs.Schedule.{at-within}
-use Rattle.airtime.specs.Airtime.{airFrom, airOver, airOf, airBytes, airBy, airBytesBy}
-use Rattle.airtime.specs.Marks.{MarksSay}
+use Rattle.coverage.proofs.Walks.{last-holds}
+use Rattle.airtime.specs.Airtime.{airFrom, airOf, airBytes, airBy, airBytesBy}
 use Rattle.airtime.proofs.Places.{from-marks}
 use Rattle.airtime.proofs.Same.{air-weights, air-walked, air-same, air-named}
 
 -- the last of a path is one of its entries, or where it begins
-last-holds : (P : ℕ → Type 0) (from : ℕ) (q : List ℕ) → P from → ((a : ℕ) → List·Memᴰ a q → P a) → P (lastOr from q)
-unfolding lastOr
-last-holds P from [] begins known = begins
-last-holds P from (a ∷ q) begins known = last-holds P a q (known a (List·Memᴰ·head refl)) (λ b k. known b (List·Memᴰ·tail k))
-
 last-map : (f : ℕ → ℕ) (from : ℕ) (q : List ℕ) → f (lastOr from q) ≡ lastOr (f from) (map f q)
 unfolding lastOr
 last-map f from [] = refl
@@ -88,8 +84,7 @@ module _ (pairs : List ℕ) (hears : ℕ → ℕ → Bool) (nodes : List Repeate
 
   one : (a b : ℕ) → a < length nodes → b < length nodes → at addresses a ≡ at addresses b → a ≡ b
   one a b ha hb e =
-      same-place (λ x. x) addresses a b (subst List·Nodup (sym (map-id addresses)) (all .addresses-differ))
-      (at-place addresses a (omega (arith, long))) (at-place addresses b (omega (arith, long))) e
+      one-place addresses (all .addresses-differ) a b (omega (arith, long)) (omega (arith, long)) e
 
   address-at : (place : ℕ) (n : Repeater) → getElem? nodes place ≡ some n → at addresses place ≡ address n
   address-at place n n-at =

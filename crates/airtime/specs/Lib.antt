@@ -1,2 +1,1 @@
 pub mod Airtime
-pub mod Marks

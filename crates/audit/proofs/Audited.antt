@@ -11,6 +11,7 @@ use Rattle.transmit_queue.proofs.TransmitQueue.{transmit-queue}
 use Rattle.queue_level.proofs.QueueLevel.{queue-level}
 use Rattle.least_reach.proofs.LeastReach.{least-reach}
 use Rattle.own_network.proofs.OwnNetwork.{own-network}
+use Rattle.own_network.proofs.OwnReach.{own-reach}
 use Rattle.two_editions.proofs.TwoEditions.{two-editions}
 use Rattle.reliable_messages.proofs.ReliableMessages.{reliable-messages}
 use Rattle.two_lists.proofs.TwoLists.{two-lists}
@@ -38,4 +39,5 @@ audited =
       w211 = two-lists;
       w212 = encrypted-payloads;
       own-network = own-network;
+      own-reach = own-reach;
     }

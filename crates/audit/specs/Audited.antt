@@ -13,6 +13,7 @@ use Rattle.transmit_queue.specs.TransmitQueue.{TransmitQueue}
 use Rattle.queue_level.specs.QueueLevel.{QueueLevel}
 use Rattle.least_reach.specs.LeastReach.{LeastReach}
 use Rattle.own_network.specs.OwnNetwork.{OwnNetwork}
+use Rattle.own_network.specs.OwnReach.{OwnReach}
 use Rattle.two_editions.specs.TwoEditions.{TwoEditions}
 use Rattle.reliable_messages.specs.ReliableMessages.{ReliableMessages}
 use Rattle.two_lists.specs.TwoLists.{TwoLists}
@@ -38,5 +39,6 @@ pub record Audited : Type 0 where
   pub w210 : ReliableMessages
   pub w211 : TwoLists
   pub w212 : EncryptedPayloads
-  -- and how often one message goes out on a network of which it is known who hears whom
+  -- and of a network of which it is known who hears whom: how often one message goes out, and whom it reaches
   pub own-network : OwnNetwork
+  pub own-reach : OwnReach

@@ -19,6 +19,7 @@ use Rattle.chains.specs.declared.Least.the-variants.{HopLimit, Unreachab
 
 -- one node
 one-delivered : (h value : ℕ) → flag (isMissed h value) ≡ 0 → 0 < value → isDelivered h value ≡ true
+unfolding isMissed
 one-delivered h value none some =
     go (isDelivered h value) (sym (ap (λ (b : Bool). flag (b && not (isDelivered h value))) (lt-ltb 0 value some)) ∙ none)
   where
@@ -27,6 +28,7 @@ one-delivered h value none some =
     go false e = absurd (omega (arith, e))
 
 one-missed : (h value : ℕ) → (0 < value → isDelivered h value ≡ true) → flag (isMissed h value) ≡ 0
+unfolding isMissed
 one-missed h value delivered =
     by-cases (decLt 0 value)
     (λ some. ap (λ (b : Bool). flag (ltb 0 value && not b)) (delivered some) ∙ ap flag (and-false (ltb 0 value)))
@@ -50,6 +52,7 @@ all-delivered h (value ∷ lengths) all =
 
 -- the number missed is that of the places out of reach
 is-out : (h value : ℕ) → isMissed h value ≡ true → (0 < value) × (isDelivered h value ≡ false)
+unfolding isMissed
 is-out h value is =
     by-cases (decLt 0 value)
     (λ some. (some, go (isDelivered h value) (sym (ap (λ (b : Bool). b && not (isDelivered h value)) (lt-ltb 0 value some)) ∙ is)))
@@ -63,6 +66,7 @@ is-out h value is =
     differ e = let w : _≡_ {A = ℕ} 0 1 = cc in omega (arith, w)
 
 is-not-out : (h value : ℕ) → isMissed h value ≡ false → 0 < value → isDelivered h value ≡ false → ⊥
+unfolding isMissed
 is-not-out h value is some not-delivered =
     let tests : (true && true) ≡ isMissed h value =
     sym (ap (λ (b : Bool). b && not (isDelivered h value)) (lt-ltb 0 value some) ∙ ap not not-delivered) in
@@ -174,17 +178,17 @@ module _ (lengths : List ℕ) where
           (λ ne. below k h (omega arith) (omega arith))
 
   pub least : (h : ℕ) → leastHop lengths ≡ HopLimit h
-      → (h ≤ 6) × AllDelivered h lengths × ((less : ℕ) → less < h → ¬ AllDelivered less lengths)
+      → (h ≤ 7) × AllDelivered h lengths × ((less : ℕ) → less < h → ¬ AllDelivered less lengths)
   unfolding leastHop
   least h is =
-      let (low, high, all, some) = least-from 7 0 h is in
+      let (low, high, all, some) = least-from 8 0 h is in
       (omega arith, none-missed h lengths all, λ less under delivered. some less (omega arith) under (all-delivered less lengths delivered))
 
-  pub unreachable : leastHop lengths ≡ Unreachable → (h : ℕ) → h ≤ 6 → ¬ AllDelivered h lengths
+  pub unreachable : leastHop lengths ≡ Unreachable → (h : ℕ) → h ≤ 7 → ¬ AllDelivered h lengths
   unfolding leastHop
-  unreachable is h small delivered = none-from 7 0 is h (omega arith) (omega arith) (all-delivered h lengths delivered)
+  unreachable is h small delivered = none-from 8 0 is h (omega arith) (omega arith) (all-delivered h lengths delivered)
 
-  pub least-only : (h : ℕ) → h ≤ 6 → AllDelivered h lengths → ((less : ℕ) → less < h → ¬ AllDelivered less lengths) → leastHop lengths ≡ HopLimit h
+  pub least-only : (h : ℕ) → h ≤ 7 → AllDelivered h lengths → ((less : ℕ) → less < h → ¬ AllDelivered less lengths) → leastHop lengths ≡ HopLimit h
   least-only h small all some = go (leastHop lengths) refl
     where
       go : (told : Least) → leastHop lengths ≡ told → told ≡ HopLimit h
@@ -197,7 +201,7 @@ module _ (lengths : List ℕ) where
           (λ more. absurd (k-some h more all))
           (λ not-more. let same : k ≡ h = omega arith in ap HopLimit same))
 
-  pub unreachable-only : ((h : ℕ) → h ≤ 6 → ¬ AllDelivered h lengths) → leastHop lengths ≡ Unreachable
+  pub unreachable-only : ((h : ℕ) → h ≤ 7 → ¬ AllDelivered h lengths) → leastHop lengths ≡ Unreachable
   unreachable-only never = go (leastHop lengths) refl
     where
       go : (told : Least) → leastHop lengths ≡ told → told ≡ Unreachable

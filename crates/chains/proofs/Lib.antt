@@ -1,9 +1,11 @@
 pub mod Bytes
 pub mod Steps
 pub mod Fewer
+pub mod Hearings
 pub mod Rounds
 pub mod Noting
 pub mod Finding
 pub mod Reaching
 pub mod Hops
 pub mod Outcomes
+pub mod Failing

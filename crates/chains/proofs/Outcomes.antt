@@ -8,16 +8,17 @@ use native.Mathlib.Omega.{arith}
 use lib.ListN.{length}
 use lib.Seq.{ext-getD}
 use Rattle.octets.specs.Octets.{at}
-use Rattle.chains.specs.Lengths.{isHeard, placesOfNodes, Tells, LengthsFound}
+use Rattle.chains.specs.Lengths.{placesOfNodes, relays, Tells, LengthsFound}
 use Rattle.chains.proofs.Steps.{shortest-one}
+use Rattle.chains.proofs.Finding.{is-served}
 
-module _ (pairs : List ℕ) (from : ℕ) where
-  pub tells-one : (n to v w : ℕ) → Tells pairs n from to v → Tells pairs n from to w → v ≡ w
-  tells-one n to v w t u =
+module _ (pairs marks : List ℕ) (from failed : ℕ) where
+  pub tells-one : (to v w : ℕ) → Tells pairs marks from failed to v → Tells pairs marks from failed to w → v ≡ w
+  tells-one to v w t u =
       ⊎-elim {C = v ≡ w}
       (λ s.
       ⊎-elim {C = v ≡ w}
-      (λ s′. shortest-one (isHeard pairs) (placesOfNodes n) from v w (s .1) (s′ .1))
+      (λ s′. shortest-one (relays pairs marks from failed) (placesOfNodes (length marks)) from v w (s .1) (s′ .1))
       (λ none. absurd (none .1 v (s .1 .chain)))
       u)
       (λ none.
@@ -27,16 +28,20 @@ module _ (pairs : List ℕ) (from : ℕ) where
       u)
       t
 
-  pub one-outcome : (before : List ℕ) (done done′ : Bool) (after after′ : List ℕ)
-      → LengthsFound pairs from before done after → LengthsFound pairs from before done′ after′ → (done ≡ done′) × (after ≡ after′)
+  -- where it is done, the lengths have a byte for each node
+  pub as-long : (before after : List ℕ) → LengthsFound pairs marks from failed before true after → length after ≡ length marks
+  as-long before after f = f .size ∙ is-served (length marks) from (length before) (sym (f .answer)) .as-many
+
+  pub one-outcome : (before : List ℕ) (done done′ : Bool) (after after′ : List ℕ) → LengthsFound pairs marks from failed before done after
+      → LengthsFound pairs marks from failed before done′ after′ → (done ≡ done′) × (after ≡ after′)
   one-outcome before done done′ after after′ f g =
       let same = f .answer ∙ sym (g .answer) in
-      (same, go done (subst (λ (b : Bool). LengthsFound pairs from before b after′) (sym same) g) f)
+      (same, go done (subst (λ (b : Bool). LengthsFound pairs marks from failed before b after′) (sym same) g) f)
     where
-      go : (b : Bool) → LengthsFound pairs from before b after′ → LengthsFound pairs from before b after → after ≡ after′
+      go : (b : Bool) → LengthsFound pairs marks from failed before b after′ → LengthsFound pairs marks from failed before b after → after ≡ after′
       go true g f =
           ext-getD 0 after after′ (f .size ∙ sym (g .size))
           (λ to below.
-          let known : to < length before = omega (arith, below, f .size) in
-          tells-one (length before) to (at after to) (at after′ to) (f .told refl to known) (g .told refl to known))
+          let known : to < length marks = omega (arith, below, as-long before after f) in
+          tells-one to (at after to) (at after′ to) (f .told refl to known) (g .told refl to known))
       go false g f = f .unchanged refl ∙ sym (g .unchanged refl)

@@ -1,13 +1,13 @@
 -- The reach of a report, as the code counts it. Assumes nothing.
 use mathlib.Core.Path.{_≡_, refl, sym, ap, _∙_}
 use mathlib.Core.Logic.{_≢_, by-cases}
-use mathlib.Core.Bool.{Bool, true, false, not, and-false, and-true}
+use mathlib.Core.Bool.{Bool, true, false, not, and-false, _||_}
 use mathlib.Core.List.{List, [], _∷_}
 use Prim.Native.Nat.{ℕ, zero, suc, _+_, _-_, _≤_, _<_}
 use native.Mathlib.Omega.{arith}
 use native.Mathlib.Decide.{decLt}
 use borrow.Author.Tests.{lt-ltb, le-ltb, le-leb, lt-leb, eq-eqb, ne-eqb}
-use lib.Dec.{ltb, leb}
+use lib.Dec.{eqb, ltb, leb}
 use lib.ListN.{length, drop, drop-of-length-le}
 use Rattle.octets.specs.Octets.{at}
 use Rattle.octets.specs.Numbers.{flag}
@@ -16,11 +16,12 @@ use Rattle.chains.specs.Reach.{isDelivered, isMissed, missed, leastFrom}
 use Rattle.chains.specs.declared.Least.the-variants.{HopLimit, Unreachable}
 
 pub originator : (h value : ℕ) → value ≡ 0 → false ≡ isDelivered h value
+unfolding isDelivered
 originator h value is = rw (le-ltb 0 value (omega (arith, is))) refl
 
 pub unreached : (h value : ℕ) → value ≡ noChain → false ≡ isDelivered h value
-unreached h value is =
-    rw (le-ltb value noChain (omega (arith, is))) (rw (and-false (leb value (h + 1))) (rw (and-false (ltb 0 value)) refl))
+unfolding isDelivered
+unreached h value is = rw (le-ltb value noChain (omega (arith, is))) (rw (and-false (ltb 0 value)) refl)
 
 same-test : (h value : ℕ) → value ≢ 0 → leb (value - 1) h ≡ leb value (h + 1)
 same-test h value ne =
@@ -28,16 +29,25 @@ same-test h value ne =
     (λ above. lt-leb (value - 1) h above ∙ sym (lt-leb value (h + 1) (omega (arith, above))))
     (λ within. le-leb (value - 1) h (omega (arith, within)) ∙ sym (le-leb value (h + 1) (omega (arith, within, ne))))
 
-pub within : (h value : ℕ) → value ≢ 0 → value ≢ noChain → value < 256 → leb (value - 1) h ≡ isDelivered h value
-within h value ne chain fits =
+has-chain : (h value : ℕ) → value ≢ 0 → value ≢ noChain → value < 256 → isDelivered h value ≡ (eqb h 7 || leb value (h + 1))
+unfolding isDelivered
+has-chain h value ne chain fits =
     let some : ltb 0 value ≡ true = lt-ltb 0 value (omega (arith, ne)) in
     let told : ltb value noChain ≡ true = lt-ltb value noChain (omega (arith, chain, fits)) in
-    same-test h value ne ∙ sym (rw some (rw told (and-true (leb value (h + 1)))))
+    rw some (rw told refl)
+
+pub any-chain : (h value : ℕ) → value ≢ 0 → value ≢ noChain → value < 256 → h ≡ 7 → true ≡ isDelivered h value
+any-chain h value ne chain fits seven = sym (has-chain h value ne chain fits ∙ rw (eq-eqb h 7 seven) refl)
+
+pub within : (h value : ℕ) → value ≢ 0 → value ≢ noChain → value < 256 → h ≢ 7 → leb (value - 1) h ≡ isDelivered h value
+within h value ne chain fits other = same-test h value ne ∙ sym (has-chain h value ne chain fits ∙ rw (ne-eqb h 7 other) refl)
 
 pub not-missed : (h value : ℕ) → value ≤ 0 → false ≡ isMissed h value
+unfolding isMissed
 not-missed h value none = rw (le-ltb 0 value none) refl
 
 pub missed-is : (h value : ℕ) (t : Bool) → 0 < value → t ≡ isDelivered h value → not t ≡ isMissed h value
+unfolding isMissed
 missed-is h value t some is = ap not is ∙ sym (rw (lt-ltb 0 value some) refl)
 
 -- one value more

@@ -1,7 +1,7 @@
 -- What is known after each round. Assumes nothing.
 use mathlib.Core.Path.{_≡_, refl, sym, ap, subst, _∙_}
 use mathlib.Core.Logic.{_≢_, _⊎_, inl, inr, by-cases, ⊎-elim}
-use mathlib.Core.Bool.{Bool, true, false, cond, _&&_, _||_, or-true, false≢true}
+use mathlib.Core.Bool.{Bool, true, false, cond, _&&_, false≢true}
 use mathlib.Core.List.{List, [], _∷_}
 use Prim.Native.Nat.{ℕ, zero, suc, _+_, _-_, _≤_, _<_}
 use native.Mathlib.Omega.{arith}
@@ -13,9 +13,10 @@ use lib.Seq.{getD-set-same, getD-set-other}
 use Rattle.octets.specs.Octets.{at}
 use Rattle.octets.proofs.Tests.{both}
 use Rattle.chains.specs.Chains.{Chain, Shortest, Beyond}
-use Rattle.chains.specs.Lengths.{isHeard, placesOfNodes, noChain, Tells}
+use Rattle.chains.specs.Lengths.{isHeard, placesOfNodes, noChain, isUsable, relays, Tells}
 use Rattle.chains.specs.Rounds.{beforeRounds, isTold, noted, afterRound, NoneTold}
 use Rattle.chains.proofs.Steps.{chain-none, chain-is-none, chain-next, chain-last, chain-known, shortest-before, shortest-one}
+use Rattle.chains.proofs.Hearings.{later, first-heard, rest-heard, relayed-parts, relayed}
 use Rattle.chains.proofs.Fewer.{in-places, below-places, shortest-below}
 
 pub told-is : (lengths : List ℕ) (place value : ℕ) → isTold lengths place value ≡ true → (place < length lengths) × (at lengths place ≡ value)
@@ -28,27 +29,15 @@ pub is-told : (lengths : List ℕ) (place value : ℕ) → place < length length
 unfolding isTold
 is-told lengths place value below is = rw (lt-ltb place (length lengths) below) (eq-eqb (at lengths place) value is)
 
--- a hearing that is not the first pair's is one of the rest
-later : (a b : ℕ) (rest : List ℕ) (via to : ℕ) → isHeard (a ∷ b ∷ rest) via to ≡ true → (a ≡ via → b ≡ to → ⊥) → isHeard rest via to ≡ true
-unfolding isHeard
-later a b rest via to h differ = go (eqb a via) refl (eqb b to) refl h
-  where
-    go : (p : Bool) → eqb a via ≡ p → (q : Bool) → eqb b to ≡ q → ((p && q) || isHeard rest via to) ≡ true → isHeard rest via to ≡ true
-    go true p true q h = absurd (differ (eqb-true a via p) (eqb-true b to q))
-    go true p false q h = h
-    go false p q e h = h
+module _ (pairs marks : List ℕ) (from failed : ℕ) where
+  abbrev n : ℕ
+  n = length marks
 
-pub first-heard : (a b : ℕ) (rest : List ℕ) → isHeard (a ∷ b ∷ rest) a b ≡ true
-unfolding isHeard
-first-heard a b rest = rw (eq-eqb a a refl) (rw (eq-eqb b b refl) refl)
-
-pub rest-heard : (a b : ℕ) (rest : List ℕ) (via to : ℕ) → isHeard rest via to ≡ true → isHeard (a ∷ b ∷ rest) via to ≡ true
-unfolding isHeard
-rest-heard a b rest via to h = rw h (or-true (eqb a via && eqb b to))
-
-module _ (pairs : List ℕ) (n from : ℕ) where
   abbrev hears : ℕ → ℕ → Bool
-  hears = isHeard pairs
+  hears = relays pairs marks from failed
+
+  abbrev usable : ℕ → ℕ → Bool
+  usable = isUsable marks from failed
 
   abbrev Reached : ℕ → ℕ → Type 0
   Reached to k = Shortest hears (placesOfNodes n) from to k
@@ -83,7 +72,7 @@ module _ (pairs : List ℕ) (n from : ℕ) where
               (λ t. let small : at lengths to ≤ k = t .0 in absurd (omega (arith, small, e)))
               (λ t. t .1)
               (known .each to below),
-          λ via c h. h,
+          λ via c h. relayed-parts pairs marks from failed via to h .0,
         );
       }
 
@@ -140,7 +129,7 @@ module _ (pairs : List ℕ) (n from : ℕ) where
       beyond (suc (at lengths a)) (omega (arith, not-above, ne a-in))
       (chain-next hears (placesOfNodes n) from (at lengths a) (s .chain) (in-places n b b-in) h)))
 
-  unchanged : (k a b : ℕ) (rest lengths : List ℕ) → (b < n → at lengths b ≡ noChain → ¬ Chain hears (placesOfNodes n) from a k)
+  unchanged : (k a b : ℕ) (rest lengths : List ℕ) → (b < n → at lengths b ≡ noChain → hears a b ≡ true → ¬ Chain hears (placesOfNodes n) from a k)
       → During k (a ∷ b ∷ rest) lengths → During k rest lengths
   unchanged k a b rest lengths settled d =
       record {
@@ -152,7 +141,7 @@ module _ (pairs : List ℕ) (n from : ℕ) where
               λ via c h.
                   later a b rest via to (waiting via c h)
                   (λ a-is b-is.
-                  settled (subst (λ (x : ℕ). x < n) (sym b-is) below) (ap (at lengths) b-is ∙ e)
+                  settled (subst (λ (x : ℕ). x < n) (sym b-is) below) (ap (at lengths) b-is ∙ e) ((λ i. hears (a-is i) (b-is i)) ∙ h)
                   (subst (λ (x : ℕ). Chain hears (placesOfNodes n) from x k) (sym a-is) c)),
             );
       }
@@ -182,38 +171,40 @@ module _ (pairs : List ℕ) (n from : ℕ) where
             (beyond, λ via c w. later a b rest via to (waiting via c w) (λ a-same b-same. other (sym b-same))));
       }
 
-  step : from < n → (k a b : ℕ) (rest lengths : List ℕ) → k + 1 < noChain → hears a b ≡ true
-      → During k (a ∷ b ∷ rest) lengths → During k rest (noted k a b lengths)
+  step : from < n → (k a b : ℕ) (rest lengths : List ℕ) → k + 1 < noChain → isHeard pairs a b ≡ true
+      → During k (a ∷ b ∷ rest) lengths → During k rest (noted usable k a b lengths)
   unfolding noted
-  step begins k a b rest lengths few h d = go (isTold lengths a k) refl (isTold lengths b noChain) refl
+  step begins k a b rest lengths few heard d = go (isTold lengths a k) refl (isTold lengths b noChain) refl (usable a b) refl
     where
-      go : (p : Bool) → isTold lengths a k ≡ p → (q : Bool) → isTold lengths b noChain ≡ q
-          → During k rest (cond (p && q) (set lengths b (k + 1)) lengths)
-      go true p true q =
+      go : (p : Bool) → isTold lengths a k ≡ p → (q : Bool) → isTold lengths b noChain ≡ q → (u : Bool) → usable a b ≡ u
+          → During k rest (cond (p && (q && u)) (set lengths b (k + 1)) lengths)
+      go true p true q true u =
           let (a-at, a-is) = told-is lengths a k p in
           let (b-at, b-is) = told-is lengths b noChain q in
-          changed k a b rest lengths few h (omega (arith, a-at, d .size)) a-is (omega (arith, b-at, d .size)) b-is d
-      go true p false q =
+          changed k a b rest lengths few (relayed pairs marks from failed a b heard u) (omega (arith, a-at, d .size)) a-is (omega (arith, b-at, d .size)) b-is d
+      go true p true q false u =
+          unchanged k a b rest lengths (λ b-in b-is h c. false≢true (sym u ∙ relayed-parts pairs marks from failed a b h .1)) d
+      go true p false q u r =
           unchanged k a b rest lengths
-          (λ b-in b-is c. false≢true (sym q ∙ is-told lengths b noChain (omega (arith, b-in, d .size)) b-is)) d
-      go false p q e =
+          (λ b-in b-is h c. false≢true (sym q ∙ is-told lengths b noChain (omega (arith, b-in, d .size)) b-is)) d
+      go false p q e u r =
           unchanged k a b rest lengths
-          (λ b-in b-is.
+          (λ b-in b-is h.
           not-noted begins k a b lengths (λ a-in a-is. false≢true (sym p ∙ is-told lengths a k (omega (arith, a-in, d .size)) a-is)) d b-in b-is h)
           d
 
-  round : from < n → (k : ℕ) (rest lengths : List ℕ) → k + 1 < noChain → ((s t : ℕ) → isHeard rest s t ≡ true → hears s t ≡ true)
-      → During k rest lengths → During k [] (afterRound k rest lengths)
+  round : from < n → (k : ℕ) (rest lengths : List ℕ) → k + 1 < noChain → ((s t : ℕ) → isHeard rest s t ≡ true → isHeard pairs s t ≡ true)
+      → During k rest lengths → During k [] (afterRound usable k rest lengths)
   unfolding afterRound isHeard
   round begins k [] lengths few part d = d
   round begins k (x ∷ []) lengths few part d = record { size = d .size; told = d .told; untold = d .untold }
   round begins k (a ∷ b ∷ rest) lengths few part d =
-      round begins k rest (noted k a b lengths) few (λ s t h. part s t (rest-heard a b rest s t h))
+      round begins k rest (noted usable k a b lengths) few (λ s t h. part s t (rest-heard a b rest s t h))
       (step begins k a b rest lengths few (part a b (first-heard a b rest)) d)
 
-  pub known-after : from < n → (k : ℕ) (lengths : List ℕ) → k + 1 < noChain → Known k lengths → Known (k + 1) (afterRound k pairs lengths)
+  pub known-after : from < n → (k : ℕ) (lengths : List ℕ) → k + 1 < noChain → Known k lengths → Known (k + 1) (afterRound usable k pairs lengths)
   known-after begins k lengths few known =
-      known-next k (afterRound k pairs lengths) (round begins k pairs lengths few (λ s t h. h) (during-first k lengths (omega (arith, few)) known))
+      known-next k (afterRound usable k pairs lengths) (round begins k pairs lengths few (λ s t h. h) (during-first k lengths (omega (arith, few)) known))
 
   pub known-first : from < n → Known 0 (beforeRounds n from)
   unfolding beforeRounds
@@ -242,9 +233,9 @@ module _ (pairs : List ℕ) (n from : ℕ) where
 
   -- where no shortest chain is longer, all is told
   pub all-told : from < n → (k : ℕ) (lengths : List ℕ) → n ≤ noChain → ((to j : ℕ) → k < j → ¬ Shortest hears (placesOfNodes n) from to j)
-      → Known k lengths → (to : ℕ) → to < n → Tells pairs n from to (at lengths to)
+      → Known k lengths → (to : ℕ) → to < n → Tells pairs marks from failed to (at lengths to)
   all-told begins k lengths few none known to below =
-      ⊎-elim {C = Tells pairs n from to (at lengths to)}
+      ⊎-elim {C = Tells pairs marks from failed to (at lengths to)}
       (λ t. inl (omega (arith, few, shortest-below hears n from begins (at lengths to) to (t .1)), t .1))
       (λ t. inr (t .0, λ j c. never (t .1) j j (omega arith) c))
       (known .each to below)

@@ -1,13 +1,21 @@
 -- Chains, one hearing at a time, over any relation. Assumes nothing.
 use mathlib.Core.Path.{_≡_, refl, sym, ap, _∙_}
-use mathlib.Core.Logic.{⊎-elim, by-cases}
+use mathlib.Core.Logic.{_⊎_, inl, inr, ⊎-elim, by-cases}
 use mathlib.Core.Bool.{Bool, true, false, cond, _||_, or-true, false≢true}
 use mathlib.Core.List.{List, [], _∷_, List·Memᴰ, List·Memᴰ·head, List·Memᴰ·tail, List·Memᴰ·cases-cons, List·Memᴰ·not-nil, List·Memᴰ·eq-of-singleton}
 use mathlib.Core.List.{Memᴰ·cast}
 use Prim.Native.Nat.{ℕ, zero, suc}
 use native.Mathlib.Omega.{arith}
-use native.Mathlib.Decide.{decLt}
+use native.Mathlib.Decide.{decLt, ℕ-discrete}
 use Rattle.chains.specs.Chains.{hearsOne, hearers, ends, Chain, Shortest}
+
+-- whether a number is in a list
+pub sought : (a : ℕ) (l : List ℕ) → List·Memᴰ a l ⊎ (¬ List·Memᴰ a l)
+sought a [] = inr List·Memᴰ·not-nil
+sought a (x ∷ l) =
+    by-cases (ℕ-discrete a x)
+    (λ same. inl (List·Memᴰ·head same))
+    (λ other. ⊎-elim (λ m. inl (List·Memᴰ·tail m)) (λ new. inr (λ m. ⊎-elim other new (List·Memᴰ·cases-cons m))) (sought a l))
 
 module _ (hears : ℕ → ℕ → Bool) where
   -- a sender that a node hears

@@ -1,6 +1,7 @@
 -- Chains of hearings in a network (document 02, W-208). A node is a number, its address or its place in a list; `hears sender node` says whether the node
 -- hears the sender. It need not go both ways, and a node may hear itself. Assumes nothing.
-use mathlib.Core.Bool.{Bool, false, cond, _||_}
+use mathlib.Core.Path.{_≡_}
+use mathlib.Core.Bool.{Bool, true, false, cond, _||_}
 use mathlib.Core.List.{List, [], _∷_, List·Memᴰ}
 use Prim.Native.Nat.{ℕ, zero, suc, _≤_, _<_}
 
@@ -19,6 +20,12 @@ hearers hears senders (node ∷ nodes) =
 unfoldable pub ends : (ℕ → ℕ → Bool) → List ℕ → ℕ → ℕ → List ℕ
 ends hears nodes from zero = from ∷ []
 ends hears nodes from (suc k) = hearers hears (ends hears nodes from k) nodes
+
+-- the same by its nodes: behind `from` a chain passes them in turn, each one of the nodes that hears the one before it, and ends at the last of them
+pub data Along (hears : ℕ → ℕ → Bool) (nodes : List ℕ) : ℕ → List ℕ → ℕ → Type 0 where
+  arrived : {from : ℕ} → Along hears nodes from [] from
+  onward : {from next to : ℕ} {passed : List ℕ} → List·Memᴰ next nodes → hears from next ≡ true → Along hears nodes next passed to
+      → Along hears nodes from (next ∷ passed) to
 
 module _ (hears : ℕ → ℕ → Bool) (nodes : List ℕ) (from to : ℕ) where
   -- a chain of k hearings leads from the one to the other

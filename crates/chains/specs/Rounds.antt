@@ -16,15 +16,17 @@ beforeRounds n from = set (replicate n noChain) from 0
 unfoldable pub isTold : List ℕ → ℕ → ℕ → Bool
 isTold lengths place value = ltb place (length lengths) && eqb (at lengths place) value
 
--- one hearing in round k: a node without a length so far that hears one of length k is told one more
-unfoldable pub noted : ℕ → ℕ → ℕ → List ℕ → List ℕ
-noted k sender node lengths = cond (isTold lengths sender k && isTold lengths node noChain) (set lengths node (k + 1)) lengths
+-- one hearing in round k, if it is usable: a node without a length so far that hears one of length k is told one more
+module _ (usable : ℕ → ℕ → Bool) (k : ℕ) where
+  unfoldable pub noted : ℕ → ℕ → List ℕ → List ℕ
+  noted sender node lengths =
+      cond (isTold lengths sender k && (isTold lengths node noChain && usable sender node)) (set lengths node (k + 1)) lengths
 
--- round k over all pairs
-unfoldable pub afterRound : ℕ → List ℕ → List ℕ → List ℕ
-afterRound k [] lengths = lengths
-afterRound k (last ∷ []) lengths = lengths
-afterRound k (sender ∷ node ∷ pairs) lengths = afterRound k pairs (noted k sender node lengths)
+  -- round k over all pairs
+  unfoldable pub afterRound : List ℕ → List ℕ → List ℕ
+  afterRound [] lengths = lengths
+  afterRound (last ∷ []) lengths = lengths
+  afterRound (sender ∷ node ∷ pairs) lengths = afterRound pairs (noted sender node lengths)
 
 -- no node is told that value: after round k, of k + 1, the rounds are over
 abbrev pub NoneTold : List ℕ → ℕ → Type 0

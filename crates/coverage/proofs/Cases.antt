@@ -30,7 +30,7 @@ use Rattle.coverage.specs.Delivery.{Planned, Delivered}
 use Rattle.coverage.specs.Cases.{reportAsked, reading, repeater, tell, toldAlong, toldOfEach, nextInLine, lineAddresses, lineReceptions, lineAir}
 use Rattle.coverage.specs.Cases.{lineTold, written, twoWays, twoWaysAddresses, longerFirst}
 use Rattle.coverage.proofs.Checked.{absent, distinct, all, all-pass, below, below-pass, happens, areTaken, checked}
-use Rattle.coverage.proofs.Covered.{by-shortest, reach}
+use Rattle.coverage.proofs.Planned.{by-shortest, reach}
 use Rattle.coverage.proofs.Schedule.{within}
 
 not-true : (t : Bool) → not t ≡ true → t ≡ false
@@ -38,7 +38,7 @@ not-true true e = sym e
 not-true false e = refl
 
 -- addresses that differ
-unfoldable differing : List ℕ → Bool
+unfoldable pub differing : List ℕ → Bool
 differing [] = true
 differing (a ∷ later) = not (inPath a later) && differing later
 
@@ -54,7 +54,7 @@ unfolding fresh freshHeader encode headerBytes pathBytes
 report-length hop = refl
 
 -- what the theorem asks of the message and of the nodes
-planned : (addresses : List ℕ) → differing addresses ≡ true → all (λ a. ltb a 65536) addresses ≡ true → (hop : ℕ) → hop ≤ 6
+pub planned : (addresses : List ℕ) → differing addresses ≡ true → all (λ a. ltb a 65536) addresses ≡ true → (hop : ℕ) → hop ≤ 6
     → Planned (map repeater addresses) (reportAsked hop) reading 100
 planned addresses apart fit hop few =
     record {
@@ -159,12 +159,12 @@ two-ways-ends = refl
 
 -- THE THEOREM OF THESE RUNS. An address that no chain of so many hearings leads to, by computation.
 module _ (hears : ℕ → ℕ → Bool) (addresses : List ℕ) (to : ℕ) where
-  no-chain : (k : ℕ) → below (λ j. not (inPath to (ends hears addresses 1000 j))) k ≡ true → (j : ℕ) → j < k → ¬ Chain hears addresses 1000 to j
+  pub no-chain : (k : ℕ) → below (λ j. not (inPath to (ends hears addresses 1000 j))) k ≡ true → (j : ℕ) → j < k → ¬ Chain hears addresses 1000 to j
   no-chain k e j few =
       not-in-path to (ends hears addresses 1000 j)
       (not-true (inPath to (ends hears addresses 1000 j)) (below-pass (λ j. not (inPath to (ends hears addresses 1000 j))) k e j few))
 
-  shortest-is : (k : ℕ) → below (λ j. not (inPath to (ends hears addresses 1000 j))) k ≡ true → Chain hears addresses 1000 to k
+  pub shortest-is : (k : ℕ) → below (λ j. not (inPath to (ends hears addresses 1000 j))) k ≡ true → Chain hears addresses 1000 to k
       → Shortest hears addresses 1000 to k
   shortest-is k e c = record { chain = c; none-shorter = no-chain k e }
 

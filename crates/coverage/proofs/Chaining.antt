@@ -2,18 +2,12 @@
 use mathlib.Core.Path.{_≡_, subst}
 use mathlib.Core.Logic.{_⊎_, inl, inr, ⊎-elim, by-cases}
 use mathlib.Core.Bool.{Bool}
-use mathlib.Core.List.{List, [], _∷_, List·Memᴰ, List·Memᴰ·head, List·Memᴰ·tail, List·Memᴰ·cases-cons, List·Memᴰ·not-nil}
+use mathlib.Core.List.{List}
 use Prim.Native.Nat.{ℕ, zero, suc, _≤_}
 use native.Mathlib.Omega.{arith}
 use native.Mathlib.Decide.{ℕ-discrete}
+use Rattle.chains.proofs.Steps.{sought}
 use Rattle.chains.specs.Chains.{ends, Chain, Shortest, Beyond}
-
-sought : (a : ℕ) (l : List ℕ) → List·Memᴰ a l ⊎ (¬ List·Memᴰ a l)
-sought a [] = inr List·Memᴰ·not-nil
-sought a (x ∷ l) =
-    by-cases (ℕ-discrete a x)
-    (λ same. inl (List·Memᴰ·head same))
-    (λ other. ⊎-elim (λ m. inl (List·Memᴰ·tail m)) (λ new. inr (λ m. ⊎-elim other new (List·Memᴰ·cases-cons m))) (sought a l))
 
 module _ (hears : ℕ → ℕ → Bool) (nodes : List ℕ) (from to : ℕ) where
   -- a shortest chain of at most so many hearings, where there is one

@@ -1,248 +1,256 @@
--- WHO IS DELIVERED A MESSAGE, of any PDU that begins a flood, for everyone and with a hop limit below 7: the nodes at the end of a chain of hearings
--- that is no longer than the hop limit and one. Assumes nothing.
+-- WHO IS DELIVERED A MESSAGE, of any PDU that begins a flood: the nodes that let it in at the end of a chain of hearings through nodes that can repeat it,
+-- as long as the hop limit lasts. Assumes nothing.
 use mathlib.Core.Path.{_≡_, refl, sym, ap, subst, _∙_}
-use mathlib.Core.Logic.{_≢_, ⊎-elim}
-use mathlib.Core.Bool.{Bool, true, false}
-use mathlib.Core.Option.{some, Option·some-injective}
-use mathlib.Core.List.{List, [], _∷_, _++_, map, List·Memᴰ, List·Memᴰ·head, List·Memᴰ·not-nil, List·Memᴰ·append-cases, List·Memᴰ·eq-of-singleton}
-use mathlib.Core.List.{Memᴰ·cast, Memᴰ·map, Memᴰ·of-map, Memᴰ·append-right}
-use Prim.Native.Nat.{ℕ, zero, suc, _+_, _*_, _≤_, _<_}
+use mathlib.Core.Logic.{_≢_, _⊎_, inl, inr, ⊎-elim, by-cases}
+use mathlib.Core.Bool.{Bool, true, false, _||_, or-true, false≢true}
+use mathlib.Core.List.{List, [], _∷_, _++_, map, List·Memᴰ, List·Memᴰ·head, List·Memᴰ·tail, List·Memᴰ·append-cases}
+use mathlib.Core.List.{List·Memᴰ·eq-of-singleton, Memᴰ·cast, Memᴰ·map, Memᴰ·of-map, List·Nodup, nodup-nil}
+use Prim.Native.Nat.{ℕ, suc, _+_, _*_, _≤_, _<_}
+use native.Mathlib.Decide.{ℕ-discrete}
 use native.Mathlib.Omega.{arith}
-use borrow.Author.Tests.{eqb-false}
-use lib.ListN.{length, getElem?, length-append}
-use Rattle.octets.proofs.Numbering.{orElse-zero}
-use Rattle.octets.proofs.Tests.{not-both}
-use Rattle.pdu.specs.declared.Destination.the-variants.{Everyone}
+use borrow.Author.Tests.{eq-eqb, eqb-true, eqb-false}
+use lib.Dec.{eqb}
+use lib.ListN.{length, length-append, length-map}
+use Rattle.octets.proofs.Numbering.{orElse-zero, gives-zero}
+use Rattle.octets.proofs.Tests.{both}
+use Rattle.pdu.specs.declared.Destination.{Destination}
+use Rattle.pdu.specs.declared.Header.{Header}
 use Rattle.pdu.specs.Header.{headerOf, sourceOf}
-use Rattle.pdu.specs.Parts.{payloadIn, lastOr}
-use Rattle.pdu.proofs.Senders.{last-none, last-behind}
+use Rattle.pdu.specs.Parts.{payloadIn, lastOr, inPath}
+use Rattle.pdu.specs.Sizes.{pathLimit}
+use Rattle.bound.specs.Bound.{terms}
+use Rattle.bound.proofs.Series.{terms-seven, terms-below}
 use Rattle.chains.specs.Chains.{Chain, Shortest}
-use Rattle.chains.proofs.Steps.{chain-none, chain-is-none, chain-next, chain-last, shortest-before}
-use Rattle.decision.proofs.Dropping.{passed}
-use Rattle.node.specs.Repeat.{repeated}
-use Rattle.node.specs.Answers.{stopFault, deliveryNumber, answerOf}
-use Rattle.flood.specs.Air.{Repeater, address, sends, pathOf, hopOf, onTheAir, Nodes, Open, Begins}
-use Rattle.flood.specs.Complete.{HasHeard}
-use Rattle.flood.specs.Flood.{Reception, others}
-use Rattle.flood.proofs.Demand.{network}
-use Rattle.flood.proofs.Exact.{willing, counted, for-everyone}
-use Rattle.flood.proofs.Invariant.{Fact, Invariant, flooded}
-use Rattle.flood.proofs.Lists.{mem-at, at-mem}
-use Rattle.flood.proofs.Network.{Network}
-use Rattle.flood.proofs.Others.{are-others}
-use Rattle.flood.proofs.Repeaters.{open-can}
-use Rattle.flood.proofs.Runs.{stays, heard-said}
+use Rattle.chains.proofs.Steps.{chain-none, chain-next, chain-last, shortest-before}
+use Rattle.decision.specs.Decision.{isForOwn, repeatFault}
+use Rattle.node.proofs.Heard.{not-in-path}
+use Rattle.flood.specs.Air.{Repeater, address, pathOf, hopOf, onTheAir, repeaters, Nodes, Begins}
+use Rattle.flood.specs.Flood.{Reception}
+use Rattle.flood.proofs.Exact.{counted}
+use Rattle.flood.proofs.Lists.{no-longer, nodup-snoc, mem-at, at-mem}
+use Rattle.flood.proofs.Repeaters.{Can, step-six, repeaters-are, are-repeaters}
 use Rattle.coverage.specs.Hearing.{senderOf, TakenByAll, ByNoOther}
-use Rattle.coverage.specs.Delivery.{Delivered}
-use Rattle.coverage.proofs.Carried.{Carries, node-carries, delivers}
-use Rattle.coverage.proofs.Takers.{taker-hears}
+use Rattle.coverage.specs.Delivery.{LetsIn, Delivered}
+use Rattle.coverage.specs.Reach.{relayed}
+use Rattle.coverage.proofs.Carried.{Carries, carried, delivers, not-to-originator, was-let-in, is-payload}
+use Rattle.coverage.proofs.Paths.{fact, path-walk, walk-sent}
+use Rattle.coverage.proofs.Takers.{taker-hears, taken-happens}
+use Rattle.coverage.proofs.Walks.{Route, route, sender-counts, walk-chain, walk-once, walk-known, last-holds}
 
--- a node at the source address of what it received, echo on, delivers nothing
-not-to-originator : (n : Repeater) (received : List ℕ) → n .node .settings .echo ≡ true → sourceOf received ≡ address n
-    → answerOf (n .node) (n .room) received .delivery ≢ 0
-unfolding answerOf deliveryNumber stopFault
-not-to-originator n received echo same number =
-    let stop = orElse-zero _ _ number .0 in
-    let drop = orElse-zero _ _ (orElse-zero _ _ stop .1) .0 in
-    eqb-false _ _ (not-both _ _ (passed (n .node) (headerOf received) received drop .1) echo) same
+-- membership by the test and in the list
+found : (a : ℕ) (l : List ℕ) → inPath a l ≡ true → List·Memᴰ a l
+unfolding inPath
+found a [] e = absurd (false≢true e)
+found a (x ∷ l) e = go (eqb x a) refl e (found a l)
+  where
+    go : (t : Bool) → eqb x a ≡ t → (t || inPath a l) ≡ true → (inPath a l ≡ true → List·Memᴰ a l) → List·Memᴰ a (x ∷ l)
+    go true is e below = List·Memᴰ·head (sym (eqb-true x a is))
+    go false is e below = List·Memᴰ·tail (below e)
 
--- Nodes of different addresses with echo on, and a PDU that begins a flood.
-module _ (hears : ℕ → ℕ → Bool) (nodes : List Repeater) (all : Nodes nodes) (first : List ℕ) (begins : Begins first) where
-  -- the network's addresses
+is-found : (a : ℕ) (l : List ℕ) → List·Memᴰ a l → inPath a l ≡ true
+is-found a l m = go (inPath a l) refl
+  where
+    go : (t : Bool) → inPath a l ≡ t → t ≡ true
+    go true e = refl
+    go false e = absurd (not-in-path a l e m)
+
+-- the hearings that take a message on are those of its source and of the nodes that can repeat it
+module _ (hears : ℕ → ℕ → Bool) (header : Header) (nodes : List Repeater) where
+  abbrev counts : List ℕ
+  counts = map address (repeaters header nodes)
+
+  pub links : (x y : ℕ) → (x ≡ header .source) ⊎ List·Memᴰ x (map address (repeaters header nodes)) → hears x y ≡ true
+      → relayed hears header nodes x y ≡ true
+  unfolding relayed
+  links x y from heard =
+      ⊎-elim
+      (λ e. rw (eq-eqb x (header .source) e, heard))
+      (λ m. rw (is-found x counts m, or-true (eqb x (header .source)), heard))
+      from
+
+  pub linked : (x y : ℕ) → relayed hears header nodes x y ≡ true
+      → ((x ≡ header .source) ⊎ List·Memᴰ x (map address (repeaters header nodes))) × (hears x y ≡ true)
+  unfolding relayed
+  linked x y e =
+      let (from, heard) = both (eqb x (header .source) || inPath x counts) (hears x y) e in
+      (go (eqb x (header .source)) refl from, heard)
+    where
+      go : (t : Bool) → eqb x (header .source) ≡ t → (t || inPath x counts) ≡ true → (x ≡ header .source) ⊎ List·Memᴰ x counts
+      go true is e = inl (eqb-true x (header .source) is)
+      go false is e = inr (found x counts e)
+
+-- a node that would repeat a message that it lets in can, and hops are left
+would : (n : Repeater) (one header : Header) → one .destination ≡ header .destination → LetsIn header n → address n ≢ header .source
+    → repeatFault (n .node .settings) one ≡ 0 → Can header n × (one .«hop_limit» ≢ 0)
+unfolding repeatFault
+would n one header same lets other no-fault =
+    let (another, on) = step-six n one no-fault in
+    let rest = orElse-zero _ _ (orElse-zero _ _ no-fault .1) .1 in (
+      record {
+        clean = lets .no-fault;
+        not-source = other;
+        lets-pass = lets .lets-pass;
+        for-another = ap (λ (to : Destination). isForOwn (address n) to) (sym same) ∙ another;
+        repeating-on = on;
+      },
+      eqb-false (one .«hop_limit») 0 (gives-zero _ 37 (omega arith) (orElse-zero _ _ rest .0)),
+    )
+
+module _ (hears : ℕ → ℕ → Bool) (nodes : List Repeater) (all : Nodes nodes) (first : List ℕ) (begins : Begins first)
+    (receptions : List Reception) (taken : TakenByAll hears nodes first receptions) where
   abbrev known : List ℕ
   known = map address nodes
 
-  carried : Network sends address (sourceOf first) (Carries first) pathOf hopOf nodes first
-  carried =
-      let net = network nodes all first begins in
-      record {
-        addresses-differ = net .addresses-differ;
-        lawful = λ n m. node-carries first n (all .addresses-fit n m) (all .echo-on n m);
-        first-sound = record { sound = net .first-sound; same-payload = refl; same-added = refl };
-        fresh = net .fresh;
-        hop-fits = net .hop-fits;
-      }
+  abbrev repeating : List ℕ
+  repeating = map address (repeaters (headerOf first) nodes)
 
-  -- Any receptions by those who hear.
-  module _ (receptions : List Reception) (taken : TakenByAll hears nodes first receptions) where
-    abbrev log : List (List ℕ)
-    log = onTheAir nodes first receptions
+  abbrev link : ℕ → ℕ → Bool
+  link = relayed hears (headerOf first) nodes
 
-    facts : (heard : List Reception) × Invariant sends address (sourceOf first) (Carries first) pathOf hopOf nodes first heard log
-        × ((r : Reception) → List·Memᴰ r heard → List·Memᴰ r receptions)
-    facts = flooded sends address (sourceOf first) (Carries first) pathOf hopOf nodes first carried receptions (taken .once)
+  abbrev log : List (List ℕ)
+  log = onTheAir nodes first receptions
 
-    fact : (t : List ℕ) → List·Memᴰ t log
-        → Fact sends address (sourceOf first) (Carries first) pathOf hopOf nodes first (facts .0) log t
-    fact t m = facts .1 .each t m
+  carries : (t : List ℕ) → List·Memᴰ t log → Carries first repeating t
+  carries t m = fact hears nodes all first begins receptions (taken .once) t m .is-sound
 
-    carries : (t : List ℕ) → List·Memᴰ t log → Carries first t
-    carries t m = fact t m .is-sound
+  inside : (a : ℕ) → List·Memᴰ a repeating → List·Memᴰ a known
+  inside a m =
+      let (n, n-counts, is) = Memᴰ·of-map address (repeaters (headerOf first) nodes) m in
+      Memᴰ·cast (sym is) (Memᴰ·map address (repeaters-are (headerOf first) nodes n-counts .0))
 
-    first-sent : List·Memᴰ first log
-    first-sent = stays sends nodes (first ∷ []) receptions (List·Memᴰ·head refl)
+  low : hopOf first ≤ 7
+  low = carried nodes all first begins .hop-fits
 
-    -- who sent a transmission: of one without a path the originator, of another its last address
-    sent-first : (t : List ℕ) → List·Memᴰ t log → pathOf t ≡ [] → senderOf t ≡ sourceOf first
-    sent-first t m e = ap (lastOr (sourceOf t)) e ∙ last-none (sourceOf t) [] refl ∙ carries t m .sound .same-source
+  -- WHAT IS DELIVERED is the payload, to a node that lets it in, and has come along a chain of one hearing more than its path count
+  module _ (n : Repeater) (what : List ℕ) (count : ℕ) (d : Delivered nodes first receptions n what count) where
+    delivered-in : List·Memᴰ (d .received) log
+    delivered-in = at-mem log (d .reception .transmission) (d .received-at)
 
-    sent-again : (t : List ℕ) (p : List ℕ) (a : ℕ) → pathOf t ≡ p ++ (a ∷ []) → senderOf t ≡ a
-    sent-again t p a e = ap (lastOr (sourceOf t)) e ∙ last-behind (sourceOf t) p a
+    path-long : length (pathOf (d .received)) ≡ count
+    path-long = counted first (d .received) (carries (d .received) delivered-in .named .sound) ∙ d .path-count
 
-    -- EVERY SENDER IS AT THE END OF A CHAIN as long as its path
-    sender-chain : ByNoOther hears nodes first receptions
-        → (k : ℕ) (t : List ℕ) → List·Memᴰ t log → length (pathOf t) ≡ k → Chain hears known (sourceOf first) (senderOf t) k
-    sender-chain only zero t m long =
-        ⊎-elim
-        (λ e. Memᴰ·cast (sent-first t m e) (chain-none hears known (sourceOf first)))
-        (λ o. absurd (omega (arith, ap length (o .path-is), length-append (pathOf (o .from)) (address (o .node) ∷ []))))
-        (fact t m .origin)
-    sender-chain only (suc k) t m long =
-        ⊎-elim
-        (λ e. absurd (omega (arith, ap length e)))
-        (λ o.
-        let from-in = at-mem log (o .by .transmission) (o .from-at) in
-        let shorter : length (pathOf (o .from)) ≡ k =
-        omega (arith, ap length (o .path-is), length-append (pathOf (o .from)) (address (o .node) ∷ [])) in
-        let heard = taker-hears hears nodes first receptions only (o .by) (facts .2 (o .by) (o .was-heard)) (o .node) (o .node-at) (o .from) (o .from-at) in
-        Memᴰ·cast {b = address (o .node)} (sent-again t (pathOf (o .from)) (address (o .node)) (o .path-is))
-        (chain-next hears known (sourceOf first) k (sender-chain only k (o .from) from-in shorter)
-        (Memᴰ·map address (at-mem nodes (o .by .node) (o .node-at))) heard))
-        (fact t m .origin)
+    pub delivered-only : (what ≡ payloadIn (headerOf first) first) × (address n ≢ sourceOf first) × LetsIn (headerOf first) n
+    delivered-only =
+        let c = carries (d .received) delivered-in in (
+          is-payload first repeating (d .received) what n c (d .delivers),
+          not-to-originator first repeating (d .received) what n c (d .delivers) (all .echo-on n (at-mem nodes (d .reception .node) (d .node-at))),
+          was-let-in first repeating (d .received) what n c (d .delivers),
+        )
 
-    -- and every node that takes a transmission at the end of one that is longer by one
-    pub taker-chain : ByNoOther hears nodes first receptions
-        → (r : Reception) → List·Memᴰ r receptions → (n : Repeater) → getElem? nodes (r .node) ≡ some n
-        → (t : List ℕ) → getElem? (onTheAir nodes first receptions) (r .transmission) ≡ some t
-        → Chain hears (map address nodes) (sourceOf first) (address n) (suc (length (pathOf t)))
-    taker-chain only r m n n-at t t-at =
-        chain-next hears known (sourceOf first) (length (pathOf t))
-        (sender-chain only (length (pathOf t)) t (at-mem log (r .transmission) t-at) refl)
-        (Memᴰ·map address (at-mem nodes (r .node) n-at)) (taker-hears hears nodes first receptions only r m n n-at t t-at)
+    pub delivered-few : (hopOf first ≡ 7) ⊎ (count ≤ hopOf first)
+    delivered-few =
+        by-cases (ℕ-discrete (hopOf first) 7) inl
+        (λ ne.
+        let steps = fact hears nodes all first begins receptions (taken .once) (d .received) delivered-in .steps (omega (arith, low)) in
+        inr (omega (arith, path-long, steps)))
 
-    -- a reception that was taken happens
-    taken-happens : (r : Reception) → HasHeard sends nodes (first ∷ []) receptions (r .node) (r .transmission) → List·Memᴰ r receptions
-    taken-happens r h = subst (λ (l : List Reception). List·Memᴰ r l) (sym (h .split)) (Memᴰ·append-right (h .before) (List·Memᴰ·head refl))
+    pub delivered-chain : ByNoOther hears nodes first receptions
+        → Chain (relayed hears (headerOf first) nodes) (map address nodes) (sourceOf first) (address n) (suc count)
+    delivered-chain only =
+        let t = d .received in
+        let w = path-walk hears nodes all first begins receptions (taken .once) only t delivered-in in
+        let came : Chain link known (sourceOf first) (lastOr (sourceOf first) (pathOf t)) (length (pathOf t)) =
+        subst (λ (k : ℕ). Chain link known (sourceOf first) (lastOr (sourceOf first) (pathOf t)) k) (omega arith)
+        (walk-chain hears link repeating known (sourceOf first) inside (links hears (headerOf first) nodes) (linked hears (headerOf first) nodes)
+        0 w (inl refl) (chain-none link known (sourceOf first))) in
+        let sender : (lastOr (sourceOf first) (pathOf t) ≡ sourceOf first) ⊎ List·Memᴰ (lastOr (sourceOf first) (pathOf t)) repeating =
+        last-holds (λ a. (a ≡ sourceOf first) ⊎ List·Memᴰ a repeating) (sourceOf first) (pathOf t) (inl refl)
+        (λ a m. inr (carries t delivered-in .named .named a m)) in
+        let heard : hears (lastOr (sourceOf first) (pathOf t)) (address n) ≡ true =
+        ap (λ (x : ℕ). hears (lastOr x (pathOf t)) (address n)) (sym (carries t delivered-in .named .sound .same-source))
+        ∙ taker-hears hears nodes first receptions only (d .reception) (taken-happens nodes first receptions (d .reception) (d .taken)) n (d .node-at) t
+        (d .received-at) in
+        subst (λ (k : ℕ). Chain link known (sourceOf first) (address n) (suc k)) path-long
+        (chain-next link known (sourceOf first) (length (pathOf t)) came
+        (Memᴰ·map address (at-mem nodes (d .reception .node) (d .node-at))) (links hears (headerOf first) nodes _ _ sender heard))
 
-    -- WHAT IS DELIVERED HAS COME ALONG A CHAIN of one hearing more than its path count, and of at most the hop limit and one
-    module _ (n : Repeater) (what : List ℕ) (count : ℕ) (d : Delivered nodes first receptions n what count) where
-      delivered-in : List·Memᴰ (d .received) log
-      delivered-in = at-mem log (d .reception .transmission) (d .received-at)
+  -- EVERY OTHER NODE that lets the message in, at the end of a shortest chain that the hop limit lets it go along, is delivered the payload, with one
+  -- less as the path count. No added header, and each node that can repeat the message has room.
+  module _ (roomy : (n : Repeater) → List·Memᴰ n (repeaters (headerOf first) nodes)
+      → length first + 2 * terms (length (repeaters (headerOf first) nodes)) (hopOf first) ≤ n .room)
+      (fits : (length (repeaters (headerOf first) nodes) ≤ pathLimit) ⊎ (hopOf first < 7))
+      (plain : headerOf first .«added_header» ≡ false) where
+    abbrev most : ℕ
+    most = terms (length (repeaters (headerOf first) nodes)) (hopOf first)
 
-      path-long : length (pathOf (d .received)) ≡ count
-      path-long = counted first (d .received) (carries (d .received) delivered-in .sound) ∙ d .path-count
+    as-many : length repeating ≡ length (repeaters (headerOf first) nodes)
+    as-many = length-map (repeaters (headerOf first) nodes) address
 
-      pub delivered-chain : ByNoOther hears nodes first receptions → Chain hears (map address nodes) (sourceOf first) (address n) (suc count)
-      delivered-chain only =
-          subst (λ (k : ℕ). Chain hears known (sourceOf first) (address n) (suc k)) path-long
-          (taker-chain only (d .reception) (taken-happens (d .reception) (d .taken)) n (d .node-at) (d .received) (d .received-at))
+    -- as long as the nodes and the hop limit let a path be
+    short : (p : List ℕ) → List·Nodup p → ((a : ℕ) → List·Memᴰ a p → List·Memᴰ a repeating) → (hopOf first ≡ 7) ⊎ (length p ≤ hopOf first)
+        → length p ≤ most
+    short p once named lasts =
+        let few = no-longer p repeating once named in
+        let n = length (repeaters (headerOf first) nodes) in
+        by-cases (ℕ-discrete (hopOf first) 7)
+        (λ e. omega (arith, as-many, terms-seven n (hopOf first) e))
+        (λ ne. ⊎-elim (λ e. absurd (ne e)) (λ less. omega (arith, as-many, terms-below n (hopOf first) ne)) lasts)
 
-      pub delivered-few : hopOf first < 7 → count ≤ hopOf first
-      delivered-few low = omega (arith, fact (d .received) delivered-in .steps low, path-long)
+    module _ (n : Repeater) (n-in : List·Memᴰ n nodes) (lets : LetsIn (headerOf first) n) (not-own : address n ≢ sourceOf first)
+        (k b : ℕ) (s : Shortest link known (sourceOf first) (address n) (suc k)) (heard : hears b (address n) ≡ true)
+        (r : Route hears link repeating known (sourceOf first) inside (links hears (headerOf first) nodes) (linked hears (headerOf first) nodes) b k)
+        (t : List ℕ) (t-in : List·Memᴰ t log) (path-is : pathOf t ≡ r .path) where
+      once : List·Nodup (r .path)
+      once = walk-once hears repeating (r .walk) nodup-nil
 
-      -- not to the originator, echo on
-      pub delivered-other : n .node .settings .echo ≡ true → address n ≢ sourceOf first
-      delivered-other echo same =
-          not-to-originator n (d .received) echo (carries (d .received) delivered-in .sound .same-source ∙ sym same) (d .delivers .number)
+      new : ¬ List·Memᴰ (address n) (r .path)
+      new m = let (j, few, c) = r .near (address n) m in s .none-shorter j (omega arith) c
 
-    -- A transmission of the sender at the end of a shortest chain of k hearings, whose path leads along it.
-    pub record Along (a k : ℕ) : Type 0 where
-      pub sent : List ℕ
-      pub in-log : List·Memᴰ sent log
-      pub by-a : senderOf sent ≡ a
-      pub long : length (pathOf sent) ≡ k
-      pub near : (c : ℕ) → List·Memᴰ c (pathOf sent) → (j : ℕ) × (j ≤ k) × Chain hears known (sourceOf first) c j
+      -- if it would repeat that, it counts, and the path has room for it
+      has-room : repeatFault (n .node .settings) (headerOf t) ≡ 0 → length first + 2 * (length (pathOf t) + 1) ≤ n .room
+      has-room no-fault =
+          let (can, left) = would n (headerOf t) (headerOf first) (carries t t-in .named .sound .same-place) lets not-own no-fault in
+          let counts-too = are-repeaters (headerOf first) nodes n-in can in
+          let lasts : (hopOf first ≡ 7) ⊎ (length (r .path ++ (address n ∷ [])) ≤ hopOf first) =
+          by-cases (ℕ-discrete (hopOf first) 7) inl
+          (λ ne. inr (omega (
+            arith,
+            left,
+            length-append (r .path) (address n ∷ []),
+            ap length path-is,
+            fact hears nodes all first begins receptions (taken .once) t t-in .steps (omega (arith, low)),
+          ))) in
+          let longer = short (r .path ++ (address n ∷ [])) (nodup-snoc (r .path) once new)
+          (λ a m. ⊎-elim (walk-known hears repeating (r .walk) a)
+          (λ l. Memᴰ·cast (List·Memᴰ·eq-of-singleton l) (Memᴰ·map address counts-too)) (List·Memᴰ·append-cases (r .path) m)) lasts in
+          omega (arith, roomy n counts-too, longer, length-append (r .path) (address n ∷ []), ap length path-is)
 
-    -- A hop limit below 7, no destination and no added header; the nodes that did not originate it are open and have room.
-    module _ (low : hopOf first < 7) (everyone : headerOf first .destination ≡ Everyone) (plain : headerOf first .«added_header» ≡ false)
-        (free : (n : Repeater) → List·Memᴰ n (others address (sourceOf first) nodes) → Open (n .node))
-        (roomy : (n : Repeater) → List·Memᴰ n (others address (sourceOf first) nodes) → length first + 2 * hopOf first ≤ n .room) where
-      -- the node at the end of a chain one longer
-      module _ (k : ℕ) (a : ℕ) (n : Repeater) (n-in : List·Memᴰ n nodes) (s : Shortest hears known (sourceOf first) (address n) (suc k))
-          (t : Along a k) (heard : hears a (address n) ≡ true) where
-        not-own : address n ≢ sourceOf first
-        not-own e = s .none-shorter 0 (omega arith) (Memᴰ·cast e (chain-none hears known (sourceOf first)))
-
-        counts : List·Memᴰ n (others address (sourceOf first) nodes)
-        counts = are-others address (sourceOf first) nodes n-in not-own
-
-        new : ¬ List·Memᴰ (address n) (pathOf (t .sent))
-        new m = let (j, j-le, c) = t .near (address n) m in s .none-shorter j (omega arith) c
-
-        lies : (r : ℕ) → getElem? nodes r ≡ some n → (i : ℕ) → getElem? log i ≡ some (t .sent)
-            → HasHeard sends nodes (first ∷ []) receptions r i
-        lies r n-at i t-at =
-            taken .by-all (record { node = r; transmission = i }) (record {
+      at-the-end : Delivered nodes first receptions n (payloadIn (headerOf first) first) k
+      at-the-end =
+          let (place, place-lt, n-at) = mem-at n-in in
+          let (i, i-lt, t-at) = mem-at t-in in
+          let c = carries t t-in in
+          let by-b : senderOf t ≡ b = (λ j. lastOr (c .named .sound .same-source j) (path-is j)) ∙ r .last in
+          record {
+            reception = record { node = place; transmission = i };
+            taken = taken .by-all (record { node = place; transmission = i }) (record {
               node = n;
               node-at = n-at;
-              sent = t .sent;
+              sent = t;
               sent-at = t-at;
-              hears-sender = ap (λ (x : ℕ). hears x (address n)) (t .by-a) ∙ heard;
-            })
-
-        hop-is : hopOf (t .sent) + k ≡ hopOf first
-        hop-is = omega (arith, fact (t .sent) (t .in-log) .steps low, t .long)
-
-        delivered : Delivered nodes first receptions n (payloadIn (headerOf first) first) k
-        delivered =
-            let (r, r-lt, n-at) = mem-at n-in in
-            let (i, i-lt, t-at) = mem-at (t .in-log) in
-            let c = carries (t .sent) (t .in-log) in
-            record {
-              reception = record { node = r; transmission = i };
-              taken = lies r n-at i t-at;
-              node-at = n-at;
-              received = t .sent;
-              received-at = t-at;
-              delivers = delivers first (t .sent) n (free n counts) (all .echo-on n n-in) c not-own new everyone plain
-                  (λ left. omega (arith, roomy n counts, hop-is, t .long));
-              path-count = sym (counted first (t .sent) (c .sound)) ∙ t .long;
-            }
-
-        again : suc k ≤ hopOf first → Along (address n) (suc k)
-        again more =
-            let (r, r-lt, n-at) = mem-at n-in in
-            let (i, i-lt, t-at) = mem-at (t .in-log) in
-            let c = carries (t .sent) (t .in-log) in
-            let can = open-can (headerOf first) n (free n counts) not-own (for-everyone (address n) (headerOf first .destination) everyone) in
-            let sends-it = willing first (t .sent) n can (all .echo-on n n-in) (c .sound) new (λ none. omega (arith, hop-is)) (omega (arith, t .long))
-            (omega (arith, roomy n counts, t .long)) in
-            let next = repeated (address n) (t .sent) in
-            let keeps = carried .lawful n n-in (t .sent) next c sends-it .1 in
-            record {
-              sent = next;
-              in-log = heard-said sends nodes (first ∷ []) receptions r i (lies r n-at i t-at) n (t .sent) next n-at t-at sends-it;
-              by-a = sent-again next (pathOf (t .sent)) (address n) (keeps .grown);
-              long = omega (arith, ap length (keeps .grown), length-append (pathOf (t .sent)) (address n ∷ []), t .long);
-              near = λ x m. ⊎-elim
-                  (λ l. let (j, j-le, chain) = t .near x l in (j, omega arith, chain))
-                  (λ l. (suc k, omega arith, Memᴰ·cast (List·Memᴰ·eq-of-singleton l) (s .chain)))
-                  (List·Memᴰ·append-cases (pathOf (t .sent)) (subst (λ (p : List ℕ). List·Memᴰ x p) (keeps .grown) m));
-            }
-
-      along : (k a : ℕ) → k ≤ hopOf first → Shortest hears known (sourceOf first) a k → Along a k
-      along zero a few s =
-          let is = chain-is-none hears known (sourceOf first) (s .chain) in
-          record {
-            sent = first;
-            in-log = first-sent;
-            by-a = sent-first first first-sent (begins .path-empty) ∙ sym is;
-            long = ap length (begins .path-empty);
-            near = λ c m. absurd (List·Memᴰ·not-nil (subst (λ (p : List ℕ). List·Memᴰ c p) (begins .path-empty) m));
+              hears-sender = ap (λ (x : ℕ). hears x (address n)) by-b ∙ heard;
+            });
+            node-at = n-at;
+            received = t;
+            received-at = t-at;
+            delivers = delivers first repeating t n lets (all .echo-on n n-in) c not-own
+                (λ m. new (subst (λ (p : List ℕ). List·Memᴰ (address n) p) path-is m)) plain has-room;
+            path-count = sym (counted first t (c .named .sound)) ∙ ap length path-is ∙ r .long;
           }
-      along (suc k) a few s =
-          let step = chain-last hears known (sourceOf first) k (s .chain) in
-          let b = step .via in
-          let (n, n-in, is) = Memᴰ·of-map address nodes (step .known) in
-          let t = along k b (omega arith) (shortest-before hears known (sourceOf first) k s) in
-          let s-n = subst (λ (x : ℕ). Shortest hears known (sourceOf first) x (suc k)) (sym is) s in
-          let heard-n : hears b (address n) ≡ true = ap (hears b) is ∙ step .heard in
-          subst (λ (x : ℕ). Along x (suc k)) is (again k b n n-in s-n t heard-n few)
 
-      -- EVERY OTHER NODE at the end of a shortest chain of at most the hop limit and one is delivered the payload, with one less as the path count
-      pub reached : (n : Repeater) → List·Memᴰ n nodes → (k : ℕ) → k ≤ hopOf first
-          → Shortest hears (map address nodes) (sourceOf first) (address n) (suc k)
-          → Delivered nodes first receptions n (payloadIn (headerOf first) first) k
-      reached n n-in k few s =
-          let step = chain-last hears known (sourceOf first) k (s .chain) in
-          delivered k (step .via) n n-in s (along k (step .via) few (shortest-before hears known (sourceOf first) k s)) (step .heard)
+    pub reached : (n : Repeater) → List·Memᴰ n nodes → address n ≢ sourceOf first → LetsIn (headerOf first) n
+        → (k : ℕ) → (hopOf first ≡ 7) ⊎ (k ≤ hopOf first)
+        → Shortest (relayed hears (headerOf first) nodes) (map address nodes) (sourceOf first) (address n) (suc k)
+        → Delivered nodes first receptions n (payloadIn (headerOf first) first) k
+    reached n n-in not-own lets k lasts s =
+        let step = chain-last link known (sourceOf first) k (s .chain) in
+        let b = step .via in
+        let before = shortest-before link known (sourceOf first) k s in
+        let from-links = links hears (headerOf first) nodes in
+        let to-links = linked hears (headerOf first) nodes in
+        let r = route hears link repeating known (sourceOf first) inside from-links to-links k b before
+        (sender-counts hears link repeating known (sourceOf first) inside from-links to-links k b (address n) before (step .heard)) in
+        let few = short (r .path) (walk-once hears repeating (r .walk) nodup-nil) (walk-known hears repeating (r .walk))
+        (subst (λ (j : ℕ). (hopOf first ≡ 7) ⊎ (j ≤ hopOf first)) (sym (r .long)) lasts) in
+        let (t, t-in, path-is) = Memᴰ·of-map pathOf log (walk-sent hears nodes all first begins receptions roomy fits taken (r .walk) few) in
+        at-the-end n n-in lets not-own k b s (to-links b (address n) (step .heard) .1) r t t-in path-is

@@ -1,5 +1,6 @@
 pub mod Hearing
 pub mod Delivery
 pub mod Reach
+pub mod Marks
 pub mod Told
 pub mod Cases

@@ -22,9 +22,8 @@ use Rattle.flood.proofs.Others.{are-others, others-are}
 use Rattle.chains.specs.Lengths.{isHeard}
 use Rattle.coverage.specs.Delivery.{Delivers}
 use Rattle.coverage.proofs.Cases as cases
-use Rattle.coverage.proofs.Covered.{reach, schedule}
+use Rattle.coverage.proofs.Planned.{reach, schedule, planned-told}
 use Rattle.coverage.proofs.Schedule.{more-heard}
-use Rattle.coverage.proofs.Told.{told}
 use Rattle.chains.proofs.Hops.{counted, least, least-only, unreachable, unreachable-only}
 use Rattle.least_reach.specs.LeastReach.{LeastReach}
 
@@ -81,7 +80,7 @@ least-reach =
       hearing-asked = λ hears nodes first receptions reception node node-at sent sent-at hears-sender.
           record { node = node; node-at = node-at; sent = sent; sent-at = sent-at; hears-sender = hears-sender };
       schedule = schedule;
-      told = told;
+      told = planned-told;
       more-heard = more-heard;
       missed-counts = λ h lengths limit. counted h lengths;
       least = least;

@@ -1,5 +1,5 @@
 -- Document 02, W-208, as one record; `proofs/LeastReach.antt` gives it from its parts.
-use Prim.Native.Nat.{ℕ, _+_, _*_, _≤_, _<_}
+use Prim.Native.Nat.{ℕ, _+_, _*_, _-_, _≤_, _<_}
 use mathlib.Core.Bool.{Bool, true, false, cond}
 use mathlib.Core.List.{List, [], _∷_, map, List·Memᴰ, List·Nodup}
 use mathlib.Core.Logic.{_≢_}
@@ -7,12 +7,13 @@ use mathlib.Core.Option.{none, some}
 use mathlib.Core.Path.{_≡_}
 use lib.Dec.{eqb}
 use lib.ListN.{length, take, drop, getElem?}
+use Rattle.octets.specs.Octets.{at}
 use Rattle.pdu.specs.declared.Destination.the-variants.{Everyone}
 use Rattle.pdu.specs.Sizes.{pduLimit}
 use Rattle.editions.specs.Editions.{known}
 use Rattle.chains.specs.Chains.{ends}
-use Rattle.chains.specs.Lengths.{isHeard, LengthsFound}
-use Rattle.chains.specs.Reach.{missed, leastHop, AllDelivered, OutOfReach}
+use Rattle.chains.specs.Lengths.{isHeard, isUnmarked, noNode, LengthsFound}
+use Rattle.chains.specs.Reach.{isDelivered, missed, leastHop, AllDelivered, OutOfReach}
 use Rattle.chains.specs.declared.Least.the-variants.{HopLimit, Unreachable}
 use Rattle.origin.specs.declared.FreshSettings.{FreshSettings}
 use Rattle.origin.specs.Origination.{fresh}
@@ -25,7 +26,7 @@ use Rattle.flood.specs.Complete.{HasHeard}
 use Rattle.coverage.specs.Hearing.{senderOf, InHearing, TakenByAll, ByNoOther}
 use Rattle.coverage.specs.Delivery.{Planned, Delivers, Delivered}
 use Rattle.coverage.specs.Reach.{Reach}
-use Rattle.coverage.specs.Told.{Says, Told}
+use Rattle.coverage.specs.Told.{Says}
 use Rattle.coverage.specs.Cases.{reportAsked, reading, repeater, toldOfEach, nextInLine, lineAddresses, lineReceptions, lineAir, lineTold}
 use Rattle.coverage.specs.Cases.{twoWays, twoWaysAddresses, longerFirst}
 
@@ -56,27 +57,33 @@ pub record LeastReach : Type 0 where
   pub schedule : (hears : ℕ → ℕ → Bool) (nodes : List Repeater) (settings : FreshSettings) (payload : List ℕ) (room : ℕ)
       → Planned nodes settings payload room → (receptions : List Reception) × TakenByAll hears nodes (fresh settings payload) receptions
       × ByNoOther hears nodes (fresh settings payload) receptions
-  -- the lengths that the function `find_lengths` leaves, of pairs that say by places who hears whom, say who is delivered it, and with which path count
+  -- the lengths that the function `find_lengths` leaves, of pairs that say by places who hears whom, no node marked and none failed, say who is delivered
+  -- it and with which path count, and who is not where no node takes what it does not hear
   pub told : (hears : ℕ → ℕ → Bool) (nodes : List Repeater) (settings : FreshSettings) (payload : List ℕ) (room : ℕ)
       → Planned nodes settings payload room
       → (receptions : List Reception) → TakenByAll hears nodes (fresh settings payload) receptions
       → (pairs : List ℕ) → Says pairs hears nodes → (from : ℕ) → getElem? (map address nodes) from ≡ some (settings .source)
-      → (before lengths : List ℕ) → length before ≡ length nodes → LengthsFound pairs from before true lengths
-      → Told hears nodes settings payload receptions lengths
+      → (marks : List ℕ) → length marks ≡ length nodes → ((place : ℕ) → isUnmarked marks place ≡ true)
+      → (before lengths : List ℕ) → LengthsFound pairs marks from noNode before true lengths
+      → (place : ℕ) (n : Repeater) → getElem? nodes place ≡ some n
+      → (isDelivered (settings .«hop_limit») (at lengths place) ≡ true
+      → Delivered nodes (fresh settings payload) receptions n payload (at lengths place - 1))
+      × (ByNoOther hears nodes (fresh settings payload) receptions → isDelivered (settings .«hop_limit») (at lengths place) ≡ false
+      → (what : List ℕ) (count : ℕ) → ¬ Delivered nodes (fresh settings payload) receptions n what count)
   -- a hearing that the planner does not know of takes nothing away: what is taken by all that hear it is taken by all that are known to. So each delivery
   -- that is told, and its path count, holds also where more is heard
   pub more-heard : (hears known-hears : ℕ → ℕ → Bool) → ((sender node : ℕ) → known-hears sender node ≡ true → hears sender node ≡ true)
       → (nodes : List Repeater) (first : List ℕ) (receptions : List Reception)
       → TakenByAll hears nodes first receptions → TakenByAll known-hears nodes first receptions
-  -- the number missed at a hop limit from 0 to 6 is that of the nodes out of reach; the least hop limit is the one at which all are delivered it and at
-  -- every smaller one some are not; and none is told exactly where at none of 0 to 6 all are
-  pub missed-counts : (h : ℕ) (lengths : List ℕ) → h ≤ 6 → (places : List ℕ) × OutOfReach h lengths places × (missed h lengths ≡ length places)
+  -- the number missed at a hop limit from 0 to 7 is that of the nodes out of reach; the least hop limit is the one at which all are delivered it and at
+  -- every smaller one some are not; and none is told exactly where at none of 0 to 7 all are
+  pub missed-counts : (h : ℕ) (lengths : List ℕ) → h ≤ 7 → (places : List ℕ) × OutOfReach h lengths places × (missed h lengths ≡ length places)
   pub least : (lengths : List ℕ) (h : ℕ) → leastHop lengths ≡ HopLimit h
-      → (h ≤ 6) × AllDelivered h lengths × ((less : ℕ) → less < h → ¬ AllDelivered less lengths)
-  pub least-only : (lengths : List ℕ) (h : ℕ) → h ≤ 6 → AllDelivered h lengths → ((less : ℕ) → less < h → ¬ AllDelivered less lengths)
+      → (h ≤ 7) × AllDelivered h lengths × ((less : ℕ) → less < h → ¬ AllDelivered less lengths)
+  pub least-only : (lengths : List ℕ) (h : ℕ) → h ≤ 7 → AllDelivered h lengths → ((less : ℕ) → less < h → ¬ AllDelivered less lengths)
       → leastHop lengths ≡ HopLimit h
-  pub unreachable : (lengths : List ℕ) → leastHop lengths ≡ Unreachable → (h : ℕ) → h ≤ 6 → ¬ AllDelivered h lengths
-  pub unreachable-only : (lengths : List ℕ) → ((h : ℕ) → h ≤ 6 → ¬ AllDelivered h lengths) → leastHop lengths ≡ Unreachable
+  pub unreachable : (lengths : List ℕ) → leastHop lengths ≡ Unreachable → (h : ℕ) → h ≤ 7 → ¬ AllDelivered h lengths
+  pub unreachable-only : (lengths : List ℕ) → ((h : ℕ) → h ≤ 7 → ¬ AllDelivered h lengths) → leastHop lengths ≡ Unreachable
   -- a pair is a sender's place, and then the place of a node that hears it
   pub pair : (isHeard (1 ∷ 2 ∷ []) 1 2 ≡ true) × (isHeard (1 ∷ 2 ∷ []) 2 1 ≡ false)
   -- a node of the model delivers what its function `hear` returns: number 0, and the payload at the place that the answer names, and no other; and it sends

@@ -1,7 +1,6 @@
 -- The count in small networks, by computing. Assumes nothing.
-use mathlib.Core.Path.{_≡_, refl, sym, ap, _∙_}
+use mathlib.Core.Path.{_≡_, refl, sym, ap}
 use mathlib.Core.Logic.{inr}
-use mathlib.Core.Bool.{Bool, true, false, not}
 use mathlib.Core.List.{List, [], _∷_, map, Memᴰ·of-map}
 use Prim.Native.Nat.{ℕ, _+_, _*_}
 use native.Mathlib.Omega.{arith}
@@ -14,13 +13,14 @@ use Rattle.lists.specs.Lists.{firstFault, faultOf, lowAboveHigh}
 use Rattle.decision.specs.Decision.{passFault}
 use Rattle.node.specs.Answers.{nodeFault}
 use Rattle.origin.specs.Origination.{freshHeader, fresh}
-use Rattle.flood.specs.Air.{Repeater, onTheAir, canRepeat, repeaters}
+use Rattle.flood.specs.Air.{Repeater, canRepeat, repeaters}
 use Rattle.flood.specs.Flood.{total, keep}
 use Rattle.flood.proofs.Repeaters.{repeaters-are}
 use Rattle.coverage.specs.Cases.{nextInLine, written, twoWays}
-use Rattle.coverage.specs.Cases.{reportAsked, reading, repeater, twoWaysAddresses, longerFirst}
+use Rattle.coverage.specs.Cases.{reportAsked, reading, repeater, twoWaysAddresses}
+use Rattle.coverage.specs.Delivery.{Roomy}
 use Rattle.airtime.specs.Airtime.{airFrom, airOf, airBytes, airBy, airBytesBy}
-use Rattle.own_network.specs.OwnNetwork.{counting, times, Roomy, everyOther}
+use Rattle.own_network.specs.OwnNetwork.{counting, times, everyOther}
 
 pub in-line : let line : List ℕ = 1001 ∷ 1002 ∷ 1003 ∷ 1004 ∷ 1005 ∷ 1006 ∷ 1007 ∷ [] in
     (airOf nextInLine line 1000 0 ≡ 1) × (airOf nextInLine line 1000 3 ≡ 4) × (airOf nextInLine line 1000 6 ≡ 7) × (airOf nextInLine line 1000 7 ≡ 8)
@@ -49,7 +49,7 @@ sixteen : length (fresh (reportAsked 6) reading) + 2 * terms (length (counting t
 unfolding terms freshHeader fresh encode headerBytes pathBytes repeaters keep canRepeat nodeFault firstFault faultOf lowAboveHigh passFault _gives_ _orElse_
 sixteen = refl
 
-pub roomy : Roomy twoWays (map repeater twoWaysAddresses) (reportAsked 6) reading
+pub roomy : Roomy (map repeater twoWaysAddresses) (reportAsked 6) reading
 roomy =
     record {
       roomy = λ n m.

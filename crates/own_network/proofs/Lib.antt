@@ -1,2 +1,4 @@
-pub mod OwnNetwork
 pub mod Cases
+pub mod OwnNetwork
+pub mod ReachCases
+pub mod OwnReach

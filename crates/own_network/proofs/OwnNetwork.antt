@@ -1,16 +1,15 @@
 -- How often one message goes out on its network, of a message that origination wrote: the record, from its parts. Assumes nothing.
-use mathlib.Core.Path.{_≡_, refl, sym, ap, subst, _∙_}
+use mathlib.Core.Path.{_≡_, sym, ap, subst, _∙_}
 use mathlib.Core.Bool.{Bool, true, cond}
 use mathlib.Core.Logic.{_⊎_, by-cases}
 use mathlib.Core.Option.{some}
-use mathlib.Core.List.{List, [], map, List·Memᴰ, List·Nodup}
+use mathlib.Core.List.{List, map, List·Memᴰ, List·Nodup}
 use Prim.Native.Nat.{ℕ, _+_, _*_, _≤_, _<_, min}
 use native.Mathlib.Decide.{ℕ-discrete}
 use native.Mathlib.Omega.{arith}
 use lib.Dec.{eqb}
 use lib.ListN.{length, getElem?, length-map}
 use Rattle.octets.specs.Octets.{at}
-use Rattle.pdu.specs.declared.Header.{Header}
 use Rattle.pdu.specs.Header.{headerOf, sourceOf}
 use Rattle.pdu.specs.Parts.{lastOr}
 use Rattle.pdu.specs.Sizes.{pathLimit}
@@ -19,8 +18,7 @@ use Rattle.bound.proofs.Series.{terms-seven, terms-below}
 use Rattle.chains.specs.Lengths.{nodeLimit}
 use Rattle.ways.specs.declared.Airtime.{Airtime}
 use Rattle.ways.specs.declared.Airtime.the-variants.{Exactly, Enough}
-use Rattle.ways.specs.Ways.{ofAll, ofOne}
-use Rattle.ways.specs.Answer.{ways, Counts}
+use Rattle.ways.specs.Answer.{Counts}
 use Rattle.ways.proofs.Answers.{Serves, below-enough, not-below}
 use Rattle.origin.specs.declared.FreshSettings.{FreshSettings}
 use Rattle.origin.specs.Origination.{freshHeader, fresh}
@@ -31,18 +29,19 @@ use Rattle.flood.proofs.Counting.{same-count}
 use Rattle.flood.proofs.Fresh.{originated-begins, fresh-source, fresh-hop}
 use Rattle.flood.proofs.Lists.{no-longer}
 use Rattle.coverage.specs.Hearing.{TakenByAll, ByNoOther}
+use Rattle.coverage.specs.Delivery.{Roomy}
+use Rattle.coverage.specs.Marks.{MarksSay}
 use Rattle.coverage.specs.Told.{Says}
 use Rattle.coverage.specs.Cases.{reportAsked, reading, repeater, twoWays, twoWaysAddresses, longerFirst}
 use Rattle.coverage.proofs.Cases.{two-ways-planned, two-ways-taken}
 use Rattle.coverage.proofs.Schedule.{taken-exists, at-within}
 use Rattle.airtime.specs.Airtime.{airOver, airOf, airBytes, airBy, airBytesBy, sentBy, bytesSentBy}
-use Rattle.airtime.specs.Marks.{MarksSay}
 use Rattle.airtime.proofs.Exact.{air-exact, bytes-exact, by-exact, bytes-by-exact}
 use Rattle.airtime.proofs.Same.{air-more}
 use Rattle.airtime.proofs.Told.{times-told, bytes-told, times-by-told, bytes-by-told}
 use Rattle.airtime.proofs.Within.{air-within, bytes-within, by-within, bytes-by-within}
 use Rattle.airtime.proofs.Worst.{air-below, bytes-below, air-all, bytes-all}
-use Rattle.own_network.specs.OwnNetwork.{counting, times, octets, timesBy, octetsBy, Roomy, OwnNetwork}
+use Rattle.own_network.specs.OwnNetwork.{times, octets, timesBy, octetsBy, OwnNetwork}
 use Rattle.own_network.proofs.Cases as cases
 
 module _ (hears : ℕ → ℕ → Bool) (nodes : List Repeater) (all : Nodes nodes) (settings : FreshSettings) (payload : List ℕ) (room : ℕ)
@@ -93,7 +92,7 @@ module _ (hears : ℕ → ℕ → Bool) (nodes : List Repeater) (all : Nodes nod
     ),
   )
 
-  module _ (each : Roomy hears nodes settings payload) where
+  module _ (each : Roomy nodes settings payload) where
     roomy : (n : Repeater) → List·Memᴰ n (repeaters (headerOf first) nodes)
         → length first + 2 * terms (length (repeaters (headerOf first) nodes)) (hopOf first) ≤ n .room
     roomy n m =
@@ -230,6 +229,6 @@ own-network =
       two-ways = cases.two-ways;
       all-three = cases.all-three;
       two-ways-run = (cases.roomy, cases.six, two-ways-run);
-      roomy-asked = λ hears nodes settings payload room fits. record { roomy = room; path-fits = fits };
+      roomy-asked = λ nodes settings payload room fits. record { roomy = room; path-fits = fits };
       marks-asked = λ marks header nodes size says. record { size = size; says = says };
     }

@@ -1,1 +1,3 @@
+pub mod Cases
 pub mod OwnNetwork
+pub mod OwnReach

@@ -6,25 +6,25 @@ use mathlib.Core.Option.{some}
 use mathlib.Core.Path.{_≡_}
 use Prim.Native.Nat.{ℕ, _+_, _*_, _≤_, _<_}
 use lib.Dec.{eqb}
-use lib.ListN.{length, getElem?, replicate}
+use lib.ListN.{length, getElem?}
 use Rattle.octets.specs.Octets.{at}
 use Rattle.pdu.specs.declared.Header.{Header}
 use Rattle.pdu.specs.Sizes.{pathLimit}
 use Rattle.bound.specs.Bound.{bound, bytesBound, terms}
-use Rattle.chains.specs.Lengths.{nodeLimit}
+use Rattle.chains.specs.Lengths.{nodeLimit, isUnmarked}
 use Rattle.ways.specs.declared.Airtime.{Airtime}
 use Rattle.ways.specs.declared.Airtime.the-variants.{Exactly, Enough}
-use Rattle.ways.specs.Ways.{isUnmarked}
 use Rattle.ways.specs.Answer.{Counts}
 use Rattle.origin.specs.declared.FreshSettings.{FreshSettings}
 use Rattle.origin.specs.Origination.{freshHeader, fresh}
 use Rattle.flood.specs.Air.{Repeater, address, canRepeat, onTheAir, bytesOnTheAir, repeaters, Nodes, Originated}
 use Rattle.flood.specs.Flood.{Reception}
 use Rattle.coverage.specs.Hearing.{TakenByAll, ByNoOther}
+use Rattle.coverage.specs.Delivery.{Roomy}
+use Rattle.coverage.specs.Marks.{MarksSay}
 use Rattle.coverage.specs.Told.{Says}
 use Rattle.coverage.specs.Cases.{reportAsked, reading, repeater, nextInLine, twoWays, twoWaysAddresses, longerFirst}
 use Rattle.airtime.specs.Airtime.{airOf, airBytes, airBy, airBytesBy, sentBy, bytesSentBy}
-use Rattle.airtime.specs.Marks.{MarksSay}
 
 -- any nodes, and any message that origination wrote with a path
 module _ (hears : ℕ → ℕ → Bool) (nodes : List Repeater) (settings : FreshSettings) (payload : List ℕ) where
@@ -48,12 +48,6 @@ module _ (hears : ℕ → ℕ → Bool) (nodes : List Repeater) (settings : Fres
   abbrev pub octetsBy : ℕ → ℕ
   octetsBy node = airBytesBy hears addressesCounted (settings .source) (settings .«hop_limit») (length (fresh settings payload)) node
 
-  -- each of those has room for a path as long as their number and the hop limit allow; there are at most 255 of them, or the hop limit is below 7
-  pub record Roomy : Type 0 where
-    pub roomy : (n : Repeater) → List·Memᴰ n counting
-        → length (fresh settings payload) + 2 * terms (length counting) (settings .«hop_limit») ≤ n .room
-    pub path-fits : (length counting ≤ pathLimit) ⊎ (settings .«hop_limit» < 7)
-
 -- who hears whom where every node hears every other
 abbrev pub everyOther : ℕ → ℕ → Bool
 everyOther sender node = not (eqb sender node)
@@ -70,7 +64,7 @@ pub record OwnNetwork : Type 0 where
       × ((node : ℕ) → (sentBy node log ≤ timesBy hears nodes settings payload node) × (bytesSentBy node log ≤ octetsBy hears nodes settings payload node))
   -- exactly so many where every node takes all that it hears and nothing else, and those that can repeat it have room (`Roomy`)
   pub exact : (hears : ℕ → ℕ → Bool) (nodes : List Repeater) → Nodes nodes
-      → (settings : FreshSettings) (payload : List ℕ) (room : ℕ) → Originated settings payload room → Roomy hears nodes settings payload
+      → (settings : FreshSettings) (payload : List ℕ) (room : ℕ) → Originated settings payload room → Roomy nodes settings payload
       → (receptions : List Reception) → TakenByAll hears nodes (fresh settings payload) receptions
       → ByNoOther hears nodes (fresh settings payload) receptions
       → let log = onTheAir nodes (fresh settings payload) receptions in
@@ -118,10 +112,10 @@ pub record OwnNetwork : Type 0 where
       × ((place : ℕ) → place < length nodes → at countsNow place ≡ octetsBy hears nodes settings payload (at (map address nodes) place)))
       × (enough ≤ octets hears nodes settings payload → answer ≡ Enough)
   -- no more is asked of room and marks than these conditions say
-  pub roomy-asked : (hears : ℕ → ℕ → Bool) (nodes : List Repeater) (settings : FreshSettings) (payload : List ℕ)
+  pub roomy-asked : (nodes : List Repeater) (settings : FreshSettings) (payload : List ℕ)
       → let counting = repeaters (freshHeader settings (length payload)) nodes in
       ((n : Repeater) → List·Memᴰ n counting → length (fresh settings payload) + 2 * terms (length counting) (settings .«hop_limit») ≤ n .room)
-      → (length counting ≤ pathLimit) ⊎ (settings .«hop_limit» < 7) → Roomy hears nodes settings payload
+      → (length counting ≤ pathLimit) ⊎ (settings .«hop_limit» < 7) → Roomy nodes settings payload
   pub marks-asked : (marks : List ℕ) (header : Header) (nodes : List Repeater) → length marks ≡ length nodes
       → ((place : ℕ) (n : Repeater) → getElem? nodes place ≡ some n → address n ≢ header .source → isUnmarked marks place ≡ canRepeat header n)
       → MarksSay marks header nodes
@@ -138,6 +132,6 @@ pub record OwnNetwork : Type 0 where
   pub all-three : let these : List ℕ = 1 ∷ 2 ∷ 3 ∷ [] in
       (airOf everyOther these 1000 2 ≡ 10) × (airOf everyOther these 1000 6 ≡ 16) × (airOf everyOther these 1000 7 ≡ 16)
   -- W-208's run over real bytes, the longer way first, is such as `exact` asks, and makes these six
-  pub two-ways-run : Roomy twoWays (map repeater twoWaysAddresses) (reportAsked 6) reading
+  pub two-ways-run : Roomy (map repeater twoWaysAddresses) (reportAsked 6) reading
       × (times twoWays (map repeater twoWaysAddresses) (reportAsked 6) reading ≡ 6)
       × (length (onTheAir (map repeater twoWaysAddresses) (fresh (reportAsked 6) reading) longerFirst) ≡ 6)

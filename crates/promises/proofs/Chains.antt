@@ -12,9 +12,9 @@ use Rattle.chains.proofs.missed.Kinds as missed-kinds
 use Rattle.chains.proofs.least_hop_limit.Reads as least-hop-limit-reads
 use Rattle.chains.proofs.least_hop_limit.Kinds as least-hop-limit-kinds
 
-pub find-lengths : PromisedWithOutput 2 find-lengths-kinds.ps find-lengths-kinds.r find-lengths-reads.Asked find-lengths-reads.Post
-    (λ κs s. now (s .1 .1 .0))
-find-lengths = (λ κs a. tt, λ κs a x y s t p q. one-outcome _ _ _ x y _ _ p q)
+pub find-lengths : PromisedWithOutput 3 find-lengths-kinds.ps find-lengths-kinds.r find-lengths-reads.Asked find-lengths-reads.Post
+    (λ κs s. now (s .1 .1 .1 .1 .0))
+find-lengths = (λ κs a. tt, λ κs a x y s t p q. one-outcome _ _ _ _ _ x y _ _ p q)
 
 pub is-delivered : Promised 0 is-delivered-kinds.ps is-delivered-kinds.r is-delivered-reads.Asked is-delivered-reads.Post (λ κs x. x)
 is-delivered = (λ κs a. tt, λ κs a x y s t p q. p ∙ sym q)

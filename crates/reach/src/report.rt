@@ -2,6 +2,7 @@
 ghost use Prim.Native.Nat.{_≤_};
 use chains::Least;
 use chains::NO_CHAIN;
+use chains::NO_NODE;
 use chains::NODE_LIMIT;
 use libc::STDERR_FILENO;
 use libc::STDOUT_FILENO;
@@ -10,7 +11,8 @@ pub(crate) fn print_report(hop_limit: u8, nodes: usize, addresses: &[u16], pairs
     let mut all = [0u8; NODE_LIMIT];
     let served = at_most(nodes, NODE_LIMIT);
     let lengths: &mut [u8] = &mut all[0..served];
-    if !chains::find_lengths(pairs, 0, lengths) {
+    let marks = [0u8; NODE_LIMIT];
+    if !chains::find_lengths(pairs, &marks[0..served], 0, NO_NODE, lengths) {
         return say_unserved();
     }
     print_title(hop_limit, addresses);

@@ -11,7 +11,8 @@ use lib.Dec.{eqb}
 use lib.ListN.{length, set, length-set}
 use lib.Seq.{set-set, set-getD, getD-set-same, getD-set-other}
 use Rattle.octets.specs.Octets.{at}
-use Rattle.ways.specs.Ways.{sumBelow, isUnmarked, waysFrom, ofAll, ofOne}
+use Rattle.chains.specs.Lengths.{isUnmarked}
+use Rattle.ways.specs.Ways.{sumBelow, waysFrom, ofAll, ofOne}
 use Rattle.ways.specs.Table.{isHeardIn, Rows}
 use Rattle.ways.specs.Tally.{most, increased, waysTo, Counted}
 use Rattle.ways.proofs.Sums.{sum-more, sum-over}

@@ -7,7 +7,8 @@ use Prim.Native.Nat.{ℕ, zero, suc, _+_, _-_, _≤_, _<_}
 use native.Mathlib.Omega.{arith}
 use native.Mathlib.Numerals.{add-one}
 use lib.ListN.{length, set, length-set}
-use Rattle.ways.specs.Ways.{sumBelow, isUnmarked, waysFrom}
+use Rattle.chains.specs.Lengths.{isUnmarked}
+use Rattle.ways.specs.Ways.{sumBelow, waysFrom}
 
 pub sum-same : (f g : ℕ → ℕ) (n : ℕ) → ((k : ℕ) → k < n → f k ≡ g k) → sumBelow f n ≡ sumBelow g n
 unfolding sumBelow

@@ -5,7 +5,8 @@ use mathlib.Core.Path.{_≡_}
 use Prim.Native.Nat.{ℕ, _+_, _<_, min}
 use lib.ListN.{length, set}
 use Rattle.octets.specs.Octets.{at}
-use Rattle.ways.specs.Ways.{isUnmarked, waysFrom, ofAll, ofOne}
+use Rattle.chains.specs.Lengths.{isUnmarked}
+use Rattle.ways.specs.Ways.{waysFrom, ofAll, ofOne}
 
 -- a node's count has 64 bits, and stops there
 abbrev pub most : ℕ

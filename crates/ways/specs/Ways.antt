@@ -5,15 +5,12 @@ use mathlib.Core.List.{List}
 use Prim.Native.Nat.{ℕ, zero, suc, _+_}
 use lib.Dec.{eqb}
 use lib.ListN.{length, set}
-use Rattle.octets.specs.Octets.{at}
+use Rattle.chains.specs.Lengths.{isUnmarked}
 
 -- f 0 + f 1 + .., so many terms
 unfoldable pub sumBelow : (ℕ → ℕ) → ℕ → ℕ
 sumBelow f zero = 0
 sumBelow f (suc k) = sumBelow f k + f k
-
-unfoldable pub isUnmarked : List ℕ → ℕ → Bool
-isUnmarked marks node = eqb (at marks node) 0
 
 -- A transmission by `sender` of that price, and all that it leads to with so many hops left: each node without a mark that hears the sender sends it
 -- again, at a price that is higher by `growth`, and has a mark in what that leads to. Each is counted as `weigh` says of its sender and its price.

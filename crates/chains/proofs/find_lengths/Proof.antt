@@ -1,8 +1,8 @@
 use denote.Ref.{now}
-use Prim.Native.Nat.{_+_, _-_, _≤_, _<_}
-use mathlib.Core.Path.{_≡_}
-use Rattle.chains.specs.Lengths.{nodeLimit}
-use Rattle.chains.proofs.Finding.{too-many, not-a-node, begun-known, round-known, all-found, none-further}
+use lib.ListN.{length}
+use Prim.Native.Nat.{_+_, _-_, _≤_}
+use mathlib.Core.Path.{_≡_, refl}
+use Rattle.chains.proofs.Finding.{refused, granted, begun-known, round-known, same-size, all-found, none-further}
 use Rattle.chains.proofs.Rounds.{Known}
 use native.Mathlib.Omega.{arith}
 use borrow.Author.Needs.{needs}
@@ -10,42 +10,60 @@ use Rattle.chains.proofs.find_lengths.Statement.{statement}
 use Rattle.chains.proofs.find_lengths.Tie as tie
 
 abbrev Inv-loop : tie.InvT-loop
-Inv-loop pairs from lengths₀ nodes last k₀ lengths k =
-    (from < nodes) × (nodes ≤ nodeLimit) × (last + 1 ≡ nodes) × (k ≤ last) × Known pairs nodes from k lengths
+Inv-loop pairs marks from failed lengths₀ nodes last k₀ lengths k =
+    (last + 1 ≡ length marks) × (k ≤ last) × Known pairs marks from failed k lengths
 
 abbrev μ-loop : tie.MeasureT-loop
-μ-loop pairs from lengths₀ nodes last k₀ lengths k = last - k
+μ-loop pairs marks from failed lengths₀ nodes last k₀ lengths k = last - k
+
+is-served-requires : tie.Need-is-served-requires Inv-loop μ-loop
+is-served-requires c κs = search needs
 
 returns : tie.Need-returns Inv-loop μ-loop
-returns c = too-many _ _ _ (omega arith)
-
-returns-2 : tie.Need-returns-2 Inv-loop μ-loop
-returns-2 c = not-a-node _ _ _ (omega arith)
+returns c = refused _ _ _ _ _ _ (c .before .is-served .ensures) (c .if1 .taken)
 
 begin-requires : tie.Need-begin-requires Inv-loop μ-loop
-begin-requires c κs = search needs
+begin-requires c κs =
+    let served = c .before in
+    let a = served .before .before .before .before .before .args in
+    let s = granted (now (a .pairs)) (now (a .marks)) (a .from) (a .failed) (now (a .lengths)) _ (served .before .is-served .ensures) (served .if1 .left) in
+    omega (arith, s .begins, s .as-many)
 
 sub-narrow : tie.Need-sub-narrow Inv-loop μ-loop
-sub-narrow c = search needs
+sub-narrow c =
+    let served = c .before .before .before .before in
+    let a = served .before .before .before .before .before .args in
+    let s = granted (now (a .pairs)) (now (a .marks)) (a .from) (a .failed) (now (a .lengths)) _ (served .before .is-served .ensures) (served .if1 .left) in
+    omega (arith, s .begins)
 
 narrow-requires : tie.Need-narrow-requires Inv-loop μ-loop
-narrow-requires c κs = search needs
+narrow-requires c κs =
+    let served = c .before .before .before .before in
+    let a = served .before .before .before .before .before .args in
+    let s = granted (now (a .pairs)) (now (a .marks)) (a .from) (a .failed) (now (a .lengths)) _ (served .before .is-served .ensures) (served .if1 .left) in
+    omega (arith, s .few, s .begins)
 
 loop-holds : tie.Need-loop-holds Inv-loop μ-loop
 loop-holds c =
     let begun = c .before .before .before in
-    let a = begun .before .before .before .before .before .before .args in
-    let known = begun-known (now (a .pairs)) (a .from) (now (a .lengths)) _ (omega arith) (begun .begin .ensures) in
-    (omega arith, omega arith, omega arith, omega arith, known)
+    let served = begun .before .before in
+    let a = served .before .before .before .before .before .args in
+    let s = granted (now (a .pairs)) (now (a .marks)) (a .from) (a .failed) (now (a .lengths)) _ (served .before .is-served .ensures) (served .if1 .left) in (
+      omega (arith, s .begins, c .narrow .ensures),
+      omega arith,
+      begun-known (now (a .pairs)) (now (a .marks)) (a .from) (a .failed) (now (a .lengths)) s _ (begun .begin .ensures),
+    )
 
 round-requires : tie.Need-round-requires Inv-loop μ-loop
-round-requires c κs = search needs
+round-requires c κs =
+    let l = c .before .before .loop in
+    let served = c .before .before .before .before .before .before .before .before in
+    let a = served .before .before .before .before .before .args in
+    let s = granted (now (a .pairs)) (now (a .marks)) (a .from) (a .failed) (now (a .lengths)) _ (served .before .is-served .ensures) (served .if1 .left) in
+    omega (arith, s .few, l .inv .0, c .before .loop-test .taken)
 
 add-k : tie.Need-add-k Inv-loop μ-loop
 add-k c = search needs
-
-loop-less : tie.Need-loop-less Inv-loop μ-loop
-loop-less c = search needs
 
 is-anywhere-requires : tie.Need-is-anywhere-requires Inv-loop μ-loop
 is-anywhere-requires c κs = search needs
@@ -53,41 +71,61 @@ is-anywhere-requires c κs = search needs
 same-length : tie.Need-same-length Inv-loop μ-loop
 same-length c =
     let round = c .before .before .before .before .before in
-    let l = round .before .before .before .loop in
-    let a = round .before .before .before .before .before .before .before .before .before .before .before .before .before .args in
-    round-known (now (a .pairs)) (a .from) (now (a .lengths)) (l .k) _ _ (l .inv .0) (omega arith) (round .round .ensures) (l .inv .4) .size
+    let at-loop = round .before .before .before in
+    let l = at-loop .loop in
+    let served = at-loop .before .before .before .before .before .before in
+    let a = served .before .before .before .before .before .args in
+    let s = granted (now (a .pairs)) (now (a .marks)) (a .from) (a .failed) (now (a .lengths)) _ (served .before .is-served .ensures) (served .if1 .left) in
+    let known = round-known (now (a .pairs)) (now (a .marks)) (a .from) (a .failed) (now (a .lengths)) s (l .k) _ _
+    (omega (arith, s .few, l .inv .0)) (round .round .ensures) (l .inv .2) in
+    same-size (now (a .pairs)) (now (a .marks)) (a .from) (a .failed) (now (a .lengths)) s (l .k + 1) _ known
 
-returns-3 : tie.Need-returns-3 Inv-loop μ-loop
-returns-3 c =
+returns-2 : tie.Need-returns-2 Inv-loop μ-loop
+returns-2 c =
     let sought = c .before in
     let round = sought .before .before .before .before in
-    let l = round .before .before .before .loop in
-    let a = round .before .before .before .before .before .before .before .before .before .before .before .before .before .args in
-    none-further (now (a .pairs)) (a .from) (now (a .lengths)) (l .k + 1) _ _ (l .inv .0) (l .inv .1) (omega arith) (sought .is-anywhere .ensures)
-    (c .if3 .taken)
-    (round-known (now (a .pairs)) (a .from) (now (a .lengths)) (l .k) _ _ (l .inv .0) (omega arith) (round .round .ensures) (l .inv .4))
+    let at-loop = round .before .before .before in
+    let l = at-loop .loop in
+    let served = at-loop .before .before .before .before .before .before in
+    let a = served .before .before .before .before .before .args in
+    let s = granted (now (a .pairs)) (now (a .marks)) (a .from) (a .failed) (now (a .lengths)) _ (served .before .is-served .ensures) (served .if1 .left) in
+    none-further (now (a .pairs)) (now (a .marks)) (a .from) (a .failed) (now (a .lengths)) s (l .k + 1) _ _
+    (omega (arith, s .few, l .inv .0)) (sought .is-anywhere .ensures) (c .if2 .taken)
+    (round-known (now (a .pairs)) (now (a .marks)) (a .from) (a .failed) (now (a .lengths)) s (l .k) _ _
+    (omega (arith, s .few, l .inv .0)) (round .round .ensures) (l .inv .2))
+
+loop-less : tie.Need-loop-less Inv-loop μ-loop
+loop-less c = search needs
 
 loop-again : tie.Need-loop-again Inv-loop μ-loop
 loop-again c =
     let round = c .before .before .before .before .before in
     let at-loop = round .before .before .before in
     let l = at-loop .loop in
-    let a = at-loop .before .before .before .before .before .before .before .before .before .before .args in (
+    let served = at-loop .before .before .before .before .before .before in
+    let a = served .before .before .before .before .before .args in
+    let s = granted (now (a .pairs)) (now (a .marks)) (a .from) (a .failed) (now (a .lengths)) _ (served .before .is-served .ensures) (served .if1 .left) in (
       l .inv .0,
-      l .inv .1,
-      l .inv .2,
       omega arith,
-      round-known (now (a .pairs)) (a .from) (now (a .lengths)) (l .k) _ _ (l .inv .0) (omega arith) (round .round .ensures) (l .inv .4),
+      round-known (now (a .pairs)) (now (a .marks)) (a .from) (a .failed) (now (a .lengths)) s (l .k) _ _
+          (omega (arith, s .few, l .inv .0)) (round .round .ensures) (l .inv .2),
     )
 
 same-length-2 : tie.Need-same-length-2 Inv-loop μ-loop
-same-length-2 c = c .before .loop .inv .4 .size
-
-returns-4 : tie.Need-returns-4 Inv-loop μ-loop
-returns-4 c =
+same-length-2 c =
     let l = c .before .loop in
-    let a = c .before .before .before .before .before .before .before .before .before .before .before .args in
-    all-found (now (a .pairs)) (a .from) (now (a .lengths)) (l .k) (l .lengths) (l .inv .0) (l .inv .1) (omega arith) (l .inv .4)
+    let served = c .before .before .before .before .before .before .before in
+    let a = served .before .before .before .before .before .args in
+    let s = granted (now (a .pairs)) (now (a .marks)) (a .from) (a .failed) (now (a .lengths)) _ (served .before .is-served .ensures) (served .if1 .left) in
+    same-size (now (a .pairs)) (now (a .marks)) (a .from) (a .failed) (now (a .lengths)) s (l .k) _ (l .inv .2)
+
+returns-3 : tie.Need-returns-3 Inv-loop μ-loop
+returns-3 c =
+    let l = c .before .loop in
+    let served = c .before .before .before .before .before .before .before in
+    let a = served .before .before .before .before .before .args in
+    let s = granted (now (a .pairs)) (now (a .marks)) (a .from) (a .failed) (now (a .lengths)) _ (served .before .is-served .ensures) (served .if1 .left) in
+    all-found (now (a .pairs)) (now (a .marks)) (a .from) (a .failed) (now (a .lengths)) s (l .k) _ (omega (arith, l .inv .0)) (l .inv .2)
 
 pub find-lengths-spec : {M : Type 1} → statement M
 find-lengths-spec =
@@ -95,8 +133,8 @@ find-lengths-spec =
     (tie.spec
     Inv-loop
     μ-loop
+    is-served-requires
     returns
-    returns-2
     begin-requires
     sub-narrow
     narrow-requires
@@ -105,8 +143,8 @@ find-lengths-spec =
     add-k
     is-anywhere-requires
     same-length
-    returns-3
+    returns-2
     loop-less
     loop-again
     same-length-2
-    returns-4)
+    returns-3)

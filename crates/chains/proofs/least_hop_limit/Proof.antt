@@ -9,10 +9,10 @@ use Rattle.chains.proofs.least_hop_limit.Statement.{statement}
 use Rattle.chains.proofs.least_hop_limit.Tie as tie
 
 abbrev Inv-loop : tie.InvT-loop
-Inv-loop lengths hop-limit₀ hop-limit = (hop-limit ≤ 7) × (leastHop lengths ≡ leastFrom lengths hop-limit (7 - hop-limit))
+Inv-loop lengths hop-limit₀ hop-limit = (hop-limit ≤ 8) × (leastHop lengths ≡ leastFrom lengths hop-limit (8 - hop-limit))
 
 abbrev μ-loop : tie.MeasureT-loop
-μ-loop lengths hop-limit₀ hop-limit = 7 - hop-limit
+μ-loop lengths hop-limit₀ hop-limit = 8 - hop-limit
 
 loop-holds : tie.Need-loop-holds Inv-loop μ-loop
 unfolding leastHop
@@ -27,7 +27,7 @@ returns c =
     let at-loop = count .before .before in
     let l = at-loop .loop in
     let all =
-    now-all (now (at-loop .before .before .args .lengths)) (l .hop-limit) (7 - l .hop-limit) (6 - l .hop-limit) _
+    now-all (now (at-loop .before .before .args .lengths)) (l .hop-limit) (8 - l .hop-limit) (7 - l .hop-limit) _
     (omega arith) (count .missed .ensures) (c .if1 .taken) in
     sym (l .inv .1 ∙ all)
 
@@ -43,14 +43,14 @@ loop-again c =
     let at-loop = count .before .before in
     let l = at-loop .loop in
     let next =
-    not-yet (now (at-loop .before .before .args .lengths)) (l .hop-limit) (l .hop-limit + 1) (7 - l .hop-limit) (7 - (l .hop-limit + 1)) _
+    not-yet (now (at-loop .before .before .args .lengths)) (l .hop-limit) (l .hop-limit + 1) (8 - l .hop-limit) (8 - (l .hop-limit + 1)) _
     (omega arith) refl (count .missed .ensures) (c .if1 .left) in
     (omega arith, l .inv .1 ∙ next)
 
 returns-2 : tie.Need-returns-2 Inv-loop μ-loop
 returns-2 c =
     let l = c .before .loop in
-    sym (l .inv .1 ∙ never (now (c .before .before .before .args .lengths)) (l .hop-limit) (7 - l .hop-limit) (omega arith))
+    sym (l .inv .1 ∙ never (now (c .before .before .before .args .lengths)) (l .hop-limit) (8 - l .hop-limit) (omega arith))
 
 pub least-hop-limit-spec : {M : Type 1} → statement M
 least-hop-limit-spec =

@@ -1,4 +1,4 @@
-use Rattle.chains.proofs.Noting.{no-sender, no-need, one-more, told-below}
+use Rattle.chains.proofs.Noting.{no-sender, no-need, not-usable, one-more, told-below}
 use borrow.Author.Needs.{needs}
 use Rattle.chains.proofs.note.Statement.{statement}
 use Rattle.chains.proofs.note.Tie as tie
@@ -10,7 +10,7 @@ same-length : tie.Need-same-length
 same-length c = search needs
 
 returns : tie.Need-returns
-returns c = no-sender _ _ _ _ _ (c .before .is-told .ensures) (c .if1 .taken)
+returns c = no-sender _ _ _ _ _ _ (c .before .is-told .ensures) (c .if1 .taken)
 
 is-told-requires-2 : tie.Need-is-told-requires-2
 is-told-requires-2 c κs = search needs
@@ -19,21 +19,34 @@ same-length-2 : tie.Need-same-length-2
 same-length-2 c = search needs
 
 returns-2 : tie.Need-returns-2
-returns-2 c = no-need _ _ _ _ _ (c .before .is-told2 .ensures) (c .if2 .taken)
+returns-2 c = no-need _ _ _ _ _ _ (c .before .is-told2 .ensures) (c .if2 .taken)
 
-add-lengths : tie.Need-add-lengths
-add-lengths c = search needs
-
-slice-write-lengths : tie.Need-slice-write-lengths
-slice-write-lengths c = told-below _ _ _ (c .before .is-told2 .ensures) (c .if2 .left)
+is-usable-requires : tie.Need-is-usable-requires
+is-usable-requires c κs = search needs
 
 same-length-3 : tie.Need-same-length-3
 same-length-3 c = search needs
 
 returns-3 : tie.Need-returns-3
-returns-3 c =
-    let first = c .before .before .before in
-    one-more _ _ _ _ _ _ (first .before .is-told .ensures) (first .if1 .left) (c .before .is-told2 .ensures) (c .if2 .left)
+returns-3 c = not-usable _ _ _ _ _ _ (c .before .is-usable .ensures) (c .if3 .taken)
+
+add-lengths : tie.Need-add-lengths
+add-lengths c = search needs
+
+slice-write-lengths : tie.Need-slice-write-lengths
+slice-write-lengths c =
+    let second = c .before .before in
+    told-below _ _ _ (second .before .is-told2 .ensures) (second .if2 .left)
+
+same-length-4 : tie.Need-same-length-4
+same-length-4 c = search needs
+
+returns-4 : tie.Need-returns-4
+returns-4 c =
+    let second = c .before .before in
+    let first = second .before .before .before in
+    one-more _ _ _ _ _ _ _ _ (first .before .is-told .ensures) (first .if1 .left) (second .before .is-told2 .ensures) (second .if2 .left)
+    (c .before .is-usable .ensures) (c .if3 .left)
 
 pub note-spec : {M : Type 1} → statement M
 note-spec =
@@ -45,7 +58,10 @@ note-spec =
     is-told-requires-2
     same-length-2
     returns-2
+    is-usable-requires
+    same-length-3
+    returns-3
     add-lengths
     slice-write-lengths
-    same-length-3
-    returns-3)
+    same-length-4
+    returns-4)

@@ -2,6 +2,7 @@ use denote.Ref.{now}
 use lib.ListN.{length, drop}
 use Prim.Native.Nat.{_+_, _-_, _≤_}
 use mathlib.Core.Path.{_≡_, refl, sym, _∙_}
+use Rattle.chains.specs.Lengths.{isUsable}
 use Rattle.chains.specs.Rounds.{afterRound}
 use Rattle.chains.proofs.Noting.{round-next, round-over}
 use native.Mathlib.Omega.{arith}
@@ -10,11 +11,12 @@ use Rattle.chains.proofs.round.Statement.{statement}
 use Rattle.chains.proofs.round.Tie as tie
 
 abbrev Inv-loop : tie.InvT-loop
-Inv-loop pairs k lengths₀ i₀ lengths i =
-    (i ≤ length pairs) × (length lengths ≡ length lengths₀) × (afterRound k pairs lengths₀ ≡ afterRound k (drop i pairs) lengths)
+Inv-loop pairs marks from failed k lengths₀ i₀ lengths i =
+    let usable = isUsable marks from failed in
+    (i ≤ length pairs) × (length lengths ≡ length lengths₀) × (afterRound usable k pairs lengths₀ ≡ afterRound usable k (drop i pairs) lengths)
 
 abbrev μ-loop : tie.MeasureT-loop
-μ-loop pairs k lengths₀ i₀ lengths i = length pairs - i
+μ-loop pairs marks from failed k lengths₀ i₀ lengths i = length pairs - i
 
 loop-holds : tie.Need-loop-holds Inv-loop μ-loop
 loop-holds c = (omega arith, refl, refl)
@@ -53,13 +55,13 @@ loop-again c =
     let one = two .before .before in
     let at-loop = one .before .before .before .before in
     let l = at-loop .loop in
-    let a = at-loop .before .before .before .args in
+    let a = at-loop .before .before .before .before .args in
     let sender-is = one .byte-value .ensures .0 in
     let node-is = two .byte-value2 .ensures .0 in (
       omega arith,
       c .before .lengths .given ∙ l .inv .1,
       l .inv .2
-          ∙ round-next _ (now (a .pairs)) (l .lengths) _ (l .i) (l .i + 1) (l .i + 2) _ _
+          ∙ round-next (isUsable (now (a .marks)) (a .from) (a .failed)) _ (now (a .pairs)) (l .lengths) _ (l .i) (l .i + 1) (l .i + 2) _ _
           (omega arith) (omega arith) (omega arith) sender-is node-is (noted .note .ensures),
     )
 
@@ -67,7 +69,7 @@ same-length : tie.Need-same-length Inv-loop μ-loop
 same-length c = search needs
 
 returns : tie.Need-returns Inv-loop μ-loop
-returns c = let l = c .before .loop in sym (l .inv .2 ∙ round-over _ _ _ (l .i) (omega arith))
+returns c = let l = c .before .loop in sym (l .inv .2 ∙ round-over _ _ _ _ (l .i) (omega arith))
 
 pub round-spec : {M : Type 1} → statement M
 round-spec =

@@ -1,4 +1,4 @@
--- What the functions of crate `ways` are told of a network besides who hears whom: which nodes do not repeat the message. Assumes nothing.
+-- What the functions of crates `chains` and `ways` are told of a network besides who hears whom: which nodes do not repeat the message. Assumes nothing.
 use mathlib.Core.List.{List}
 use mathlib.Core.Logic.{_≢_}
 use mathlib.Core.Option.{some}
@@ -6,7 +6,7 @@ use mathlib.Core.Path.{_≡_}
 use Prim.Native.Nat.{ℕ}
 use lib.ListN.{length, getElem?}
 use Rattle.pdu.specs.declared.Header.{Header}
-use Rattle.ways.specs.Ways.{isUnmarked}
+use Rattle.chains.specs.Lengths.{isUnmarked}
 use Rattle.flood.specs.Air.{Repeater, address, canRepeat}
 
 -- a byte for each node, 0 for one that can repeat the message; the originator's says nothing

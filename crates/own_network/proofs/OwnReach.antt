@@ -1,0 +1,76 @@
+-- Whom a message reaches, from its parts.
+use mathlib.Core.Bool.{Bool, true}
+use mathlib.Core.List.{List, List·Memᴰ, map, Memᴰ·cast, Memᴰ·map, Memᴰ·of-map}
+use mathlib.Core.Logic.{_⊎_, inl, inr, ⊎-elim}
+use mathlib.Core.Path.{_≡_, sym}
+use Prim.Native.Nat.{ℕ}
+use Rattle.pdu.specs.declared.Header.{Header}
+use Rattle.chains.proofs.Failing.{chain-along, passing-chain, cut-off, not-reached}
+use Rattle.flood.specs.Air.{Repeater, address, canRepeat, repeaters}
+use Rattle.flood.proofs.Repeaters.{can-is, is-can, repeaters-are, are-repeaters}
+use Rattle.coverage.specs.Reach.{relayed}
+use Rattle.coverage.proofs.Covered.{reach-through}
+use Rattle.coverage.proofs.Left.{is-left, left-at, all-left}
+use Rattle.coverage.proofs.Reach.{links, linked}
+use Rattle.coverage.proofs.Told.{told}
+use Rattle.own_network.specs.OwnReach.{OwnReach}
+use Rattle.own_network.proofs.ReachCases as cases
+
+module _ (hears : ℕ → ℕ → Bool) (header : Header) (nodes : List Repeater) (sender node : ℕ) where
+  abbrev Sends : Type 0
+  Sends = (sender ≡ header .source) ⊎ ((n : Repeater) × List·Memᴰ n nodes × (address n ≡ sender) × (canRepeat header n ≡ true))
+
+  relayed-if : hears sender node ≡ true → Sends → relayed hears header nodes sender node ≡ true
+  relayed-if heard from =
+      links hears header nodes sender node
+      (⊎-elim {C = (sender ≡ header .source) ⊎ List·Memᴰ sender (map address (repeaters header nodes))} inl
+      (λ s.
+      let (n, n-in, is, can) = s in
+      inr (Memᴰ·cast (sym is) (Memᴰ·map address (are-repeaters header nodes n-in (can-is header n can)))))
+      from)
+      heard
+
+  relayed-only : relayed hears header nodes sender node ≡ true → (hears sender node ≡ true) × Sends
+  relayed-only e =
+      let (from, heard) = linked hears header nodes sender node e in (
+        heard,
+        ⊎-elim {C = Sends} inl
+            (λ m.
+            let (n, n-counts, is) = Memᴰ·of-map address (repeaters header nodes) m in
+            let (n-in, can) = repeaters-are header nodes n-counts in
+            inr (n, n-in, is, is-can header n can))
+            from,
+      )
+
+pub own-reach : OwnReach
+own-reach =
+    record {
+      reach = reach-through;
+      relayed-if = relayed-if;
+      relayed-only = relayed-only;
+      let-in-asked = λ header n clean pass for-it. record { no-fault = clean; lets-pass = pass; not-for-another = for-it };
+      told = told;
+      left = λ nodes failed place n n-at other. is-left failed place nodes n-at other;
+      left-only = λ nodes failed n m. left-at failed nodes m;
+      none-failed = λ nodes failed past. all-left failed nodes past;
+      cut-off = λ pairs marks from failed before lengths found to known other. (
+        cut-off pairs marks from failed before lengths found to known other,
+        not-reached pairs marks from failed before lengths found to known other,
+      );
+      by-nodes = λ hears nodes from to k. (chain-along hears nodes from k, passing-chain hears nodes from k);
+      base-taken = cases.base-taken;
+      base-told = cases.base-told;
+      base-ends = cases.base-ends;
+      rejected-taken = cases.rejected-taken;
+      rejected-told = cases.rejected-told;
+      rejected-ends = cases.rejected-ends;
+      nine-taken = cases.nine-taken;
+      nine-told = cases.nine-told;
+      nine-delivered = cases.nine-delivered;
+      nine-missed = cases.nine-missed;
+      addressed-taken = cases.addressed-taken;
+      addressed-told = cases.addressed-told;
+      addressed-ends = cases.addressed-ends;
+      line-failure = cases.line-failure;
+      two-ways-failure = cases.two-ways-failure;
+    }
