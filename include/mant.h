@@ -1003,10 +1003,11 @@ bool mant_remove_source(MantSources *record, uint16_t source);
 
 /* ---- Planning ----
  *
- * How often one report can go out at most, and how many bytes that is on the air; and the sizes, for a program in another language.
+ * How often one report can go out at most, and how many bytes that is on the air; the same for one command with its acknowledgements; and the sizes, for a
+ * program in another language.
  * Memory: none.
  * Numbers: 10.
- * Stack: mant_most_transmissions 8, mant_most_bytes 8, mant_limits 8.
+ * Stack: mant_most_transmissions 8, mant_most_bytes 8, mant_most_for_command 32, mant_limits 8.
  */
 
 /* A bound. Number 10: the hop limit is above 7. Too large: 64 bits do not hold the value. In both the value is 0. */
@@ -1039,13 +1040,21 @@ MantBound mant_most_transmissions(uint64_t nodes, uint64_t hop_limit);
 /* The most bytes that those transmissions have together, where the fresh PDU has this size. Any size is answered, also one that no PDU has. */
 MantBound mant_most_bytes(uint64_t nodes, uint64_t hop_limit, uint64_t size);
 
+/* The most transmissions that one command can cause, its acknowledgements counted. It is sent once, and again at most `tries` times, as mant_retry does. Its
+   destination acknowledges every copy that arrives, and each acknowledgement is a fresh PDU: with B and A the most transmissions of one command and of one
+   acknowledgement, there are at most (tries + 1) * B * (1 + A). `nodes` and `hop_limit` are the command's, `answer_nodes` and `answer_hop_limit` the
+   acknowledgement's. Both have a path, and what mant_most_transmissions asks holds for both. Neither the originator nor the destination counts among the
+   nodes. Number 10: one of the hop limits is above 7. */
+MantBound mant_most_for_command(uint64_t tries, uint64_t nodes, uint64_t hop_limit, uint64_t answer_nodes, uint64_t answer_hop_limit);
+
 /* The sizes above, as the library has them. */
 MantLimits mant_limits(void);
 
-/* Example: one report of 20 bytes among five repeaters, with hop limit 3.
+/* Example: one report of 20 bytes, and one command, among five repeaters, with hop limit 3.
 
        assert(mant_most_transmissions(5, 3).value == 86);
        assert(mant_most_bytes(5, 3, 20).value == 2170);
+       assert(mant_most_for_command(0, 5, 3, 5, 3).value == 7482);
        MantBound bound = mant_most_transmissions(5, 8);
        assert(bound.number == MANT_HOP_LIMIT_ABOVE_7 && bound.value == 0);
        assert(mant_limits().pdu == MANT_PDU_LIMIT); */

@@ -12,7 +12,7 @@ in MANT_LIB. Bytes go in as anything like bytes, and come out as bytes.
 (<Number.FOR_ANOTHER: 39>, <Number.DONE: 0>, '0300000b03e806400107d07001081212032413220276')
 
 It can read a PDU (`read`, `path`), make one (`originate`), be a node (`hear`, `walk`, `change_over`, `list_fault`, `list_holds`), plan
-(`most_transmissions`, `most_bytes`, `reach`), exchange with a decoder (`elements`, `read_exchange`, `write_exchange`), seal a payload (`seal`) and open it
+(`most_transmissions`, `most_bytes`, `most_for_command`, `reach`), exchange with a decoder (`elements`, `read_exchange`, `write_exchange`), seal a payload (`seal`) and open it
 once, against a `Record` (`mant.open`, not below, since `from mant import *` leaves Python's own `open` in its place; see `help(mant.open)`).
 
 >>> import mant
@@ -54,7 +54,7 @@ from mant_types import (ADDRESS, BYTE, EDITION_1_1, EDITION_1_2, EXCHANGE_LIMIT,
 # `open` is left out, so that `from mant import *` does not take the place of Python's own
 __all__ = ['Answer', 'EDITION_1_1', 'EDITION_1_2', 'EXCHANGE_TYPE', 'Element', 'Exchange', 'FIRST_LIST', 'Header', 'Level', 'LibraryMissing', 'Limits',
            'ListFault', 'Lists', 'NO_LIST', 'Node', 'Number', 'ProgramMissing', 'Queue', 'Reach', 'Reached', 'Record', 'Refused', 'SECOND_LIST', 'Station',
-           'Stations', 'Step', 'change_over', 'elements', 'hear', 'limits', 'list_fault', 'list_holds', 'message_number', 'most_bytes', 'most_transmissions',
+           'Stations', 'Step', 'change_over', 'elements', 'hear', 'limits', 'list_fault', 'list_holds', 'message_number', 'most_bytes', 'most_for_command', 'most_transmissions',
            'originate', 'path', 'reach', 'read', 'read_exchange', 'remove_source', 'seal', 'walk', 'write_exchange']
 
 # known by this module's name, whichever file they stand in
@@ -232,6 +232,21 @@ def most_bytes(nodes, hop_limit, size):
     10276
     """
     return _bound(library().mant_most_bytes(whole('nodes', nodes, WORD_64), whole('hop_limit', hop_limit, WORD_64), whole('size', size, WORD_64)))
+
+
+def most_for_command(tries, nodes, hop_limit, answer_nodes=None, answer_hop_limit=None):
+    """The most transmissions that one command can cause, its acknowledgements counted. It is sent once, and again at most so many times. Its destination
+    acknowledges every copy that arrives, each time by a fresh PDU. `answer_nodes` and `answer_hop_limit` are the acknowledgement's; where they are left out
+    they are the command's. Neither the originator nor the destination counts among the nodes. It holds where `most_transmissions` does for both.
+
+    >>> most_for_command(0, 3, 3)
+    272
+    """
+    answer_nodes = nodes if answer_nodes is None else answer_nodes
+    answer_hop_limit = hop_limit if answer_hop_limit is None else answer_hop_limit
+    return _bound(library().mant_most_for_command(
+        whole('tries', tries, WORD_64), whole('nodes', nodes, WORD_64), whole('hop_limit', hop_limit, WORD_64),
+        whole('answer_nodes', answer_nodes, WORD_64), whole('answer_hop_limit', answer_hop_limit, WORD_64)))
 
 
 def elements(run) -> Iterator[Element]:

@@ -85,6 +85,7 @@ FUNCTIONS = {
     'mant_remove_source': (c_bool, ctypes.POINTER(Sources), c_uint16),
     'mant_most_transmissions': (Bound, c_uint64, c_uint64),
     'mant_most_bytes': (Bound, c_uint64, c_uint64, c_uint64),
+    'mant_most_for_command': (Bound, c_uint64, c_uint64, c_uint64, c_uint64, c_uint64),
     'mant_limits': (Limits,),
 }
 

@@ -132,6 +132,8 @@ def walking():
 def planning():
     same('bounds', [mant.most_transmissions(*pair) for pair in ((3, 2), (3, 6), (3, 7), (3, 0), (0, 7))], [10, 16, 16, 1, 1])
     same('bytes', mant.most_bytes(2, 1, 20), 20 + 2 * 22)
+    same('commands', (mant.most_for_command(0, 3, 3), mant.most_for_command(0, 5, 3), mant.most_for_command(2, 1, 1, 0, 7)), (272, 7482, 12))
+    same('commands refused', (number_of(mant.most_for_command, 0, 1, 8, 1, 7), number_of(mant.most_for_command, 0, 1, 7, 1, 8)), (10, 10))
     same('hop limit 8', (number_of(mant.most_transmissions, 3, 8), number_of(mant.most_bytes, 3, 263, 20)), (10, 10))
     same('too large', raised(mant.most_transmissions, 1000, 7), (
         'OverflowError', 'the bound is above 18,446,744,073,709,551,615, and the library counts no further'))

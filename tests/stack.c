@@ -77,6 +77,7 @@ CALL(step_call, mant_step(node, NO_LISTS, pdu, sizeof pdu, start, output, sizeof
 CALL(step_listed_call, mant_step(listing, LISTS, pdu, sizeof pdu, start, output, sizeof output).answer.repeat == 0)
 CALL(most_transmissions_call, mant_most_transmissions(8, 7).value == 109601)
 CALL(most_bytes_call, mant_most_bytes(3, 1, 10).value == 46)
+CALL(most_for_command_call, mant_most_for_command(3, 8, 3, 8, 3).value == 4 * 401 * 402)
 CALL(limits_call, mant_limits().pdu == MANT_PDU_LIMIT)
 CALL(held_call, mant_stations_held(&table) == 0)
 CALL(count_heard_call, mant_count_heard(&table, heard) == 0)
@@ -156,6 +157,7 @@ static const struct {
     {"mant_remove_source", {remove_source_call}},
     {"mant_most_transmissions", {most_transmissions_call}},
     {"mant_most_bytes", {most_bytes_call}},
+    {"mant_most_for_command", {most_for_command_call}},
     {"mant_limits", {limits_call}},
 };
 

@@ -14,6 +14,7 @@ use Rattle.own_network.proofs.OwnNetwork.{own-network}
 use Rattle.own_network.proofs.OwnReach.{own-reach}
 use Rattle.two_editions.proofs.TwoEditions.{two-editions}
 use Rattle.reliable_messages.proofs.ReliableMessages.{reliable-messages}
+use Rattle.one_command.proofs.OneCommand.{one-command}
 use Rattle.two_lists.proofs.TwoLists.{two-lists}
 use Rattle.encrypted_payloads.proofs.EncryptedPayloads.{encrypted-payloads}
 use Rattle.audit.specs.Audited.{Audited}
@@ -40,4 +41,5 @@ audited =
       w212 = encrypted-payloads;
       own-network = own-network;
       own-reach = own-reach;
+      one-command = one-command;
     }

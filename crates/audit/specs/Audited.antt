@@ -16,6 +16,7 @@ use Rattle.own_network.specs.OwnNetwork.{OwnNetwork}
 use Rattle.own_network.specs.OwnReach.{OwnReach}
 use Rattle.two_editions.specs.TwoEditions.{TwoEditions}
 use Rattle.reliable_messages.specs.ReliableMessages.{ReliableMessages}
+use Rattle.one_command.specs.OneCommand.{OneCommand}
 use Rattle.two_lists.specs.TwoLists.{TwoLists}
 use Rattle.encrypted_payloads.specs.EncryptedPayloads.{EncryptedPayloads}
 
@@ -42,3 +43,5 @@ pub record Audited : Type 0 where
   -- and of a network of which it is known who hears whom: how often one message goes out, and whom it reaches
   pub own-network : OwnNetwork
   pub own-reach : OwnReach
+  -- several messages at once, and what one command and its acknowledgements put on the air
+  pub one-command : OneCommand

@@ -1,3 +1,4 @@
 pub mod Answers
 pub mod Series
 pub mod Values
+pub mod Commands

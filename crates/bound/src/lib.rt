@@ -1,7 +1,8 @@
 // How many times one report can go out on the air at most, and how many bytes that is.
 ghost use mathlib.Core.Path.{_≡_};
-ghost use Prim.Native.Nat.{_+_, _*_, _<_, _≤_};
+ghost use Prim.Native.Nat.{_+_, _*_, _<_, _≤_, max};
 ghost use Rattle.bound.specs.Bound.{series, terms, bound, bytesBound};
+ghost use Rattle.bound.specs.Command.{sendingsBound, commandBound};
 ghost use Rattle.bound.specs.Answer.{within64Bits, boundAnswer, boundNumber};
 
 // An answer: the number, or that it is more than 64 bits hold, or that the hop limit is above 7.
@@ -31,6 +32,54 @@ pub fn most_bytes(nodes: u64, hop_limit: u64, size: u64) -> Bound
     ensures { λ r. ⌜ r ≡ boundAnswer «hop_limit» (bytesBound nodes «hop_limit» size) ⌝ }
 {
     at_hop_limit(nodes, hop_limit, size, 2)
+}
+
+// The most transmissions that carry one command, where it is sent once and then again at most `tries` times. That holds where `most_transmissions`
+// does. `HopRefused` for a hop limit above 7, else `TooLarge` where 64 bits do not hold the number. Document 02, W-210.
+pub fn most_sendings(tries: u64, nodes: u64, hop_limit: u64) -> Bound
+    ensures { λ r. ⌜ r ≡ boundAnswer «hop_limit» (sendingsBound tries nodes «hop_limit») ⌝ }
+{
+    if 7 < hop_limit {
+        return Bound::HopRefused;
+    }
+    let Bound::Exactly(each) = most_transmissions(nodes, hop_limit) else {
+        return Bound::TooLarge;
+    };
+    let Bound::Exactly(sendings) = plus(tries, 1) else {
+        return Bound::TooLarge;
+    };
+    times(sendings, each)
+}
+
+// The most transmissions that one command can cause, its acknowledgements counted: its destination answers every copy that arrives, and each answer is a
+// fresh message. `answer_nodes` and `answer_hop_limit` are the acknowledgement's. That holds where `most_transmissions` does for both, command and
+// acknowledgement. `HopRefused` for a hop limit above 7, else `TooLarge` where 64 bits do not hold the number. Document 02, W-210.
+pub fn most_for_command(
+    tries: u64,
+    nodes: u64,
+    hop_limit: u64,
+    answer_nodes: u64,
+    answer_hop_limit: u64,
+) -> Bound
+    ensures { λ r. ⌜ r ≡ boundAnswer (max «hop_limit» «answer_hop_limit»)
+        (commandBound tries (bound nodes «hop_limit») (bound «answer_nodes» «answer_hop_limit»)) ⌝ }
+{
+    if 7 < hop_limit {
+        return Bound::HopRefused;
+    }
+    if 7 < answer_hop_limit {
+        return Bound::HopRefused;
+    }
+    let Bound::Exactly(sendings) = most_sendings(tries, nodes, hop_limit) else {
+        return Bound::TooLarge;
+    };
+    let Bound::Exactly(answers) = most_transmissions(answer_nodes, answer_hop_limit) else {
+        return Bound::TooLarge;
+    };
+    let Bound::Exactly(each) = plus(1, answers) else {
+        return Bound::TooLarge;
+    };
+    times(sendings, each)
 }
 
 // The number that goes with an answer: 10 for a hop limit that is refused, else 0. Document 01, "Numbers answered", 10.

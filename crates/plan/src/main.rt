@@ -3,7 +3,10 @@
 // plan             prints a table for up to 12 repeating nodes
 // plan N H         answers for N repeating nodes and hop limit H; the report's originator and its destination do not count
 // plan N H BYTES   gives the bytes on the air too, for a fresh PDU of that length, 7 to 4,105
+// plan command TRIES N H [N2 H2]
+//                  answers for one command, sent again at most TRIES times, with its acknowledgements; N2 and H2 are theirs, else N and H
 mod argument;
+mod command;
 mod table;
 
 use argument::Argument;
@@ -25,12 +28,14 @@ fn main() {
     let words = os::arg_count();
     if words < 2 {
         print_table();
+    } else if command::is_asked() {
+        command::answer(words);
     } else if words == 3 {
         answer(false);
     } else if words == 4 {
         answer(true);
     } else {
-        complain(b"give no argument, N H, or N H BYTES");
+        complain_use();
     }
 }
 
@@ -150,6 +155,10 @@ fn say_count(number: u64, what: &[u8]) {
     if number != 1 {
         say(b"s");
     }
+}
+
+fn complain_use() {
+    complain(b"give no argument, N H, N H BYTES, or command TRIES N H [N2 H2]");
 }
 
 fn complain_hop_limit() {

@@ -28,6 +28,8 @@ use Rattle.mant.proofs.planning.mant_most_transmissions.Reads as mant-most-tran
 use Rattle.mant.proofs.planning.mant_most_transmissions.Kinds as mant-most-transmissions-kinds
 use Rattle.mant.proofs.planning.mant_most_bytes.Reads as mant-most-bytes-reads
 use Rattle.mant.proofs.planning.mant_most_bytes.Kinds as mant-most-bytes-kinds
+use Rattle.mant.proofs.planning.mant_most_for_command.Reads as mant-most-for-command-reads
+use Rattle.mant.proofs.planning.mant_most_for_command.Kinds as mant-most-for-command-kinds
 use Rattle.mant.proofs.planning.mant_limits.Reads as mant-limits-reads
 use Rattle.mant.proofs.planning.mant_limits.Kinds as mant-limits-kinds
 use Rattle.mant.proofs.stations_heard.mant_stations_held.Reads as mant-stations-held-reads
@@ -116,6 +118,10 @@ mant-most-transmissions = (λ κs a. tt, λ κs a x y s t p q. p ∙ sym q)
 
 pub mant-most-bytes : Promised 0 mant-most-bytes-kinds.ps mant-most-bytes-kinds.r mant-most-bytes-reads.Asked mant-most-bytes-reads.Post (λ κs x. x)
 mant-most-bytes = (λ κs a. tt, λ κs a x y s t p q. p ∙ sym q)
+
+pub mant-most-for-command : Promised 0 mant-most-for-command-kinds.ps mant-most-for-command-kinds.r mant-most-for-command-reads.Asked
+    mant-most-for-command-reads.Post (λ κs x. x)
+mant-most-for-command = (λ κs a. tt, λ κs a x y s t p q. p ∙ sym q)
 
 pub mant-limits : Promised 0 mant-limits-kinds.ps mant-limits-kinds.r mant-limits-reads.Asked mant-limits-reads.Post (λ κs x. x)
 mant-limits = (λ κs a. tt, λ κs a x y s t p q. p ∙ sym q)

@@ -3,17 +3,13 @@
 use crate::same::Input;
 use crate::Compared;
 use generator::Random;
-use mant::raw::{most_bytes, most_transmissions, Bound};
+use mant::raw::{most_bytes, most_for_command, most_transmissions, Bound};
 use reference::numbers::HOP_SETTING;
-use reference::{bound, bytes_bound};
+use reference::{bound, bytes_bound, command_bound};
 
 /// Compares for few nodes and for very many.
 pub fn compare(random: &mut Random) -> Compared {
-    let nodes = number(random, 30);
-    let hop = match random.one_in(8) {
-        true => number(random, 20),
-        false => random.below(8) as u64,
-    };
+    let (nodes, hop) = network(random);
     let length = number(random, 4_700);
     let input = Input {
         bytes: &[],
@@ -23,7 +19,30 @@ pub fn compare(random: &mut Random) -> Compared {
     input.same("transmissions", most, wanted(hop, bound(nodes, hop)))?;
     let most = most_bytes(nodes, hop, length);
     let reference = bytes_bound(nodes, hop, length);
-    input.same("bytes", most, wanted(hop, reference))
+    input.same("bytes", most, wanted(hop, reference))?;
+    commands(random, (nodes, hop))
+}
+
+/// Compares what a command and its acknowledgements come to.
+fn commands(random: &mut Random, command: (u64, u64)) -> Compared {
+    let tries = number(random, 5);
+    let answer = network(random);
+    let input = Input {
+        bytes: &[],
+        rest: &format!("{tries} tries, command {command:?}, answer {answer:?}"),
+    };
+    let most = most_for_command(tries, command.0, command.1, answer.0, answer.1);
+    let reference = command_bound(tries, command, answer);
+    input.same("command", most, wanted(command.1.max(answer.1), reference))
+}
+
+/// A number of nodes, and a hop limit that is mostly one.
+fn network(random: &mut Random) -> (u64, u64) {
+    let hop = match random.one_in(8) {
+        true => number(random, 20),
+        false => random.below(8) as u64,
+    };
+    (number(random, 30), hop)
 }
 
 /// A number up to so much, or of any size, often near a power of two.

@@ -77,7 +77,7 @@ pub use exchange::{elements, read_exchange, write_exchange, Element, Elements, E
 pub use lists::{list_holds, Choice, EightLists, List, ListFault, Lists, TwoLists};
 pub use node::{hear, step, Answer, Node, Step};
 pub use originating::{originate, Fresh};
-pub use planning::{limits, most_bytes, most_transmissions};
+pub use planning::{limits, most_bytes, most_for_command, most_transmissions};
 pub use queue::{Queue, Taken};
 pub use raw::{Cursor, Key, Level, Limits, Names, Retained, Sending};
 pub use raw::{EDITION_1_1, EDITION_1_2, PAYLOAD_LIMIT, PDU_LIMIT};

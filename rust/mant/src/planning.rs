@@ -1,4 +1,5 @@
-//! How often one report can go out at most; the sizes.
+//! How often one report, and one command with its acknowledgements, can go out
+//! at most; the sizes.
 
 use crate::raw;
 use crate::{Limits, Refusal};
@@ -25,6 +26,34 @@ pub fn most_transmissions(nodes: u64, hop_limit: u64) -> Result<Option<u64>, Ref
 /// is above 7.
 pub fn most_bytes(nodes: u64, hop_limit: u64, size: u64) -> Result<Option<u64>, Refusal> {
     bound(raw::most_bytes(nodes, hop_limit, size))
+}
+
+/// The most transmissions that one command can cause, its acknowledgements
+/// counted. It is sent once, and again at most `tries` times. Its destination
+/// acknowledges every copy that arrives, each time by a fresh PDU.
+/// `answer_nodes` and `answer_hop_limit` are the acknowledgement's. Neither the
+/// originator nor the destination counts among the nodes. It holds where
+/// [`most_transmissions`] does for both. None: 64 bits do not hold it. Refusal:
+/// 10 where a hop limit is above 7.
+///
+/// ```
+/// assert_eq!(mant::most_for_command(0, 3, 3, 3, 3), Ok(Some(272)));
+/// assert_eq!(mant::most_for_command(3, 5, 3, 5, 3), Ok(Some(4 * 7_482)));
+/// ```
+pub fn most_for_command(
+    tries: u64,
+    nodes: u64,
+    hop_limit: u64,
+    answer_nodes: u64,
+    answer_hop_limit: u64,
+) -> Result<Option<u64>, Refusal> {
+    bound(raw::most_for_command(
+        tries,
+        nodes,
+        hop_limit,
+        answer_nodes,
+        answer_hop_limit,
+    ))
 }
 
 /// The sizes, as the library has them.

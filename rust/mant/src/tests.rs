@@ -66,6 +66,12 @@ fn bounds_and_limits() {
     assert_eq!(most_transmissions(u64::MAX, 7), Ok(None));
     assert_eq!(most_transmissions(3, 8), Err(Refusal::HopLimitAbove7));
     assert_eq!(most_bytes(3, 1, 20), Ok(Some(20 + 3 * 22)));
+    assert_eq!(most_for_command(0, 3, 3, 3, 3), Ok(Some(16 + 16 * 16)));
+    assert_eq!(most_for_command(2, 1, 1, 0, 7), Ok(Some(3 * 2 * 2)));
+    assert_eq!(most_for_command(u64::MAX, 0, 0, 0, 0), Ok(None));
+    let above = Err(Refusal::HopLimitAbove7);
+    assert_eq!(most_for_command(0, 1, 8, 1, 7), above);
+    assert_eq!(most_for_command(0, 1, 7, 1, 8), above);
     let limits = limits();
     assert_eq!((limits.payload, limits.pdu), (PAYLOAD_LIMIT, PDU_LIMIT));
     assert_eq!((limits.fixed, limits.payload, limits.path), (6, 4095, 255));

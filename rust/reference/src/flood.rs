@@ -39,6 +39,15 @@ pub fn bytes_bound(nodes: u64, hop: u64, fresh_length: u64) -> Option<u128> {
     })
 }
 
+/// The most times that a command and its acknowledgements can go out (02,
+/// W-210): it is sent once and then `tries` times, and each time that it goes
+/// out it may arrive and be acknowledged. None as for the bound, of either.
+pub fn command_bound(tries: u64, command: (u64, u64), answer: (u64, u64)) -> Option<u128> {
+    let once = bound(command.0, command.1)?;
+    let replies = once.checked_mul(bound(answer.0, answer.1)?)?;
+    (u128::from(tries) + 1).checked_mul(once.checked_add(replies)?)
+}
+
 /// Adds up, over every path that can go out, what one path of so many entries
 /// weighs.
 fn sum_over_paths(nodes: u64, hop: u64, weight: impl Fn(u64) -> u128) -> Option<u128> {

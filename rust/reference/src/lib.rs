@@ -29,7 +29,7 @@ pub use aes::{counter_mode, encipher, Key};
 pub use batch::{walk, Step, Walk, MOST_BATCH};
 pub use edition::{read_under, Bits, Edition, Shown, EDITION_1_1, EDITION_1_2};
 pub use exchange::{element_at, read_exchange, write_exchange, Element, Exchange, MOST_EXCHANGE};
-pub use flood::{bound, bytes_bound, longest_path};
+pub use flood::{bound, bytes_bound, command_bound, longest_path};
 pub use header::{read, Header, FIXED_LENGTH, MOST_PATH, MOST_PAYLOAD, MOST_PDU};
 pub use job::{read_job, relay, Job};
 pub use lists::{

@@ -1,4 +1,5 @@
-//! How often one report can go out at most; the sizes.
+//! How often one report, and one command with its acknowledgements, can go out
+//! at most; the sizes.
 
 /// A bound. Number 10: the hop limit is above 7. Too large: 64 bits do not hold
 /// the value. In both the value is 0.
@@ -44,6 +45,13 @@ const _: () = {
 extern "C" {
     fn mant_most_transmissions(nodes: u64, hop_limit: u64) -> Bound;
     fn mant_most_bytes(nodes: u64, hop_limit: u64, size: u64) -> Bound;
+    fn mant_most_for_command(
+        tries: u64,
+        nodes: u64,
+        hop_limit: u64,
+        answer_nodes: u64,
+        answer_hop_limit: u64,
+    ) -> Bound;
     fn mant_limits() -> Limits;
 }
 
@@ -57,6 +65,18 @@ pub fn most_transmissions(nodes: u64, hop_limit: u64) -> Bound {
 pub fn most_bytes(nodes: u64, hop_limit: u64, size: u64) -> Bound {
     // SAFETY: it takes numbers only.
     unsafe { mant_most_bytes(nodes, hop_limit, size) }
+}
+
+/// `mant_most_for_command`.
+pub fn most_for_command(
+    tries: u64,
+    nodes: u64,
+    hop_limit: u64,
+    answer_nodes: u64,
+    answer_hop_limit: u64,
+) -> Bound {
+    // SAFETY: it takes numbers only.
+    unsafe { mant_most_for_command(tries, nodes, hop_limit, answer_nodes, answer_hop_limit) }
 }
 
 /// `mant_limits`.

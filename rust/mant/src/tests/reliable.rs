@@ -109,3 +109,46 @@ fn what_is_not_retained() {
         assert_eq!((refused, &table), (Err(number), &before));
     }
 }
+
+/// How many transmissions there are where a command is sent once among so many
+/// repeaters, besides originator and destination, and all hear one another.
+fn commanded(repeaters: u16, hop_limit: u64) -> Result<u64, Refusal> {
+    let command = Fresh {
+        reliable: true,
+        hop_limit,
+        ..fresh()
+    };
+    let sending = Sending {
+        hop_limit,
+        with_path: true,
+        ..Sending::default()
+    };
+    let mut output = [0; 64];
+    let length = originate(&command, &[], &mut output)?;
+    let mut on_the_air = vec![output[..length].to_vec()];
+    let mut place = 0;
+    while let Some(pdu) = on_the_air.get(place).cloned() {
+        for own in [1000, 1600].into_iter().chain(1..=repeaters) {
+            let (node, lists) = (Node::new(own), Lists::none());
+            let heard = Reliable::new().hear(&node, &lists, &pdu, &sending, &mut output);
+            let length = match heard.deed? {
+                Deed::Acknowledged(_, length) => length,
+                _ => heard.answer.repeat.unwrap_or(0),
+            };
+            if length > 0 {
+                on_the_air.push(output[..length].to_vec());
+            }
+        }
+        place += 1;
+    }
+    Ok(on_the_air.len() as u64)
+}
+
+#[test]
+fn a_command_reaches_its_bound() {
+    for (nodes, hop) in [(0, 3), (1, 1), (2, 1), (2, 7), (3, 2), (3, 3)] {
+        let most = most_for_command(0, nodes.into(), hop, nodes.into(), hop);
+        assert_eq!(most, commanded(nodes, hop).map(Some));
+    }
+    assert_eq!(commanded(3, 3), Ok(272));
+}

@@ -1,0 +1,9 @@
+pub mod Boxing
+pub mod Cases
+pub mod Commands
+pub mod Grid
+pub mod OneCommand
+pub mod Plain
+pub mod Replies
+pub mod Totals
+pub mod Traffic

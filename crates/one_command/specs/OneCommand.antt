@@ -1,0 +1,116 @@
+-- Several messages at once, and what one command and its acknowledgements put on the air (document 02, W-210), as one record; `proofs/OneCommand.antt` gives
+-- it from its parts.
+use mathlib.Core.Bool.{Bool, true}
+use mathlib.Core.List.{List, [], _∷_, map, List·Memᴰ, List·Nodup}
+use mathlib.Core.Logic.{_≢_}
+use mathlib.Core.Option.{none, some}
+use mathlib.Core.Path.{_≡_}
+use Prim.Native.Nat.{ℕ, _+_, _*_, _≤_}
+use lib.ListN.{length, replicate}
+use Rattle.octets.specs.Octets.{AllBytes, over}
+use Rattle.pdu.specs.declared.Destination.the-variants.{Address}
+use Rattle.pdu.specs.Header.{headerOf, sourceOf}
+use Rattle.bound.specs.Bound.{bound}
+use Rattle.bound.specs.Command.{sendingsBound, commandBound}
+use Rattle.origin.specs.declared.FreshSettings.{FreshSettings}
+use Rattle.origin.specs.Origination.{freshHeader, fresh}
+use Rattle.retained.specs.declared.Retained.{Retained}
+use Rattle.retained.specs.Records.{unfit, namesOf}
+use Rattle.retained.specs.Table.{answered}
+use Rattle.answering.specs.Delivered.{ackHeader}
+use Rattle.answering.specs.Hearing.{outcomeHeard, outputHeard}
+use Rattle.ending.specs.Ending.{FreeTable}
+use Rattle.ending.specs.History.{RetrySettings, Operation, history, start}
+use Rattle.flood.specs.Air.{Repeater, address, hopOf, onTheAir, repeaters, Nodes, Begins, Originated}
+use Rattle.flood.specs.Flood.{Reception, total}
+use Rattle.together.specs.Together.{Event, Sent, Heard, messages, receptions, allOnTheAir, OnlyHeard, countedFor}
+use Rattle.together.specs.Together.{mostOf, mostBytesOf, airOfMessage, airBytesOfMessage}
+use Rattle.one_command.specs.Boxes.{Box, repeatersOf, isAcknowledging, responds, allSent, commandsIn, repliesIn, Command, replyTo, asks, repliesOf}
+use Rattle.one_command.specs.Boxes.{Carried, Retried}
+use Rattle.one_command.specs.Worked.{three, boxAt, order, bothAnswered}
+
+-- What one command puts on the air, from the bounds of one sending of the command and of one acknowledgement, and from their bytes: all transmissions, those
+-- that carry the command, those that carry an acknowledgement, and all bytes.
+abbrev pub Within : ℕ → ℕ → ℕ → ℕ → ℕ → List (List ℕ) → Type 0
+Within tries most answers bytes answerBytes log =
+    (length log ≤ commandBound tries most answers) × (commandsIn log ≤ (tries + 1) * most) × (repliesIn log ≤ (tries + 1) * most * answers)
+    × (total length log ≤ (tries + 1) * (bytes + most * answerBytes))
+
+pub record OneCommand : Type 0 where
+  -- SEVERAL MESSAGES, each sent at its time, in any order with all that the nodes repeat, no node taking a transmission twice: no more transmissions and
+  -- bytes than the sum of the messages' bounds, demand 3's, and the network's own where it is known who hears whom
+  pub together : (nodes : List Repeater) → Nodes nodes → (events : List (Event (List ℕ))) → ((m : List ℕ) → List·Memᴰ m (messages events) → Begins m)
+      → List·Nodup (receptions events)
+      → (length (allOnTheAir nodes events) ≤ total (mostOf nodes) (messages events))
+      × (total length (allOnTheAir nodes events) ≤ total (mostBytesOf nodes) (messages events))
+  pub together-heard : (hears : ℕ → ℕ → Bool) (nodes : List Repeater) → Nodes nodes → (events : List (Event (List ℕ)))
+      → ((m : List ℕ) → List·Memᴰ m (messages events) → Begins m) → List·Nodup (receptions events)
+      → OnlyHeard hears nodes (allOnTheAir nodes events) (receptions events)
+      → (length (allOnTheAir nodes events) ≤ total (λ m. airOfMessage nodes m hears) (messages events))
+      × (total length (allOnTheAir nodes events) ≤ total (λ m. airBytesOfMessage nodes m hears) (messages events))
+  -- what origination wrote with a path is such a message, and its bound is demand 3's
+  pub originated : (nodes : List Repeater) (settings : FreshSettings) (payload : List ℕ) (room : ℕ) → Originated settings payload room
+      → Begins (fresh settings payload)
+      × (mostOf nodes (fresh settings payload) ≡ bound (length (repeaters (freshHeader settings (length payload)) nodes)) (settings .«hop_limit»))
+  -- one message alone is demand 3's run
+  pub one-message : (nodes : List Repeater) (first : List ℕ) (taken : List Reception)
+      → allOnTheAir nodes (Sent first ∷ map Heard taken) ≡ onTheAir nodes first taken
+  -- ALL TRAFFIC among boxes that acknowledge what they are delivered: each message's own bound, and for each of its transmissions the bound of the
+  -- acknowledgement by the box that it is for; and the bytes
+  pub traffic : (boxes : List Box) → Nodes (repeatersOf boxes) → (events : List (Event (List ℕ)))
+      → ((m : List ℕ) → List·Memᴰ m (messages events) → Carried boxes m) → List·Nodup (receptions events)
+      → let most = mostOf (repeatersOf boxes) in let bytes = mostBytesOf (repeatersOf boxes) in
+      (length (allSent boxes events) ≤ total (λ m. most m + most m * repliesOf most boxes m) (messages events))
+      × (total length (allSent boxes events) ≤ total (λ m. bytes m + most m * repliesOf bytes boxes m) (messages events))
+  pub traffic-heard : (hears : ℕ → ℕ → Bool) (boxes : List Box) → Nodes (repeatersOf boxes) → (events : List (Event (List ℕ)))
+      → ((m : List ℕ) → List·Memᴰ m (messages events) → Carried boxes m) → List·Nodup (receptions events)
+      → OnlyHeard hears (repeatersOf boxes) (allSent boxes events) (receptions events)
+      → let most : List ℕ → ℕ = λ m. airOfMessage (repeatersOf boxes) m hears in
+      let bytes : List ℕ → ℕ = λ m. airBytesOfMessage (repeatersOf boxes) m hears in
+      (length (allSent boxes events) ≤ total (λ m. most m + most m * repliesOf most boxes m) (messages events))
+      × (total length (allSent boxes events) ≤ total (λ m. bytes m + most m * repliesOf bytes boxes m) (messages events))
+  -- ONE COMMAND, sent by a box that retains it and retries, among boxes that acknowledge what they are delivered
+  pub command : (boxes : List Box) → Nodes (repeatersOf boxes) → (there : Box) (bytes : List ℕ) → Command boxes there bytes
+      → (s : RetrySettings) (sendings : ℕ) → Retried s bytes sendings
+      → (events : List (Event (List ℕ))) → messages events ≡ replicate sendings bytes → List·Nodup (receptions events)
+      → let nodes = repeatersOf boxes in let reply = replyTo there bytes in
+      Within (s .tries) (mostOf nodes bytes) (mostOf nodes reply) (mostBytesOf nodes bytes) (mostBytesOf nodes reply) (allSent boxes events)
+  pub command-heard : (hears : ℕ → ℕ → Bool) (boxes : List Box) → Nodes (repeatersOf boxes) → (there : Box) (bytes : List ℕ) → Command boxes there bytes
+      → (s : RetrySettings) (sendings : ℕ) → Retried s bytes sendings
+      → (events : List (Event (List ℕ))) → messages events ≡ replicate sendings bytes → List·Nodup (receptions events)
+      → OnlyHeard hears (repeatersOf boxes) (allSent boxes events) (receptions events)
+      → let nodes = repeatersOf boxes in let reply = replyTo there bytes in
+      Within (s .tries) (airOfMessage nodes bytes hears) (airOfMessage nodes reply hears) (airBytesOfMessage nodes bytes hears)
+      (airBytesOfMessage nodes reply hears) (allSent boxes events)
+  -- the acknowledgement's own bound goes by the destination's settings
+  pub reply-bound : (nodes : List Repeater) (there : Box) (bytes : List ℕ) → there .sending .«hop_limit» ≤ 7 → there .sending .port ≤ 15
+      → mostOf nodes (replyTo there bytes) ≡ bound (length (repeaters (ackHeader (there .sending) (namesOf bytes)) nodes)) (there .sending .«hop_limit»)
+  -- neither the originator nor the destination counts among the nodes that can repeat the command
+  pub both-apart : (boxes : List Box) (there : Box) (bytes : List ℕ) → Command boxes there bytes
+      → (n : Repeater) → List·Memᴰ n (countedFor (repeatersOf boxes) bytes) → (address n ≢ sourceOf bytes) × (address n ≢ address (there .repeater))
+  -- what such a box sends is what the node and the table together write, into an output of its room; and it answers where they say so
+  pub box-writes : (box : Box) (received output : List ℕ) → length output ≡ box .repeater .room
+      → outputHeard (box .repeater .node) 16 (box .sending) received output ≡ elim (responds box received) [ none ↦ output | some sent ↦ over sent output ]
+  pub box-answers : (box : Box) (table : List Retained) (last : ℕ) (received : List ℕ) → length table ≡ 16 → isAcknowledging box received ≡ true
+      → outcomeHeard (box .repeater .node) table last (box .sending) (box .repeater .room) received .deed ≡ answered
+  pub box-answers-only : (box : Box) (table : List Retained) (last : ℕ) (received : List ℕ) → length table ≡ 16
+      → outcomeHeard (box .repeater .node) table last (box .sending) (box .repeater .room) received .deed ≡ answered → isAcknowledging box received ≡ true
+  -- no more is asked than these conditions say
+  pub command-asked : (boxes : List Box) (there : Box) (bytes : List ℕ) → AllBytes bytes → unfit bytes ≡ 0 → headerOf bytes .«path_bit» ≡ true
+      → List·Memᴰ there boxes → headerOf bytes .destination ≡ Address (address (there .repeater)) → there .sending .«with_path» ≡ true
+      → Command boxes there bytes
+  pub carried-asked : (boxes : List Box) (bytes : List ℕ) → Begins bytes
+      → ((box : Box) → List·Memᴰ box boxes → asks bytes box ≡ true → box .sending .«with_path» ≡ true) → Carried boxes bytes
+  pub retried-asked : (s : RetrySettings) (bytes : List ℕ) (sendings : ℕ) (table : List Retained) (last : ℕ) (operations : List Operation) → FreeTable table
+      → sendings ≤ history s (namesOf bytes) operations (start table last) .life .sent + 1 → Retried s bytes sendings
+  -- WORKED CASES. One sending at hop limit 3 among 3 repeaters, and among 5; with three tries more; and what carries the command
+  pub one-sending : (commandBound 0 (bound 3 3) (bound 3 3) ≡ 272) × (commandBound 0 (bound 5 3) (bound 5 3) ≡ 7482)
+      × (commandBound 3 (bound 3 3) (bound 3 3) ≡ 1088) × (sendingsBound 3 3 3 ≡ 64)
+  -- one repeater, hop limit 1: two transmissions carry the command, each is acknowledged and each acknowledgement repeated. The bound is reached
+  pub reached : (allSent three bothAnswered ≡ order ∷ (0x0B ∷ 0x40 ∷ 0x00 ∷ 0x00 ∷ 0x07 ∷ 0xD0 ∷ 0x03 ∷ 0xE8 ∷ 0x07 ∷ 0x01 ∷ 0x0B ∷ 0xB8 ∷ [])
+      ∷ (0x0B ∷ 0x01 ∷ 0x10 ∷ 0x00 ∷ 0x03 ∷ 0xE8 ∷ 0x07 ∷ 0xD0 ∷ 0x07 ∷ 0x00 ∷ [])
+      ∷ (0x0B ∷ 0x01 ∷ 0x10 ∷ 0x00 ∷ 0x03 ∷ 0xE8 ∷ 0x07 ∷ 0xD0 ∷ 0x07 ∷ 0x00 ∷ [])
+      ∷ (0x0B ∷ 0x01 ∷ 0x00 ∷ 0x00 ∷ 0x03 ∷ 0xE8 ∷ 0x07 ∷ 0xD0 ∷ 0x07 ∷ 0x01 ∷ 0x0B ∷ 0xB8 ∷ [])
+      ∷ (0x0B ∷ 0x01 ∷ 0x00 ∷ 0x00 ∷ 0x03 ∷ 0xE8 ∷ 0x07 ∷ 0xD0 ∷ 0x07 ∷ 0x01 ∷ 0x0B ∷ 0xB8 ∷ []) ∷ [])
+      × (mostOf (repeatersOf three) order ≡ 2) × (mostOf (repeatersOf three) (replyTo (boxAt 1000) order) ≡ 2) × (commandBound 0 2 2 ≡ 6)
+  pub reached-asked : Nodes (repeatersOf three) × Command three (boxAt 1000) order × List·Nodup (receptions bothAnswered)
