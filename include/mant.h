@@ -17,7 +17,7 @@
  *     The serial exchange  a PDU between a decoder and an encoder that are two devices
  *     Reliable messages    PDUs that are sent again until they are acknowledged
  *     Sealing and opening  payloads enciphered under a key, and opened once
- *     Planning             how often one report can go out at most; the sizes
+ *     Planning             whom a report reaches on a network, and how often it goes out there; how often it can at most; the sizes
  *
  * Each begins with what it is for, its memory, the numbers that it answers beside 0 and the stack of its calls, and ends with an example: the body of a main,
  * with mant.h, assert.h and string.h included, which the tests take out of here, compile and run as C11. C++11 can include this header too; the .name = of
@@ -288,7 +288,7 @@ MantWritten mant_originate(MantFresh settings, const uint8_t *payload, size_t pa
  *     eight empty lists. The calls that hear check all eight lists each time, whatever is chosen. Only laying changes a block.
  * Numbers: for delivery and repeating alike 17, 20 to 22, 1 to 6, 30, 42, 31 to 34 and 40; for delivery alone 35 and 39; for repeating alone 36 to 38 and
  *     41; for a batch above the size limit 54.
- * Stack: mant_change_over 8, mant_list_holds 8, mant_list_fault 64, mant_lay_lists 168, mant_hear 288, mant_step 352.
+ * Stack: mant_change_over 8, mant_list_holds 8, mant_list_fault 64, mant_lay_lists 160, mant_hear 288, mant_step 352.
  */
 
 /* Values in a list, words in a block that lists are laid into, bytes in a batch. */
@@ -1003,12 +1003,40 @@ bool mant_remove_source(MantSources *record, uint16_t source);
 
 /* ---- Planning ----
  *
- * How often one report can go out at most, and how many bytes that is on the air; the same for one command with its acknowledgements; and the sizes, for a
- * program in another language.
- * Memory: none.
+ * Whom a report reaches on a network of which it is known who hears whom, over how many hearings, and how often it goes out there, in all and from each
+ * node; how often one report can go out at most on any network, and one command with its acknowledgements; and the sizes, for a program in another
+ * language. These calls are for a planner's computer: a box needs none of them.
+ * A network. `marks` has a byte for each node, at most MANT_NODE_LIMIT, and a node is its place there. A node whose byte is not 0 does not repeat the report:
+ * its repeating is off, its lists stop it, or the report is for that node. The originator's byte says nothing. `pairs` says who hears whom: a sender's
+ * place, then the place of a node that hears it, and so on. What is said twice counts once. A place that no node has says nothing, nor does a node that
+ * hears itself, nor a last byte without a partner. A hearing that is not certain is safely told as one: it never takes a chain or a transmission away.
+ * Memory: for the two counts of a network a table of 256 bytes a node, MANT_AIRTIME_TABLE for every network, lent for the call alone. What it holds before is
+ * of no matter; afterwards it is all zeros.
  * Numbers: 10.
- * Stack: mant_most_transmissions 8, mant_most_bytes 8, mant_most_for_command 32, mant_limits 8.
+ * Stack: mant_chain_lengths 104, mant_least_hop_limit 8, mant_network_transmissions 45,152, mant_network_bytes 45,160, mant_most_transmissions 8,
+ *     mant_most_bytes 8, mant_most_for_command 32, mant_limits 8. The two counts of a network go down once for each node of a path, 176 bytes each: at
+ *     hop limits 0 to 6 they take 1,512 bytes at most.
  */
+
+/* The most nodes of a network, and the bytes of a table for so many. */
+#define MANT_NODE_LIMIT 255
+#define MANT_AIRTIME_TABLE 65280
+
+/* The length of a node that no chain leads to; the place of no node; what stands for a hop limit where none reaches all. */
+#define MANT_NO_CHAIN 255
+#define MANT_NO_NODE 255
+#define MANT_NO_HOP_LIMIT 8
+
+/* How often a report goes out on a network, or how many bytes that is. Served: there are at most MANT_NODE_LIMIT nodes, the originator is one of them, and
+   counts and table have the room. Enough: the value is not below what the caller said is enough. Number 10: the hop limit is above 7, and then served
+   is false. The value is 0 unless the number is 0, the network served and the value not enough. */
+typedef struct MantAirtime {
+    uint8_t number;
+    bool served;
+    bool enough;
+    uint64_t value;
+} MantAirtime;
+MANT_SIZE(MantAirtime, 16);
 
 /* A bound. Number 10: the hop limit is above 7. Too large: 64 bits do not hold the value. In both the value is 0. */
 typedef struct MantBound {
@@ -1030,6 +1058,30 @@ typedef struct MantLimits {
 } MantLimits;
 MANT_SIZE(MantLimits, 56);
 
+/* Writes for each node how many hearings its shortest chain from the originator has, the node at place `from`: 0 for the originator, MANT_NO_CHAIN where no
+   chain leads to it. A chain goes from the originator through nodes that repeat the report, and not by the node at place `failed`, which neither sends nor
+   hears; MANT_NO_NODE says that none has failed. A node of length k, from 1 on, is delivered the report at hop limit h if k is at most h + 1, at 7 if k is
+   not MANT_NO_CHAIN; the path count is then k - 1. A node that has a chain, and none where another has failed, is cut off by that failure. Returns false,
+   and writes nothing, if there are more than MANT_NODE_LIMIT nodes, none is at `from`, or there is not one length for each node. */
+bool mant_chain_lengths(const uint8_t *pairs, size_t pairs_length, const uint8_t *marks, size_t marks_length, size_t from, size_t failed,
+                        uint8_t *lengths, size_t lengths_length);
+
+/* The least hop limit, 0 to 7, at which all nodes but the originator are delivered the report, by their lengths; MANT_NO_HOP_LIMIT if one has no chain. */
+uint8_t mant_least_hop_limit(const uint8_t *lengths, size_t lengths_length);
+
+/* How often one report with a path goes out on the network, its first sending counted, if every node takes what it hears once, and repeats it unless it has
+   a mark; and in `counts`, a number for each node, how often each sends it. It goes out no more often where transmissions are lost. Echo is on at each
+   node, no two have the same address, and none takes a transmission twice, or one that it does not hear by `pairs`. The count stops at `enough`, which
+   bounds the time: counts are then all 0. On a desk computer 10,000,000 take a tenth of a second in most networks, and four seconds in the worst. With number
+   10, or if the network is not served, nothing is written. `marks` is as before afterwards; it changes during the call. */
+MantAirtime mant_network_transmissions(const uint8_t *pairs, size_t pairs_length, size_t from, uint64_t hop_limit, uint64_t enough, uint8_t *marks,
+                                       size_t marks_length, uint64_t *counts, size_t counts_length, uint8_t *table, size_t table_length);
+
+/* How many bytes these transmissions have together, and each node's own in `counts`, if the fresh report has this size: each address of a path adds 2. The
+   size has 16 bits, so C cuts a larger number. */
+MantAirtime mant_network_bytes(const uint8_t *pairs, size_t pairs_length, size_t from, uint64_t hop_limit, uint16_t size, uint64_t enough, uint8_t *marks,
+                               size_t marks_length, uint64_t *counts, size_t counts_length, uint8_t *table, size_t table_length);
+
 /* The most transmissions that one fresh PDU with a path and this hop limit can cause among so many repeating nodes, its first sending counted. Echo is
    on at each node, no two have the same address, and none takes a transmission twice. A radio hears each transmission once. A decoder that hands a frame
    over twice breaks that: with one repeater and hop limit 1, three can then go out instead of two. The node at the PDU's source address hears
@@ -1050,8 +1102,21 @@ MantBound mant_most_for_command(uint64_t tries, uint64_t nodes, uint64_t hop_lim
 /* The sizes above, as the library has them. */
 MantLimits mant_limits(void);
 
-/* Example: one report of 20 bytes, and one command, among five repeaters, with hop limit 3.
+/* Example: gauge 0 is heard by the repeaters 1 and 2. These hear each other, and base station 3, which does not repeat, hears both. Then the worst network of
+   as many repeaters, and that of five, for a report and for a command.
 
+       static uint8_t table[MANT_AIRTIME_TABLE];
+       const uint8_t pairs[] = {0, 1, 0, 2, 1, 2, 2, 1, 1, 3, 2, 3};
+       uint8_t marks[] = {0, 0, 0, 1}, lengths[4];
+       uint64_t counts[4];
+       assert(mant_chain_lengths(pairs, sizeof pairs, marks, 4, 0, MANT_NO_NODE, lengths, 4) && lengths[3] == 2);
+       assert(mant_least_hop_limit(lengths, 4) == 1);
+       assert(mant_chain_lengths(pairs, sizeof pairs, marks, 4, 0, 1, lengths, 4) && lengths[1] == MANT_NO_CHAIN && lengths[3] == 2);
+       MantAirtime times = mant_network_transmissions(pairs, sizeof pairs, 0, 3, 1000, marks, 4, counts, 4, table, sizeof table);
+       assert(times.served && times.value == 5 && counts[0] == 1 && counts[1] == 2 && counts[3] == 0);
+       MantAirtime octets = mant_network_bytes(pairs, sizeof pairs, 0, 3, 20, 10000, marks, 4, counts, 4, table, sizeof table);
+       assert(octets.value == 112 && counts[2] == 46);
+       assert(mant_most_transmissions(2, 3).value == 5);
        assert(mant_most_transmissions(5, 3).value == 86);
        assert(mant_most_bytes(5, 3, 20).value == 2170);
        assert(mant_most_for_command(0, 5, 3, 5, 3).value == 7482);

@@ -12,8 +12,8 @@ in MANT_LIB. Bytes go in as anything like bytes, and come out as bytes.
 (<Number.FOR_ANOTHER: 39>, <Number.DONE: 0>, '0300000b03e806400107d07001081212032413220276')
 
 It can read a PDU (`read`, `path`), make one (`originate`), be a node (`hear`, `walk`, `change_over`, `list_fault`, `list_holds`), plan
-(`most_transmissions`, `most_bytes`, `most_for_command`, `reach`), exchange with a decoder (`elements`, `read_exchange`, `write_exchange`), seal a payload (`seal`) and open it
-once, against a `Record` (`mant.open`, not below, since `from mant import *` leaves Python's own `open` in its place; see `help(mant.open)`).
+(`reach`, `Network`, `most_transmissions`, `most_bytes`, `most_for_command`), exchange with a decoder (`elements`, `read_exchange`, `write_exchange`), seal a
+payload (`seal`) and open it once, against a `Record` (`mant.open`, not below, since `from mant import *` leaves Python's own `open` in its place; see `help(mant.open)`).
 
 >>> import mant
 >>> key, record = b'sixteen  letters', mant.Record()
@@ -22,9 +22,9 @@ once, against a `Record` (`mant.open`, not below, since `from mant import *` lea
 b'open gate 3'
 
 What is refused raises Refused, with its `number` and its `meaning`. A setting reaches the library as it is, or is no number that C can hold, and then raises
-ValueError; none is trimmed. So does a network that `reach` refuses, and a choice of list that is not 0, 1 or 2. A bound above 18,446,744,073,709,551,615 raises
-OverflowError, and what is no number, no bytes or no Node where one is asked for TypeError. There is always room for what is written, so that the numbers for
-want of room are never answered. LibraryMissing and ProgramMissing say what is not there and how to make it: the library, and the program that `reach` runs.
+ValueError; none is trimmed. So does what is no network, and a choice of list that is not 0, 1 or 2. A bound above 18,446,744,073,709,551,615 and
+a count that stops raise OverflowError, and what is no number, no bytes or no Node where one is asked for TypeError. There is always room for what is written,
+so that the numbers for want of room are never answered. LibraryMissing says that there is no library, and how to make it.
 
 >>> originate(b'rain', source=1000, hop_limit=263)
 Traceback (most recent call last):
@@ -44,22 +44,22 @@ from typing import Iterator
 import mant_c
 import mant_given as given
 from mant_c import LibraryMissing, library
+from mant_network import Airtime, Network, Reach, Reached, reach
 from mant_numbers import Number, Refused
 from mant_queue import Level, Queue
-from mant_reach import ProgramMissing, Reach, Reached, reach
 from mant_stations import Station, Stations
 from mant_types import (ADDRESS, BYTE, EDITION_1_1, EDITION_1_2, EXCHANGE_LIMIT, EXCHANGE_TYPE, FIRST_LIST, NO_LIST, SECOND_LIST, WORD_64,
                         Answer, Element, Exchange, Header, Limits, ListFault, Lists, Node, Record, Step, flag, whole)
 
 # `open` is left out, so that `from mant import *` does not take the place of Python's own
-__all__ = ['Answer', 'EDITION_1_1', 'EDITION_1_2', 'EXCHANGE_TYPE', 'Element', 'Exchange', 'FIRST_LIST', 'Header', 'Level', 'LibraryMissing', 'Limits',
-           'ListFault', 'Lists', 'NO_LIST', 'Node', 'Number', 'ProgramMissing', 'Queue', 'Reach', 'Reached', 'Record', 'Refused', 'SECOND_LIST', 'Station',
-           'Stations', 'Step', 'change_over', 'elements', 'hear', 'limits', 'list_fault', 'list_holds', 'message_number', 'most_bytes', 'most_for_command', 'most_transmissions',
-           'originate', 'path', 'reach', 'read', 'read_exchange', 'remove_source', 'seal', 'walk', 'write_exchange']
+__all__ = ['Airtime', 'Answer', 'EDITION_1_1', 'EDITION_1_2', 'EXCHANGE_TYPE', 'Element', 'Exchange', 'FIRST_LIST', 'Header', 'Level', 'LibraryMissing',
+           'Limits', 'ListFault', 'Lists', 'NO_LIST', 'Network', 'Node', 'Number', 'Queue', 'Reach', 'Reached', 'Record', 'Refused', 'SECOND_LIST', 'Station',
+           'Stations', 'Step', 'change_over', 'elements', 'hear', 'limits', 'list_fault', 'list_holds', 'message_number', 'most_bytes', 'most_for_command',
+           'most_transmissions', 'originate', 'path', 'reach', 'read', 'read_exchange', 'remove_source', 'seal', 'walk', 'write_exchange']
 
 # known by this module's name, whichever file they stand in
-for _known in (Answer, Element, Exchange, Header, Level, LibraryMissing, Limits, ListFault, Lists, Node, Number, ProgramMissing, Queue, Reach, Reached, Record,
-               Refused, Station, Stations, Step, reach):
+for _known in (Airtime, Answer, Element, Exchange, Header, Level, LibraryMissing, Limits, ListFault, Lists, Network, Node, Number, Queue, Reach, Reached,
+               Record, Refused, Station, Stations, Step, reach):
     _known.__module__ = 'mant'
 
 

@@ -49,6 +49,7 @@ Exchange = struct(
 Sources = struct('MantSources', words=c_uint32 * 129)
 Key = struct('MantKey', bytes=c_uint8 * 16)
 Numbered = struct('MantNumbered', number=c_uint8, message=c_uint32)
+Airtime = struct('MantAirtime', number=c_uint8, served=c_bool, enough=c_bool, value=c_uint64)
 Bound = struct('MantBound', number=c_uint8, too_large=c_bool, value=c_uint64)
 Limits = struct('MantLimits', fixed=c_size_t, payload=c_size_t, path=c_size_t, header=c_size_t, pdu=c_size_t, list=c_size_t, batch=c_size_t)
 
@@ -83,6 +84,10 @@ FUNCTIONS = {
     'mant_open': (Written, Key, ctypes.POINTER(Sources), *SLICE, *SLICE),
     'mant_message_number': (Numbered, *SLICE),
     'mant_remove_source': (c_bool, ctypes.POINTER(Sources), c_uint16),
+    'mant_chain_lengths': (c_bool, *SLICE, *SLICE, c_size_t, c_size_t, *SLICE),
+    'mant_least_hop_limit': (c_uint8, *SLICE),
+    'mant_network_transmissions': (Airtime, *SLICE, c_size_t, c_uint64, c_uint64, *SLICE * 3),
+    'mant_network_bytes': (Airtime, *SLICE, c_size_t, c_uint64, c_uint16, c_uint64, *SLICE * 3),
     'mant_most_transmissions': (Bound, c_uint64, c_uint64),
     'mant_most_bytes': (Bound, c_uint64, c_uint64, c_uint64),
     'mant_most_for_command': (Bound, c_uint64, c_uint64, c_uint64, c_uint64, c_uint64),

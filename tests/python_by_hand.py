@@ -145,11 +145,28 @@ def planning():
     same('reach, in pairs', mant.reach(1, [(7, [8]), (8, [9]), (9, [10]), (11, [7])]), found)
     same('a node named twice', mant.reach(1, [(7, [8]), (7, [9])]).out_of_reach, ())
     same('a hearing that is no list', raised(mant.reach, 1, {1: 2}), ('TypeError', 'what hears 1 is 2; give the addresses that hear it, as [2]'))
-    for words, said in (((7, {1: [2]}), 'hop_limit is 7; it can be 0 to 6'), ((1, {}), 'heard_by names no node; the first is the originator'),
-                        ((1, {1: [70000]}), 'an address is 70000; it can be 0 to 65535'), ((1, {1: range(2, 257)}), 'there are more than 255 nodes'),
-                        ((1, {1: [1] * 16385}), 'there are more than 16384 hearings'),
-                        ((1, {1: [10000] * 16384}), 'the network as a text has more than 65535 bytes')):
+    for words, said in (((8, {1: [2]}), 'hop_limit is 8; it can be 0 to 7'), ((1, {}), 'heard_by names no node; the first is the originator'),
+                        ((1, {1: [70000]}), 'an address is 70000; it can be 0 to 65535'), ((1, {1: range(2, 257)}), 'there are more than 255 nodes')):
         same('a network that is refused', raised(mant.reach, *words), ('ValueError', said))
+
+
+def networks():
+    """A line with a base station in it that does not repeat, two ways, and every node that hears every other."""
+    line = {node: [node + 1] for node in range(1, 9)}
+    same('at hop limits 6 and 7', (mant.reach(6, line).out_of_reach, mant.reach(7, line).out_of_reach, mant.reach(6, line).least_hop_limit), ((9,), (), 7))
+    muted = mant.Network(line, not_repeating=[4])
+    same('a station in the middle', (muted.reach(7).out_of_reach, muted.reach(7).nodes[3].path_count), ((5, 6, 7, 8, 9), 2))
+    same('how often it goes out', (muted.transmissions(7).total, mant.Network(line).transmissions(6).total, mant.Network(line).transmissions(7).total), (3, 7, 9))
+    same('a node that only does not repeat', mant.Network({1: [2]}, not_repeating=[3]).addresses, (1, 2, 3))
+    ways = mant.Network({1000: [1, 4], 1: [2], 2: [9], 4: [9]})
+    same('two ways', (ways.transmissions(6), ways.bytes(6, 20)), (
+        mant.Airtime(6, {1000: 1, 1: 1, 4: 1, 2: 1, 9: 2}), mant.Airtime(138, {1000: 20, 1: 22, 4: 22, 2: 24, 9: 50})))
+    same('whom failures cut off', (ways.cut_off(), muted.cut_off()), ({1: (2,)}, {2: (3, 4), 3: (4,)}))
+    same('without a node', ways.lengths(failed=4), (0, 1, None, 2, 3))
+    same('enough', raised(ways.transmissions, 6, 6), ('OverflowError', 'the report goes out 6 times or more, and the count stops there'))
+    same('enough bytes', raised(ways.bytes, 6, 20, 138), ('OverflowError', '138 bytes or more go out, and the count stops there'))
+    full = mant.Network({node: [other for other in range(5) if other != node] for node in range(5)})
+    same('the worst network', [full.transmissions(hop).total for hop in range(8)], [mant.most_transmissions(4, hop) for hop in range(8)])
 
 
 def flooded(count, hop_limit, with_path=True, echo=True, echo_at_originator=True, hears_itself=False):
@@ -240,6 +257,6 @@ def sealing():
 
 
 def by_hand():
-    for part in (reading, originating, hearing, changing, walking, planning, flooding, exchanging, stations_heard, queueing, sealing):
+    for part in (reading, originating, hearing, changing, walking, planning, networks, flooding, exchanging, stations_heard, queueing, sealing):
         part()
     return tally.told('python: by hand')

@@ -126,23 +126,31 @@ def check_open(words, answer):
     return refused_or(lambda: mant.open(bytes_of(words[1]), bytes_of(words[0]), record)), written(answer)
 
 
-def said_of(node):
+def said_of(node, mute, times, octets):
     """The line that `reach` prints of a node."""
-    if node.chain == 0:
-        return f'node {node.address}: the originator'
     chain = 'no chain' if node.chain is None else f'chain of {counted(node.chain, "hearing")}'
-    return f'node {node.address}: {chain}, ' + ('out of reach' if node.is_out_of_reach else f'delivered with path count {node.path_count}')
+    reached = 'out of reach' if node.is_out_of_reach else f'delivered with path count {node.path_count}'
+    sends = '; does not repeat' if mute else f'; sends it {counted(times[node.address], "time")}, {counted(octets[node.address], "byte")}' if times else ''
+    return f'node {node.address}: ' + ('the originator' if node.chain == 0 else f'{chain}, {reached}') + sends
 
 
 def check_reach(words, answer):
-    lines = [values_of(word) for word in words[1].split(';')]
-    found = mant.reach(int(words[0]), {line[0]: line[1:] for line in lines})
-    least = found.least_hop_limit
-    printed = [f'hop limit {words[0]}, originator {lines[0][0]}', *map(said_of, found.nodes), f'{counted(len(found.out_of_reach), "node")} out of reach',
-               'no hop limit from 0 to 6 reaches all' if least is None else f'the least hop limit that reaches all is {least}']
-    said = ' '.join(answer).split('/')
-    conditions = next(i for i, line in enumerate(said) if line.startswith('This holds'))
-    return printed, said[:conditions]
+    hop_limit, lines, mute = int(words[0]), [values_of(word) for word in words[1].split(';')], values_of(words[2])
+    network = mant.Network({line[0]: line[1:] for line in lines}, mute)
+    found, said = network.reach(hop_limit), ' '.join(answer).split('/')
+    try:
+        times, octets = network.transmissions(hop_limit), network.bytes(hop_limit, int(words[3]))
+    except OverflowError:
+        times = octets = mant.Airtime(0, {})
+    printed = [f'hop limit {hop_limit}, originator {lines[0][0]}',
+               *(said_of(node, node.chain != 0 and node.address in mute, times.by_node, octets.by_node) for node in found.nodes),
+               f'{counted(len(found.out_of_reach), "node")} out of reach',
+               'no hop limit reaches all' if found.least_hop_limit is None else f'the least hop limit that reaches all is {found.least_hop_limit}',
+               f'the report goes out {counted(times.total, "time")} on this network' if times.total else 'the report goes out 10000000 times or more',
+               *(f'without node {failed} no chain leads to {" ".join(map(str, others))}' for failed, others in network.cut_off().items())]
+    kept = [line.split(',')[0] if line.startswith('the report goes out') else line for line in said
+            if not line.startswith(('that is', 'no single', 'This holds')) and 'does not reach' not in line]
+    return printed, kept[:len(printed)] + kept[len(printed) + 2:]
 
 
 CHECKS = {name[len('check_'):]: value for name, value in list(globals().items()) if name.startswith('check_')}

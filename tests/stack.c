@@ -12,7 +12,7 @@
 #include "mant.h"
 
 #define LIMIT 640
-#define PAINTED 16384
+#define PAINTED 65536
 #define STACK_POINTER "mov %%rsp, %0"
 #define EDITION MANT_EDITION_1_2
 #define NO_LISTS NULL, 0
@@ -22,6 +22,8 @@
 #define PDU_LENGTH 4613
 #define PLAIN_LENGTH (MANT_PAYLOAD_LIMIT - MANT_SEAL_LENGTH)
 #define TABLE records, MANT_RECORDS, 160
+#define NETWORK(hop_limit) line, sizeof line, 0, hop_limit
+#define COUNTED marks, MANT_NODE_LIMIT, counts, MANT_NODE_LIMIT, air, sizeof air
 
 static const MantNode node = MANT_NODE(2000);
 static const MantNode gate = MANT_NODE(1600);
@@ -48,6 +50,8 @@ static MantAnswer answer;
 static const MantKey key = {"keep me secret!"};
 static uint8_t plain[6 + PLAIN_LENGTH] = {0, 0, 0x0F, 0xF8, 0x03, 0xE8}, sealed[6 + MANT_PAYLOAD_LIMIT];
 static MantSources record;
+static uint8_t line[2 * (MANT_NODE_LIMIT - 1)], marks[MANT_NODE_LIMIT], lengths[MANT_NODE_LIMIT], air[MANT_AIRTIME_TABLE];
+static uint64_t counts[MANT_NODE_LIMIT];
 static volatile uintptr_t top;
 static bool meant = true;
 
@@ -75,6 +79,10 @@ CALL(hear_call, mant_hear(node, NO_LISTS, LENT).repeated_length == MANT_PDU_LIMI
 CALL(hear_listed_call, (answer = mant_hear(listing, LISTS, LENT)).repeated_length == MANT_PDU_LIMIT)
 CALL(step_call, mant_step(node, NO_LISTS, pdu, sizeof pdu, start, output, sizeof output).answer.repeat == 0)
 CALL(step_listed_call, mant_step(listing, LISTS, pdu, sizeof pdu, start, output, sizeof output).answer.repeat == 0)
+CALL(chain_lengths_call, mant_chain_lengths(line, sizeof line, marks, MANT_NODE_LIMIT, 0, MANT_NO_NODE, lengths, MANT_NODE_LIMIT))
+CALL(least_hop_limit_call, mant_least_hop_limit(lengths, MANT_NODE_LIMIT) == 7)
+CALL(network_transmissions_call, mant_network_transmissions(NETWORK(7), 1000, COUNTED).value == MANT_NODE_LIMIT)
+CALL(network_bytes_call, mant_network_bytes(NETWORK(7), 20, 1000000, COUNTED).value == 69870)
 CALL(most_transmissions_call, mant_most_transmissions(8, 7).value == 109601)
 CALL(most_bytes_call, mant_most_bytes(3, 1, 10).value == 46)
 CALL(most_for_command_call, mant_most_for_command(3, 8, 3, 8, 3).value == 4 * 401 * 402)
@@ -155,19 +163,24 @@ static const struct {
     {"mant_open", {open_short_call, open_call, open_again_call}},
     {"mant_message_number", {message_number_call}},
     {"mant_remove_source", {remove_source_call}},
+    {"mant_chain_lengths", {chain_lengths_call}},
+    {"mant_least_hop_limit", {least_hop_limit_call}},
+    {"mant_network_transmissions", {network_transmissions_call}},
+    {"mant_network_bytes", {network_bytes_call}},
     {"mant_most_transmissions", {most_transmissions_call}},
     {"mant_most_bytes", {most_bytes_call}},
     {"mant_most_for_command", {most_for_command_call}},
     {"mant_limits", {limits_call}},
 };
 
-/* Limits of their own; those that retain, send again or free have a record on the stack, those that seal and open the round keys. */
+/* Limits of their own; those that retain, send again or free have a record on the stack, those that seal and open the round keys, and those that count on a
+   network go down once for each node of a path. */
 static const struct {
     const char *name;
     size_t bytes;
 } limits[] = {
     {"mant_hear", 416}, {"mant_retain", 768}, {"mant_retry", 768}, {"mant_hear_reliably", 768}, {"mant_acknowledge", 768},
-    {"mant_seal", 1536}, {"mant_open", 1536},
+    {"mant_seal", 1536}, {"mant_open", 1536}, {"mant_network_transmissions", 49152}, {"mant_network_bytes", 49152},
 };
 
 static size_t limit_of(const char *name)
@@ -218,10 +231,20 @@ static void fill_records(void)
     }
 }
 
+/* A network of as many nodes as there can be, in a line, so that a path has all of them. */
+static void fill_line(void)
+{
+    for (size_t i = 0; i < MANT_NODE_LIMIT - 1; i++) {
+        line[2 * i] = (uint8_t)i;
+        line[2 * i + 1] = (uint8_t)(i + 1);
+    }
+}
+
 int main(void)
 {
     int status = 0;
     fill();
+    fill_line();
     fill_records();
     for (size_t i = 0; i < sizeof functions / sizeof functions[0]; i++) {
         size_t most = 0;

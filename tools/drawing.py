@@ -7,10 +7,11 @@ from layouts import DISC
 from networks import kind_of
 
 KINDS = ('originator', 'delivered', 'out of reach', 'no chain')
-MARGIN, LEGEND, LEAST = 24, 86, 620
+MARGIN, LEGEND, LEAST = 24, 104, 620
 PAGE, READABLE = (794, 1123), 1.4  # of A4 at 96 to the inch, and how far a drawing may be shrunk to fit it
 NARROWEST = 5  # columns in a band
 STYLE = ('<style>text{font-family:sans-serif;font-size:12px;fill:#222}.name{text-anchor:middle}.light{fill:#fff;font-weight:bold}.strong{font-weight:bold}'
+         '.sent{text-anchor:middle;font-size:9px}'
          '.originator{fill:#111;stroke:#111}.delivered{fill:#2a7f74;stroke:#2a7f74}.out-of-reach,.no-chain{fill:#fff;stroke:#c2410c;stroke-width:3}'
          '.no-chain{stroke-dasharray:5 3}.chain{stroke:#333;stroke-width:2;fill:none}.other{stroke:#888;stroke-width:1;fill:none}'
          '.ring{fill:none;stroke:#ccc}.last{stroke:#2a7f74;stroke-width:1.6;stroke-dasharray:6 4}'
@@ -46,11 +47,12 @@ def tip(name, colour):
             f'<path d="M0 0L10 5L0 10z" fill="{colour}"/></marker>')
 
 
-def legend(hop_limit, lengths, left, top):
+def legend(hop_limit, lengths, times, left, top):
     kinds = [kind_of(length, hop_limit) for length in lengths.values()]
     missed = kinds.count('out of reach') + kinds.count('no chain')
-    yield (f'<text class="strong" x="{left:.1f}" y="{top:.1f}">hop limit {hop_limit}: delivered over up to {hop_limit + 1} '
-           f'hearing{"s" if hop_limit else ""}; {missed} node{"" if missed == 1 else "s"} out of reach</text>')
+    reached = 'delivered over any chain' if hop_limit == 7 else f'delivered over up to {hop_limit + 1} hearing{"s" if hop_limit else ""}'
+    yield (f'<text class="strong" x="{left:.1f}" y="{top:.1f}">hop limit {hop_limit}: {reached}; {missed} node{"" if missed == 1 else "s"} out of reach; '
+           f'goes out {times}</text>')
     for kind in KINDS:
         if kind in kinds:
             yield f'<circle class="{class_of(kind)}" cx="{left + 7:.1f}" cy="{top + 21:.1f}" r="6"/><text x="{left + 20:.1f}" y="{top + 25:.1f}">{kind}</text>'
@@ -66,6 +68,13 @@ def line_legend(last, left, y):
     if last:
         yield f'<line class="last" x1="{left:.1f}" y1="{y - 4:.1f}" x2="{left + 28:.1f}" y2="{y - 4:.1f}"/>'
         yield f'<text x="{left + 34:.1f}" y="{y:.1f}">the last {last} that is reached</text>'
+
+
+def sent_legend(nodes, left, y):
+    """What stands below the addresses."""
+    words = ['how often the node sends the report'] * any(told.times is not None for told in nodes.values())
+    words += ['\N{EN DASH} if it does not repeat'] * any(not told.repeats for told in nodes.values())
+    yield f'<text x="{left:.1f}" y="{y:.1f}">below an address: {", ".join(words)}</text>' if words else ''
 
 
 def length_names(names):
@@ -108,26 +117,38 @@ def hearing_lines(hearings, below, layout):
         yield arrow(layout.at[sender], layout.at[node], other in pairs, (sender, node) in steps, layout.bends.get((sender, node), 0))
 
 
-def discs(hop_limit, lengths, at):
-    for node, length in lengths.items():
-        kind, (x, y) = kind_of(length, hop_limit), at[node]
-        words = f'{node}: chain of {length}, {kind}' if length else f'{node}: {kind}'
-        light = ' light' if kind in ('originator', 'delivered') else ''
+def sent_by(told):
+    """How often a node sends the report, as it stands below its address."""
+    if not told.repeats:
+        return '\N{EN DASH}'
+    return '' if told.times is None else f'{told.times:,}\N{MULTIPLICATION SIGN}'
+
+
+def discs(hop_limit, nodes, at):
+    for node, told in nodes.items():
+        kind, (x, y) = kind_of(told.length, hop_limit), at[node]
+        words = f'{node}: chain of {told.length}, {kind}' if told.length else f'{node}: {kind}'
+        words += f', sends it {told.times} time{"" if told.times == 1 else "s"}' if told.times is not None else '' if told.repeats else ', does not repeat it'
+        light, sent = ' light' if kind in ('originator', 'delivered') else '', sent_by(told)
         yield (f'<g><title>{words}</title><circle class="{class_of(kind)}" cx="{x:.1f}" cy="{y:.1f}" r="{DISC}"/>'
-               f'<text class="name{light}" x="{x:.1f}" y="{y + 4:.1f}">{node}</text></g>')
+               f'<text class="name{light}" x="{x:.1f}" y="{y + (1 if sent else 4):.1f}">{node}</text>'
+               + (f'<text class="sent{light}" x="{x:.1f}" y="{y + 12:.1f}">{sent}</text>' if sent else '') + '</g>')
 
 
 def svg(text, answer):
-    hop_limit, lengths = networks.lengths_of(answer)
+    hop_limit, nodes = networks.nodes_of(answer)
+    lengths = {node: told.length for node, told in nodes.items()}
     hearings = networks.hearings_of(text)
-    below = networks.branches(lengths, hearings)
+    below = networks.branches(nodes, hearings)
     layout = layout_of(hop_limit, lengths, below)
     left, top, width, height = box(layout)
     size = f'width="{width:.0f}" height="{height + LEGEND:.0f}"'
-    last = layout.called if hop_limit + 1 in lengths.values() else ''
+    last = layout.called if layouts.farthest(hop_limit) in lengths.values() else ''
+    number, more = networks.TIMES.search(answer).groups()
+    times = f'{int(number):,} time{"" if number == "1" else "s"}{more or ""}'
     parts = [f'<svg xmlns="http://www.w3.org/2000/svg" {size} viewBox="{left:.1f} {top:.1f} {width:.1f} {height + LEGEND:.1f}">', STYLE,
              f'<defs>{tip("strong", "#333")}{tip("weak", "#888")}</defs>', f'<rect x="{left:.1f}" y="{top:.1f}" {size} fill="#fff"/>',
-             *layout.behind, *hearing_lines(hearings, below, layout), *length_names(layout.names), *discs(hop_limit, lengths, layout.at),
-             f'<rect x="{left:.1f}" y="{top + height:.1f}" {size} fill="#fff"/>', *legend(hop_limit, lengths, left + 16, top + height + 22),
-             *line_legend(last, left + 16, top + height + 69), '</svg>', '']
+             *layout.behind, *hearing_lines(hearings, below, layout), *length_names(layout.names), *discs(hop_limit, nodes, layout.at),
+             f'<rect x="{left:.1f}" y="{top + height:.1f}" {size} fill="#fff"/>', *legend(hop_limit, lengths, times, left + 16, top + height + 22),
+             *line_legend(last, left + 16, top + height + 69), *sent_legend(nodes, left + 16, top + height + 89), '</svg>', '']
     return '\n'.join(parts)

@@ -9,7 +9,8 @@ import shutil
 import subprocess
 
 TOOL = 'llvm-objdump'
-LEVELS = {'elements::run_fault': 5}  # how often it is under way at once: elements go four levels down, and the fifth is refused
+# how often it is under way at once: elements go four levels down, and the fifth is refused; a path has each of up to 255 nodes once
+LEVELS = {'elements::run_fault': 5, 'ways::count_from': 255}
 PADDING = ('nop', 'cs', 'data16', 'int3')
 OUTSIDE = {'memcpy', 'memset'}
 FUNCTION = re.compile(r'^[0-9a-f]+ <(.+)>:$')

@@ -18,6 +18,11 @@ class Layout(NamedTuple):
     bends: dict
 
 
+def farthest(hop_limit):
+    """The longest chain that delivers a report; 7 is never lowered, and no network has a chain of 255."""
+    return hop_limit + 1 if hop_limit < 7 else 255
+
+
 def angles_of(lengths, below):
     """An angle for each node: each takes as much of the circle as the ends of its branches need, and those without a chain share it evenly."""
     angles = {}
@@ -96,10 +101,10 @@ def rings(hop_limit, lengths, below):
     radii, angles = rings_of(lengths), angles_of(lengths, below)
     move_apart(lengths, radii, angles)
     at = {node: (radii[length] * math.cos(angles[node]), radii[length] * math.sin(angles[node])) for node, length in lengths.items()}
-    last = max(radii[length] for length in radii if length is not None and length <= hop_limit + 1)
-    names = [(x, y, hearings(length) + (f': the last at hop limit {hop_limit}' if length == hop_limit + 1 else ''))
+    last = max(radii[length] for length in radii if length is not None and length <= farthest(hop_limit))
+    names = [(x, y, hearings(length) + (f': the last at hop limit {hop_limit}' if length == farthest(hop_limit) else ''))
              for length, (x, y) in length_places(radii, at, below).items()]
-    circles = [f'<circle class="ring{" last" * (length == hop_limit + 1)}" r="{radius:.1f}"/>' for length, radius in radii.items() if length]
+    circles = [f'<circle class="ring{" last" * (length == farthest(hop_limit))}" r="{radius:.1f}"/>' for length, radius in radii.items() if length]
     return Layout(at, circles, 'ring', names, (-last, last, -last, last), {})
 
 
@@ -144,7 +149,7 @@ def columns(hop_limit, lengths, below, width):
             at.update((node, (x, (top + bottom) / 2 + way * (row - (len(nodes) - 1) / 2) * PITCH)) for row, node in enumerate(nodes))
             if length:
                 names.append((x, (top + bottom + tall) / 2 + 10 if length == band.start else top - 10, hearings(length)))
-            if length == hop_limit + 1:
+            if length == farthest(hop_limit):
                 behind.append(f'<rect class="ring last" x="{x - DISC - 8:.1f}" y="{(top + bottom - tall) / 2:.1f}" '
                               f'width="{2 * DISC + 16}" height="{tall}" rx="{DISC}"/>')
     for place, node in enumerate(node for node in lengths if lengths[node] is None):

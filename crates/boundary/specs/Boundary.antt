@@ -42,6 +42,11 @@ use Rattle.answering.specs.Hearing.{outcomeHeard, tableHeard, outputHeard}
 use Rattle.bound.specs.declared.Bound.{Bound}
 use Rattle.bound.specs.declared.Bound.the-variants.{Exactly, TooLarge, HopRefused}
 use Rattle.bound.specs.Answer.{boundNumber}
+use Rattle.chains.specs.declared.Least.{Least}
+use Rattle.chains.specs.declared.Least.the-variants.{HopLimit, Unreachable}
+use Rattle.ways.specs.declared.Airtime.{Airtime}
+use Rattle.ways.specs.declared.Airtime.the-variants as airtime
+use Rattle.ways.specs.Answer.{waysAnswer, Counts}
 use Rattle.boundary.specs.declared.reading.MantHeader.{MantHeader}
 use Rattle.boundary.specs.declared.originating.MantFresh.{MantFresh}
 use Rattle.boundary.specs.declared.a_node.MantNode.{MantNode}
@@ -49,6 +54,7 @@ use Rattle.boundary.specs.declared.a_node.MantAnswer.{MantAnswer}
 use Rattle.boundary.specs.declared.a_node.MantListened.{MantListened}
 use Rattle.boundary.specs.declared.a_node.MantHeardReliably.{MantHeardReliably}
 use Rattle.boundary.specs.declared.a_walk.MantStep.{MantStep}
+use Rattle.boundary.specs.declared.planning.MantAirtime.{MantAirtime}
 use Rattle.boundary.specs.declared.planning.MantBound.{MantBound}
 use Rattle.boundary.specs.declared.planning.MantLimits.{MantLimits}
 
@@ -244,6 +250,27 @@ abbrev pub boundInC : Bound → MantBound
 boundInC (Exactly value) = record { number = boundNumber (Exactly value); «too_large» = false; value = value }
 boundInC TooLarge = record { number = boundNumber TooLarge; «too_large» = true; value = 0 }
 boundInC HopRefused = record { number = boundNumber HopRefused; «too_large» = false; value = 0 }
+
+-- how often a message goes out on a network: the value, or that it is enough, that the network is not served, or number 10; 0 where there is no value
+abbrev pub noAirtime : ℕ → Bool → Bool → MantAirtime
+noAirtime number served enough = record { number = number; served = served; enough = enough; value = 0 }
+
+abbrev pub airtimeInC : Airtime → MantAirtime
+airtimeInC (airtime.Exactly value) = record { number = 0; served = true; enough = false; value = value }
+airtimeInC airtime.Enough = noAirtime 0 true true
+airtimeInC airtime.HopRefused = noAirtime 10 false false
+airtimeInC airtime.NotServed = noAirtime 0 false false
+
+-- and what marks, counts and table are after it, as crate `ways` has them
+abbrev pub CountsInC : List ℕ → List ℕ → ℕ → ℕ → ℕ → ℕ → ℕ → List ℕ → List ℕ → MantAirtime → List ℕ → List ℕ → List ℕ → Type 0
+CountsInC pairs marks from h price growth enough counts table told marksNow countsNow tableNow =
+    let answer = waysAnswer pairs marks from h price growth enough (length counts) (length table) in
+    (told ≡ airtimeInC answer) × Counts pairs marks from h price growth enough counts table answer marksNow countsNow tableNow
+
+-- a least hop limit (document 02, W-208); 8 where none reaches all
+abbrev pub leastInC : Least → ℕ
+leastInC (HopLimit h) = h
+leastInC Unreachable = 8
 
 -- "Sizes"; a list of 64 ranges has 128 values ("Numbers answered", 22)
 abbrev pub limitsInC : MantLimits

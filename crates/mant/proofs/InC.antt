@@ -1,4 +1,4 @@
--- What C sees of a node's answer, from what the node answers with the settings that C gave.
+-- What C sees of a node's answer, from what the node answers with the settings that C gave; and of a network's count.
 use Prim.Native.Nat.{ℕ, _+_, _≤_, _<_}
 use native.Mathlib.Omega.{arith}
 use mathlib.Core.Bool.{false}
@@ -24,10 +24,13 @@ use Rattle.batch.specs.declared.Stepped.{Stepped}
 use Rattle.batch.specs.Walk.{isTooLong, Steps}
 use Rattle.batch.proofs.Stepping.{within-batch, answered}
 use Rattle.listening.specs.Listening.{answerNumber, memoryAfterAnswer}
+use Rattle.ways.specs.declared.Airtime.{Airtime}
+use Rattle.ways.specs.Answer.{Counts}
+use Rattle.boundary.specs.declared.planning.MantAirtime.{MantAirtime}
 use Rattle.boundary.specs.declared.a_node.MantNode.{MantNode}
 use Rattle.boundary.specs.declared.a_node.MantAnswer.{MantAnswer}
 use Rattle.boundary.specs.declared.a_walk.MantStep.{MantStep}
-use Rattle.boundary.specs.Boundary.{hasSender, senderAddress, senderFromC, nodeFromC, answerInC, answerFromC, HearsInC, ListensInC, stepInC, StepsInC}
+use Rattle.boundary.specs.Boundary.{hasSender, senderAddress, senderFromC, nodeFromC, answerInC, answerFromC, HearsInC, ListensInC, stepInC, StepsInC, airtimeInC, CountsInC}
 
 pub heard-in-c : (given : MantNode) (settings : Settings) (lists : Lists) (received output left : List ℕ) (answer : Answer) (told : MantAnswer)
     → settings ≡ nodeFromC given → Hears (nodeOf settings lists) received output answer left → told ≡ answerInC answer
@@ -113,3 +116,13 @@ responded-in-c given lists received output left after records last sending told 
       asked .0 ∙ ap₂ (λ (d n : ℕ). askAcknowledge last (given .own) d sending n received) number long,
       asked .1 ∙ ap₂ (λ (d : ℕ) (o : List ℕ). outputAcknowledged records (given .own) d sending received o) number (heard .1),
     )
+
+-- how often a message goes out on a network, as C is told of it
+pub network-in-c : (pairs marks : List ℕ) (from h price growth enough : ℕ) (counts table : List ℕ) (answer : Airtime) (told : MantAirtime)
+    (marksNow countsNow tableNow : List ℕ)
+    → Counts pairs marks from h price growth enough counts table answer marksNow countsNow tableNow → told ≡ airtimeInC answer
+    → CountsInC pairs marks from h price growth enough counts table told marksNow countsNow tableNow
+network-in-c pairs marks from h price growth enough counts table answer told marksNow countsNow tableNow counted e = (
+  e ∙ ap airtimeInC (counted .is),
+  record { is = refl; marks-kept = counted .marks-kept; counts-are = counted .counts-are; table-is = counted .table-is },
+)

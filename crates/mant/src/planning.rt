@@ -1,12 +1,84 @@
-// Planning: how often one report, and one command with its acknowledgements, can go out at most; the sizes.
+// Planning: whom a report reaches on a network and how often it goes out there; how often one report, and one command with its acknowledgements, can go
+// out at most; the sizes.
+use boundary::MantAirtime;
 use boundary::MantBound;
 use boundary::MantLimits;
 ghost use mathlib.Core.Path.{_≡_};
 ghost use Prim.Native.Nat.{max};
+ghost use Rattle.chains.specs.Lengths.{LengthsFound};
+ghost use Rattle.chains.specs.Reach.{leastHop};
 ghost use Rattle.bound.specs.Bound.{bound, bytesBound};
 ghost use Rattle.bound.specs.Answer.{boundAnswer};
 ghost use Rattle.bound.specs.Command.{commandBound};
-ghost use Rattle.boundary.specs.Boundary.{boundInC, limitsInC};
+ghost use Rattle.boundary.specs.Boundary.{boundInC, CountsInC, leastInC, limitsInC};
+
+// Writes for each node of a network how many hearings its shortest chain from the node at `from` has, or 255 where there is none, as
+// `chains::find_lengths` does: a chain goes through nodes that repeat, and not by the node at `failed`; 255 there says that none has failed. Document 02,
+// W-208.
+#[no_mangle]
+pub extern "C" fn mant_chain_lengths(
+    pairs: &[u8],
+    marks: &[u8],
+    from: usize,
+    failed: usize,
+    lengths: &mut [u8],
+) -> bool
+    ensures { λ r. ⌜ LengthsFound (now (pairs .entry)) (now (marks .entry)) from failed (now (lengths .entry)) r (now (lengths .exit)) ⌝ }
+{
+    chains::find_lengths(pairs, marks, from, failed, lengths)
+}
+
+// The least hop limit that reaches all nodes, by their lengths as `mant_chain_lengths` writes them; 8 where none does. Document 02, W-208.
+#[no_mangle]
+pub extern "C" fn mant_least_hop_limit(lengths: &[u8]) -> u8
+    ensures { λ r. ⌜ r ≡ leastInC (leastHop (now (lengths .entry))) ⌝ }
+{
+    boundary::least_in_c(chains::least_hop_limit(lengths))
+}
+
+// How often one fresh message with a path goes out on a network, as `ways::transmissions` counts it. `counts` gets how often each node sends it. Crate
+// `own_network`, `within`, `exact` and `told`.
+#[no_mangle]
+pub extern "C" fn mant_network_transmissions(
+    pairs: &[u8],
+    from: usize,
+    hop_limit: u64,
+    enough: u64,
+    marks: &mut [u8],
+    counts: &mut [u64],
+    table: &mut [u8],
+) -> MantAirtime
+    ensures { λ r. ⌜ CountsInC (now (pairs .entry)) (now (marks .entry)) from «hop_limit» 1 0 enough (now (counts .entry)) (now (table .entry))
+        r (now (marks .exit)) (now (counts .exit)) (now (table .exit)) ⌝ }
+{
+    boundary::airtime_in_c(ways::transmissions(
+        pairs,
+        from,
+        hop_limit,
+        enough,
+        marks,
+        counts,
+        table,
+    ))
+}
+
+// How many bytes these transmissions have together, if the fresh message has `size` bytes. `counts` gets each node's own bytes.
+#[no_mangle]
+pub extern "C" fn mant_network_bytes(
+    pairs: &[u8],
+    from: usize,
+    hop_limit: u64,
+    size: u16,
+    enough: u64,
+    marks: &mut [u8],
+    counts: &mut [u64],
+    table: &mut [u8],
+) -> MantAirtime
+    ensures { λ r. ⌜ CountsInC (now (pairs .entry)) (now (marks .entry)) from «hop_limit» size 2 enough (now (counts .entry)) (now (table .entry))
+        r (now (marks .exit)) (now (counts .exit)) (now (table .exit)) ⌝ }
+{
+    boundary::airtime_in_c(ways::bytes(pairs, from, hop_limit, size, enough, marks, counts, table))
+}
 
 // The most transmissions that one fresh message with that hop limit can cause among so many repeating nodes, its own counted. Its originator and its
 // destination do not count among them, also if they repeat. That holds where the message was originated with a path, echo is on at every node, the

@@ -15,6 +15,10 @@ use Rattle.boundary.proofs.a_walk.step_in_c.Reads as step-in-c-reads
 use Rattle.boundary.proofs.a_walk.step_in_c.Kinds as step-in-c-kinds
 use Rattle.boundary.proofs.planning.bound_in_c.Reads as bound-in-c-reads
 use Rattle.boundary.proofs.planning.bound_in_c.Kinds as bound-in-c-kinds
+use Rattle.boundary.proofs.planning.airtime_in_c.Reads as airtime-in-c-reads
+use Rattle.boundary.proofs.planning.airtime_in_c.Kinds as airtime-in-c-kinds
+use Rattle.boundary.proofs.planning.least_in_c.Reads as least-in-c-reads
+use Rattle.boundary.proofs.planning.least_in_c.Kinds as least-in-c-kinds
 use Rattle.boundary.proofs.planning.limits_in_c.Reads as limits-in-c-reads
 use Rattle.boundary.proofs.planning.limits_in_c.Kinds as limits-in-c-kinds
 
@@ -38,6 +42,12 @@ step-in-c = (λ κs a. tt, λ κs a x y s t p q. p ∙ sym q)
 
 pub bound-in-c : Promised 0 bound-in-c-kinds.ps bound-in-c-kinds.r bound-in-c-reads.Asked bound-in-c-reads.Post (λ κs x. x)
 bound-in-c = (λ κs a. tt, λ κs a x y s t p q. p ∙ sym q)
+
+pub airtime-in-c : Promised 0 airtime-in-c-kinds.ps airtime-in-c-kinds.r airtime-in-c-reads.Asked airtime-in-c-reads.Post (λ κs x. x)
+airtime-in-c = (λ κs a. tt, λ κs a x y s t p q. p ∙ sym q)
+
+pub least-in-c : Promised 0 least-in-c-kinds.ps least-in-c-kinds.r least-in-c-reads.Asked least-in-c-reads.Post (λ κs x. x)
+least-in-c = (λ κs a. tt, λ κs a x y s t p q. p ∙ sym q)
 
 pub limits-in-c : Promised 0 limits-in-c-kinds.ps limits-in-c-kinds.r limits-in-c-reads.Asked limits-in-c-reads.Post (λ κs x. x)
 limits-in-c = (λ κs a. tt, λ κs a x y s t p q. p ∙ sym q)

@@ -1,7 +1,12 @@
 -- Every public function of `mant`: its promise asks nothing of the caller and determines what the caller sees.
-use mathlib.Core.Path.{refl, sym, _∙_}
+use mathlib.Core.List.{List}
+use mathlib.Core.Path.{_≡_, refl, sym, _∙_}
+use Prim.Native.Nat.{ℕ}
 use denote.Ref.{now}
 use Rattle.promises.specs.Promise.{both, Promised, PromisedWithOutput}
+use Rattle.chains.proofs.Outcomes.{one-outcome}
+use Rattle.boundary.specs.declared.planning.MantAirtime.{MantAirtime}
+use Rattle.boundary.specs.Boundary.{CountsInC}
 use Rattle.mant.proofs.reading.mant_read.Reads as mant-read-reads
 use Rattle.mant.proofs.reading.mant_read.Kinds as mant-read-kinds
 use Rattle.mant.proofs.reading.mant_path_address.Reads as mant-path-address-reads
@@ -24,6 +29,14 @@ use Rattle.mant.proofs.a_node.mant_step.Reads as mant-step-reads
 use Rattle.mant.proofs.a_node.mant_step.Kinds as mant-step-kinds
 use Rattle.mant.proofs.a_node.mant_change_over.Reads as mant-change-over-reads
 use Rattle.mant.proofs.a_node.mant_change_over.Kinds as mant-change-over-kinds
+use Rattle.mant.proofs.planning.mant_chain_lengths.Reads as mant-chain-lengths-reads
+use Rattle.mant.proofs.planning.mant_chain_lengths.Kinds as mant-chain-lengths-kinds
+use Rattle.mant.proofs.planning.mant_least_hop_limit.Reads as mant-least-hop-limit-reads
+use Rattle.mant.proofs.planning.mant_least_hop_limit.Kinds as mant-least-hop-limit-kinds
+use Rattle.mant.proofs.planning.mant_network_transmissions.Reads as mant-network-transmissions-reads
+use Rattle.mant.proofs.planning.mant_network_transmissions.Kinds as mant-network-transmissions-kinds
+use Rattle.mant.proofs.planning.mant_network_bytes.Reads as mant-network-bytes-reads
+use Rattle.mant.proofs.planning.mant_network_bytes.Kinds as mant-network-bytes-kinds
 use Rattle.mant.proofs.planning.mant_most_transmissions.Reads as mant-most-transmissions-reads
 use Rattle.mant.proofs.planning.mant_most_transmissions.Kinds as mant-most-transmissions-kinds
 use Rattle.mant.proofs.planning.mant_most_bytes.Reads as mant-most-bytes-reads
@@ -111,6 +124,34 @@ mant-step = (λ κs a. tt, λ κs a x y s t p q. (p .0 ∙ sym (q .0), p .1 ∙ 
 pub mant-change-over : Promised 0 mant-change-over-kinds.ps mant-change-over-kinds.r mant-change-over-reads.Asked
     mant-change-over-reads.Post (λ κs x. x)
 mant-change-over = (λ κs a. tt, λ κs a x y s t p q. p ∙ sym q)
+
+pub mant-chain-lengths : PromisedWithOutput 3 mant-chain-lengths-kinds.ps mant-chain-lengths-kinds.r mant-chain-lengths-reads.Asked
+    mant-chain-lengths-reads.Post (λ κs s. now (s .1 .1 .1 .1 .0))
+mant-chain-lengths = (λ κs a. tt, λ κs a x y s t p q. one-outcome _ _ _ _ _ x y _ _ p q)
+
+pub mant-least-hop-limit : Promised 1 mant-least-hop-limit-kinds.ps mant-least-hop-limit-kinds.r mant-least-hop-limit-reads.Asked
+    mant-least-hop-limit-reads.Post (λ κs x. x)
+mant-least-hop-limit = (λ κs a. tt, λ κs a x y s t p q. p ∙ sym q)
+
+-- a count on a network has one outcome
+one-count : (pairs marks : List ℕ) (from h price growth enough : ℕ) (counts table : List ℕ) (x y : MantAirtime) (m c t n d u : List ℕ)
+    → CountsInC pairs marks from h price growth enough counts table x m c t → CountsInC pairs marks from h price growth enough counts table y n d u
+    → (x ≡ y) × (both m (both c t) ≡ both n (both d u))
+one-count pairs marks from h price growth enough counts table x y m c t n d u p q = (
+  p .0 ∙ sym (q .0),
+  λ i.
+      both ((p .1 .marks-kept ∙ sym (q .1 .marks-kept)) i) (both ((p .1 .counts-are ∙ sym (q .1 .counts-are)) i) ((p .1 .table-is ∙ sym (q .1 .table-is)) i)),
+)
+
+pub mant-network-transmissions : PromisedWithOutput 4 mant-network-transmissions-kinds.ps mant-network-transmissions-kinds.r
+    mant-network-transmissions-reads.Asked mant-network-transmissions-reads.Post
+    (λ κs s. both (now (s .1 .1 .1 .1 .0)) (both (now (s .1 .1 .1 .1 .1 .0)) (now (s .1 .1 .1 .1 .1 .1 .0))))
+mant-network-transmissions = (λ κs a. tt, λ κs a x y s t p q. one-count _ _ _ _ _ _ _ _ _ x y _ _ _ _ _ _ p q)
+
+pub mant-network-bytes : PromisedWithOutput 4 mant-network-bytes-kinds.ps mant-network-bytes-kinds.r
+    mant-network-bytes-reads.Asked mant-network-bytes-reads.Post
+    (λ κs s. both (now (s .1 .1 .1 .1 .1 .0)) (both (now (s .1 .1 .1 .1 .1 .1 .0)) (now (s .1 .1 .1 .1 .1 .1 .1 .0))))
+mant-network-bytes = (λ κs a. tt, λ κs a x y s t p q. one-count _ _ _ _ _ _ _ _ _ x y _ _ _ _ _ _ p q)
 
 pub mant-most-transmissions : Promised 0 mant-most-transmissions-kinds.ps mant-most-transmissions-kinds.r
     mant-most-transmissions-reads.Asked mant-most-transmissions-reads.Post (λ κs x. x)

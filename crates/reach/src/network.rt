@@ -1,6 +1,11 @@
 // A network read from its text, byte by byte: first a line with the hop limit, then for each node a line with its address and the addresses that hear it.
-// White space, `:` and `,` stand between numbers; a `#` begins a comment, up to the line's end; lines without a number say nothing.
+// White space, `:` and `,` stand between numbers; a `-` after a line's first address says that this node does not repeat the report; a `#` begins a
+// comment, up to the line's end; lines without a number say nothing.
 ghost use Prim.Native.Nat.{_≤_};
+use super::stored::keep;
+use super::stored::place_of;
+use super::stored::put_mark;
+use super::stored::put_pair;
 use chains::NODE_LIMIT;
 
 pub(crate) enum Fault {
@@ -9,13 +14,14 @@ pub(crate) enum Fault {
     AddressTooLarge,
     HopLimitTooLarge,
     HopLimitNotAlone,
+    MarkMisplaced,
     TooManyNodes,
     TooManyHearings,
     NoHopLimit,
     NoNode,
 }
 
-// What was read: the nodes' addresses and the pairs of their places stand in the caller's slices.
+// What was read: the nodes' addresses, the pairs of their places and their marks stand in the caller's slices.
 pub(crate) struct Network {
     pub(crate) fault: Fault,
     pub(crate) stopped: bool,
@@ -30,21 +36,27 @@ pub(crate) struct Network {
     has_hop_limit: bool,
     on_hop_line: bool,
     line_begun: bool,
+    at_first: bool,
+    after_mark: bool,
 }
 
-// Reads a text as far as it is a network. Where it is not, `fault` says what it stopped at, and `at` the byte.
-pub(crate) fn read_network(text: &[u8], addresses: &mut [u16], pairs: &mut [u8]) -> Network {
+// Reads a text, the end of its last line included, as far as it is a network. Where it is not, `fault` says what it stopped at, and `at` the byte.
+pub(crate) fn read_network(
+    text: &[u8],
+    addresses: &mut [u16],
+    pairs: &mut [u8],
+    marks: &mut [u8],
+) -> Network {
     let mut network = nothing_read();
     let mut i: usize = 0;
     while i < text.len() {
-        network = with_byte(network, text[i], addresses, pairs);
+        network = with_byte(network, text[i], addresses, pairs, marks);
         if network.stopped {
             return stopped_at(network, i);
         }
         i += 1;
     }
-    let ended = with_byte(network, b'\n', addresses, pairs);
-    stopped_at(whole(ended), i)
+    stopped_at(whole(network), i)
 }
 
 fn nothing_read() -> Network {
@@ -62,6 +74,8 @@ fn nothing_read() -> Network {
         has_hop_limit: false,
         on_hop_line: false,
         line_begun: false,
+        at_first: false,
+        after_mark: false,
     }
 }
 
@@ -100,10 +114,18 @@ fn stopped_by(network: Network, fault: Fault) -> Network {
         has_hop_limit: network.has_hop_limit,
         on_hop_line: network.on_hop_line,
         line_begun: network.line_begun,
+        at_first: network.at_first,
+        after_mark: network.after_mark,
     }
 }
 
-fn with_byte(network: Network, byte: u8, addresses: &mut [u16], pairs: &mut [u8]) -> Network {
+fn with_byte(
+    network: Network,
+    byte: u8,
+    addresses: &mut [u16],
+    pairs: &mut [u8],
+    marks: &mut [u8],
+) -> Network {
     if byte == b'\n' {
         return next_line(with_number(network, addresses, pairs));
     }
@@ -114,7 +136,10 @@ fn with_byte(network: Network, byte: u8, addresses: &mut [u16], pairs: &mut [u8]
         return comment(with_number(network, addresses, pairs));
     }
     if is_between(byte) {
-        return with_number(network, addresses, pairs);
+        return parted(with_number(network, addresses, pairs));
+    }
+    if byte == b'-' {
+        return with_mark(with_number(network, addresses, pairs), marks);
     }
     with_digit(network, byte)
 }
@@ -140,6 +165,31 @@ fn next_line(network: Network) -> Network {
     next.in_comment = false;
     next.on_hop_line = false;
     next.line_begun = false;
+    next.at_first = false;
+    next.after_mark = false;
+    next
+}
+
+fn parted(network: Network) -> Network {
+    let mut next = network;
+    next.after_mark = false;
+    next
+}
+
+// The mark of the node at the line's start.
+fn with_mark(network: Network, marks: &mut [u8]) -> Network {
+    if network.stopped {
+        return network;
+    }
+    if !network.at_first {
+        return stopped_by(network, Fault::MarkMisplaced);
+    }
+    if network.after_mark {
+        return stopped_by(network, Fault::MarkMisplaced);
+    }
+    put_mark(marks, network.sender as usize);
+    let mut next = network;
+    next.after_mark = true;
     next
 }
 
@@ -155,6 +205,9 @@ fn with_digit(network: Network, byte: u8) -> Network {
     }
     if byte > 57 {
         return stopped_by(network, Fault::NotDecimal);
+    }
+    if network.after_mark {
+        return stopped_by(network, Fault::MarkMisplaced);
     }
     if network.number > 6553 {
         return stopped_by_number(network);
@@ -195,7 +248,7 @@ fn with_number(network: Network, addresses: &mut [u16], pairs: &mut [u8]) -> Net
 }
 
 fn with_hop_limit(network: Network, number: u32) -> Network {
-    if number > 6 {
+    if number > 7 {
         return stopped_by(network, Fault::HopLimitTooLarge);
     }
     let mut next = network;
@@ -217,6 +270,7 @@ fn with_node(network: Network, address: u16, addresses: &mut [u16], pairs: &mut 
     }
     if !network.line_begun {
         next.line_begun = true;
+        next.at_first = true;
         next.sender = place as u8;
         return next;
     }
@@ -230,47 +284,8 @@ fn with_hearing(network: Network, node: u8, pairs: &mut [u8]) -> Network {
     }
     let mut next = network;
     next.pairs_end = end;
+    next.at_first = false;
     next
-}
-
-// Where an address stands among the nodes so far, or the place after them.
-fn place_of(addresses: &[u16], nodes: usize, address: u16) -> usize {
-    let mut place: usize = 0;
-    while place < nodes {
-        if is_at(addresses, place, address) {
-            return place;
-        }
-        place += 1;
-    }
-    nodes
-}
-
-fn is_at(addresses: &[u16], place: usize, address: u16) -> bool {
-    if place < addresses.len() {
-        addresses[place] == address
-    } else {
-        false
-    }
-}
-
-fn keep(addresses: &mut [u16], place: usize, address: u16) {
-    if place >= addresses.len() {
-        return;
-    }
-    addresses[place] = address;
-}
-
-// Where the pairs end with one more, or 0 where there is no room for it.
-fn put_pair(pairs: &mut [u8], end: usize, sender: u8, node: u8) -> usize {
-    if pairs.len() < 2 {
-        return 0;
-    }
-    if end > pairs.len() - 2 {
-        return 0;
-    }
-    pairs[end] = sender;
-    pairs[end + 1] = node;
-    end + 2
 }
 
 // The line that a byte of the text stands on, the first being 1.

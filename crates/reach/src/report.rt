@@ -1,30 +1,39 @@
-// What is printed of a network: a line a node, then the totals.
-ghost use Prim.Native.Nat.{_≤_};
+// What is printed of a network: a line a node, the totals, how often the report goes out, and what the failure of a node does.
+use super::airtime::Air;
+use super::airtime::count;
+use super::airtime::print_airtime;
+use super::failures::print_failures;
+use super::words::at_most;
+use super::words::count_at;
+use super::words::say;
+use super::words::say_address;
+use super::words::say_count;
+use super::words::say_number;
 use chains::Least;
 use chains::NO_CHAIN;
 use chains::NO_NODE;
 use chains::NODE_LIMIT;
 use libc::STDERR_FILENO;
-use libc::STDOUT_FILENO;
+use octets::byte;
 
-pub(crate) fn print_report(hop_limit: u8, nodes: usize, addresses: &[u16], pairs: &[u8]) {
+// The size is that of the fresh report; 0 where bytes are not asked for.
+pub(crate) fn print_report(
+    hop_limit: u8,
+    size: u16,
+    addresses: &[u16],
+    pairs: &[u8],
+    marks: &mut [u8],
+) {
     let mut all = [0u8; NODE_LIMIT];
-    let served = at_most(nodes, NODE_LIMIT);
-    let lengths: &mut [u8] = &mut all[0..served];
-    let marks = [0u8; NODE_LIMIT];
-    if !chains::find_lengths(pairs, &marks[0..served], 0, NO_NODE, lengths) {
+    let nodes = at_most(marks.len(), NODE_LIMIT);
+    let lengths: &mut [u8] = &mut all[0..nodes];
+    if !chains::find_lengths(pairs, marks, 0, NO_NODE, lengths) {
         return say_unserved();
     }
     print_title(hop_limit, addresses);
-    print_nodes(hop_limit, addresses, lengths);
-    print_totals(hop_limit, lengths);
+    print_counted(hop_limit, size, addresses, pairs, marks, lengths);
+    print_failures(hop_limit, addresses, pairs, marks, lengths);
     print_conditions();
-}
-
-fn at_most(number: usize, limit: usize) -> usize
-    ensures { λ r. ⌜ r ≤ limit ⌝ }
-{
-    if number < limit { number } else { limit }
 }
 
 // The network's reader refuses such a network, with its line.
@@ -39,34 +48,90 @@ fn print_title(hop_limit: u8, addresses: &[u16]) {
     say(b"hop limit ");
     say_number(hop_limit as u64);
     say(b", originator ");
-    say_number(address_at(addresses, 0));
+    say_address(addresses, 0);
     say(b"\n");
 }
 
-fn print_nodes(hop_limit: u8, addresses: &[u16], lengths: &[u8]) {
+fn print_counted(
+    hop_limit: u8,
+    size: u16,
+    addresses: &[u16],
+    pairs: &[u8],
+    marks: &mut [u8],
+    lengths: &[u8],
+) {
+    let mut all_times = [0u64; NODE_LIMIT];
+    let mut all_bytes = [0u64; NODE_LIMIT];
+    let nodes = at_most(lengths.len(), NODE_LIMIT);
+    let times: &mut [u64] = &mut all_times[0..nodes];
+    let octets: &mut [u64] = &mut all_bytes[0..nodes];
+    let air = count(hop_limit, size, pairs, marks, times, octets);
+    print_nodes(hop_limit, air, addresses, lengths, marks, times, octets);
+    print_totals(hop_limit, lengths);
+    print_airtime(hop_limit, size, air, marks);
+}
+
+fn print_nodes(
+    hop_limit: u8,
+    air: Air,
+    addresses: &[u16],
+    lengths: &[u8],
+    marks: &[u8],
+    times: &[u64],
+    octets: &[u64],
+) {
     let mut place: usize = 0;
     while place < lengths.len() {
         say(b"node ");
-        say_number(address_at(addresses, place));
-        print_node(hop_limit, lengths[place]);
+        say_address(addresses, place);
+        print_chain(hop_limit, lengths[place]);
+        print_sent(
+            air,
+            is_mute(marks, place),
+            count_at(times, place),
+            count_at(octets, place),
+        );
         place += 1;
     }
 }
 
-fn print_node(hop_limit: u8, length: u8) {
+fn print_chain(hop_limit: u8, length: u8) {
     if length == 0 {
-        return say(b": the originator\n");
+        return say(b": the originator");
     }
     if length == NO_CHAIN {
-        return say(b": no chain, out of reach\n");
+        return say(b": no chain, out of reach");
     }
     say(b": chain of ");
     say_count(length as u64, b" hearing");
     if !chains::is_delivered(hop_limit, length) {
-        return say(b", out of reach\n");
+        return say(b", out of reach");
     }
     say(b", delivered with path count ");
     say_number(length as u64 - 1);
+}
+
+// The originator sends the report, also where it repeats nothing.
+fn is_mute(marks: &[u8], place: usize) -> bool {
+    if place == 0 {
+        return false;
+    }
+    byte(marks, place) > 0
+}
+
+fn print_sent(air: Air, mute: bool, times: u64, octets: u64) {
+    if mute {
+        return say(b"; does not repeat\n");
+    }
+    if !air.is_counted {
+        return say(b"\n");
+    }
+    say(b"; sends it ");
+    say_count(times, b" time");
+    if air.has_bytes {
+        say(b", ");
+        say_count(octets, b" byte");
+    }
     say(b"\n");
 }
 
@@ -80,44 +145,18 @@ fn print_totals(hop_limit: u8, lengths: &[u8]) {
             say_number(least as u64);
             say(b"\n");
         }
-        Least::Unreachable => say(b"no hop limit from 0 to 6 reaches all\n"),
+        Least::Unreachable => say(b"no hop limit reaches all\n"),
     }
 }
 
 fn print_conditions() {
     say(
-        b"This holds if the report is fresh, with a path and no destination, each transmission is taken once by every node that hears its\n",
+        b"This holds if the report is fresh, with a path and no destination. Each transmission is taken once by every node that hears its sender, and by no other.\n",
     );
     say(
-        b"sender and by no other, and every node has an address of its own, echo suppression and repeating on, all lists off and without fault, and room.\n",
+        b"Every node has an address of its own, echo suppression on and lists without fault. Each without `-` repeats the report, and has room (4615 bytes always are).\n",
     );
-    say(b"4615 bytes of output are always room enough.\n");
-}
-
-fn address_at(addresses: &[u16], place: usize) -> u64 {
-    if place < addresses.len() {
-        wide(addresses[place])
-    } else {
-        0
-    }
-}
-
-fn wide(address: u16) -> u64 {
-    address as u64
-}
-
-fn say_count(number: u64, what: &[u8]) {
-    say_number(number);
-    say(what);
-    if number != 1 {
-        say(b"s");
-    }
-}
-
-fn say_number(number: u64) {
-    io::print_decimal(STDOUT_FILENO, number);
-}
-
-fn say(text: &[u8]) {
-    io::write_all(STDOUT_FILENO, text);
+    say(
+        b"A node whose lists stop the report has a `-`, and is not delivered it. If transmissions are lost, the report goes out no more often.\n",
+    );
 }

@@ -16,6 +16,7 @@ mod lent;
 mod listing;
 mod lossy;
 mod memory;
+mod networking;
 mod originating;
 mod output;
 mod queueing;
@@ -42,7 +43,7 @@ const MOST_DIFFERENCES: u64 = 10;
 type Kind = (&'static str, usize, fn(&mut Random) -> Compared);
 
 /// The kinds of input.
-const KINDS: [Kind; 21] = [
+const KINDS: [Kind; 22] = [
     ("reading and writing again", 25, reading::compare),
     ("origination", 11, originating::compare),
     ("blocks of lists", 6, listing::compare),
@@ -51,6 +52,7 @@ const KINDS: [Kind; 21] = [
     ("one PDU at one node", 38, hearing::compare),
     ("batches", 9, walking::compare),
     ("bounds", 5, bounding::compare),
+    ("networks", 1, networking::compare),
     ("floods", 1, flooding::compare),
     ("histories of a table of stations", 6, counting::compare),
     ("tables put together by hand", 1, by_hand::compare),

@@ -24,6 +24,8 @@ pub struct Asked {
 pub struct Case {
     /// Its bytes.
     pub input: Vec<u8>,
+    /// The program's arguments.
+    pub words: Vec<String>,
     /// What the reading prints for it.
     pub wanted: String,
     /// What is said of it where the program prints something else, a line.
@@ -51,7 +53,7 @@ pub fn compare(
     while done < asked.count && differ < MOST_DIFFERENCES {
         let number = asked.first.wrapping_add(done);
         let case = case_of(&mut Random::for_case(asked.seed, number));
-        let printed = printed_for(&asked.program, &case.input)
+        let printed = printed_for(&asked.program, &case)
             .map_err(|error| format!("{} cannot be run: {error}", asked.program))?;
         if let Some(words) = difference(&printed, &case.wanted) {
             differ += 1;
@@ -66,15 +68,16 @@ pub fn compare(
 
 /// What the program prints for an input; its status, where that is not 0, is
 /// taken as text too.
-fn printed_for(program: &str, bytes: &[u8]) -> io::Result<Vec<u8>> {
+fn printed_for(program: &str, case: &Case) -> io::Result<Vec<u8>> {
     let mut child = Command::new(program)
+        .args(&case.words)
         .stdin(Stdio::piped())
         .stdout(Stdio::piped())
         .spawn()?;
     let input = child.stdin.take();
     let output = thread::scope(|scope| {
         // A program that ends before it has read all is told by its text.
-        scope.spawn(move || input.map(|mut input| input.write_all(bytes)));
+        scope.spawn(move || input.map(|mut input| input.write_all(&case.input)));
         child.wait_with_output()
     })?;
     let mut printed = output.stdout;

@@ -224,10 +224,11 @@ fn open_lines(random: &mut Random) -> String {
 /// them.
 fn reach_line(random: &mut Random) -> String {
     let network = network(random, NODES);
+    let size = random.between(7, 4_105) as u64;
     let lines: Vec<String> = network.lines.iter().map(|line| list(line)).collect();
-    let answered = reach(&network).trim_end().replace('\n', "/");
-    let (hop_limit, lines) = (network.hop_limit, lines.join(";"));
-    format!("reach {hop_limit} {lines} = {answered}")
+    let answered = reach(&network, Some(size)).trim_end().replace('\n', "/");
+    let (hop_limit, lines, mute) = (network.hop_limit, lines.join(";"), list(&network.mute));
+    format!("reach {hop_limit} {lines} {mute} {size} = {answered}")
 }
 
 #[cfg(test)]

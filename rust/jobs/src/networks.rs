@@ -24,9 +24,11 @@ pub fn compare_networks(asked: &Asked) -> Result<(), String> {
 fn case(random: &mut Random) -> Case {
     let most = [6, 20, 60, MOST_NODES][random.below(4)];
     let network = network(random, most);
+    let size = random.flag().then(|| random.between(7, 4_105) as u64);
     Case {
         input: network.text().into_bytes(),
-        wanted: reach(&network),
+        words: size.map(|size| size.to_string()).into_iter().collect(),
+        wanted: reach(&network, size),
         shown: String::new(),
     }
 }
@@ -38,15 +40,20 @@ mod tests {
     #[test]
     fn networks_of_every_kind_arise() {
         let texts: Vec<String> = (0..400)
-            .map(|case| reach(&network(&mut Random::for_case(1, case), 20)))
+            .map(|case| reach(&network(&mut Random::for_case(1, case), 20), Some(20)))
             .collect();
-        let none = "no hop limit from 0 to 6 reaches all";
         for words in [
             "no chain",
             "hearings, out of reach",
             "path count 3",
-            none,
+            "no hop limit reaches all",
             "all is 4",
+            "all is 7",
+            "does not repeat",
+            "sends it 3 times",
+            "no chain leads to",
+            "does not reach",
+            "no single failure",
         ] {
             let found = texts.iter().filter(|text| text.contains(words)).count();
             assert!((1..400).contains(&found), "{words}: {found} of 400");

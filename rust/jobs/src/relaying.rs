@@ -24,6 +24,7 @@ fn case(random: &mut Random) -> Case {
     Case {
         wanted: relay(&job),
         shown: format!("the job: {}\n", hex(&job)),
+        words: vec![],
         input: job,
     }
 }

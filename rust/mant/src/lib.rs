@@ -8,8 +8,9 @@
 //! holds the settings of a box, edition included, and [`Lists`] its address lists.
 //! [`Stations`] holds the stations that a box has heard, [`Queue`] the PDUs that
 //! wait to be sent, [`Reliable`] those that wait for their acknowledgement,
-//! [`Record`] the last message numbers of encrypted PDUs. [`raw`] gives the
-//! library's structs as they are.
+//! [`Record`] the last message numbers of encrypted PDUs. A [`Network`] says
+//! whom a report reaches and how often it goes out. [`raw`] gives the library's
+//! structs as they are.
 //!
 //! What is refused is a [`Refusal`], with its number and its meaning; the
 //! functions below name the numbers in the order in which they are looked for,
@@ -29,7 +30,9 @@
 //! `mant_stations_held` [`Stations::len`], `mant_count_heard`
 //! [`Stations::count`], `mant_queue_add` [`Queue::add`], `mant_retain`
 //! [`Reliable::retain`], which keeps the last time itself, `mant_open`
-//! [`Record::open`], `mant_meaning` [`Refusal::meaning`]. What C says with a
+//! [`Record::open`], `mant_chain_lengths` [`Network::chains`],
+//! `mant_network_transmissions` [`Network::transmissions`], `mant_meaning`
+//! [`Refusal::meaning`]. What C says with a
 //! flag beside a value is an [`Option`] here.
 //!
 //! Over a restart a box must keep the [`Record`], and beside it what it counts
@@ -61,6 +64,7 @@
 mod edition;
 mod exchange;
 mod lists;
+mod network;
 mod node;
 mod originating;
 mod planning;
@@ -75,6 +79,7 @@ mod stations;
 pub use edition::Bits;
 pub use exchange::{elements, read_exchange, write_exchange, Element, Elements, Exchange};
 pub use lists::{list_holds, Choice, EightLists, List, ListFault, Lists, TwoLists};
+pub use network::{Airtime, Chains, Network};
 pub use node::{hear, step, Answer, Node, Step};
 pub use originating::{originate, Fresh};
 pub use planning::{limits, most_bytes, most_for_command, most_transmissions};

@@ -6,6 +6,7 @@
 //! with but the words of the numbers, in docs/NUMBERS.md.
 
 mod aes;
+mod airtime;
 mod batch;
 mod edition;
 mod exchange;
@@ -13,6 +14,7 @@ mod flood;
 mod header;
 mod job;
 mod lists;
+mod network;
 mod node;
 pub mod numbers;
 mod octets;
@@ -26,6 +28,7 @@ mod stations;
 mod writing;
 
 pub use aes::{counter_mode, encipher, Key};
+pub use airtime::{airtime, count, Airtime};
 pub use batch::{walk, Step, Walk, MOST_BATCH};
 pub use edition::{read_under, Bits, Edition, Shown, EDITION_1_1, EDITION_1_2};
 pub use exchange::{element_at, read_exchange, write_exchange, Element, Exchange, MOST_EXCHANGE};
@@ -35,11 +38,12 @@ pub use job::{read_job, relay, Job};
 pub use lists::{
     holds, list_fault, Choice, ListFault, Lists, TwoLists, LISTS, MOST_RANGES, MOST_VALUES,
 };
+pub use network::Network;
 pub use node::{hear, Answer, Settings};
 pub use numbers::{described, meaning};
 pub use origin::{originate, Origination};
 pub use queue::{Queue, Taken, MOST_HELD, MOST_HELD_BYTES};
-pub use reach::{reach, shortest_chains, Network};
+pub use reach::{chains, delivered, least_hop_limit, reach, shortest_chains};
 pub use retained::{Done, Names, Retained, Sending, Table, MOST_RETAINED, RECORDS};
 pub use sealed::{message_number, open, seal, Accepted, MOST_NUMBER, MOST_SOURCES};
 pub use sha1::sha1;

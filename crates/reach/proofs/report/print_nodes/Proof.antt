@@ -5,10 +5,10 @@ use Rattle.reach.proofs.report.print_nodes.Statement.{statement}
 use Rattle.reach.proofs.report.print_nodes.Tie as tie
 
 abbrev Inv-loop : tie.InvT-loop
-Inv-loop hop-limit addresses lengths place₀ t5 place = place ≤ length lengths
+Inv-loop hop-limit air addresses lengths marks times octets place₀ t9 place = place ≤ length lengths
 
 abbrev μ-loop : tie.MeasureT-loop
-μ-loop hop-limit addresses lengths place₀ t5 place = length lengths - place
+μ-loop hop-limit air addresses lengths marks times octets place₀ t9 place = length lengths - place
 
 loop-holds : tie.Need-loop-holds Inv-loop μ-loop
 loop-holds c = search needs
@@ -19,17 +19,26 @@ slice-aggregate-say c = search needs
 say-requires : tie.Need-say-requires Inv-loop μ-loop
 say-requires c κs = search needs
 
-address-at-requires : tie.Need-address-at-requires Inv-loop μ-loop
-address-at-requires c κs = search needs
+say-address-requires : tie.Need-say-address-requires Inv-loop μ-loop
+say-address-requires c κs = search needs
 
-say-number-requires : tie.Need-say-number-requires Inv-loop μ-loop
-say-number-requires c κs = search needs
+shared-slice-read-print-chain : tie.Need-shared-slice-read-print-chain Inv-loop μ-loop
+shared-slice-read-print-chain c = search needs
 
-shared-slice-read-print-node : tie.Need-shared-slice-read-print-node Inv-loop μ-loop
-shared-slice-read-print-node c = search needs
+print-chain-requires : tie.Need-print-chain-requires Inv-loop μ-loop
+print-chain-requires c κs = search needs
 
-print-node-requires : tie.Need-print-node-requires Inv-loop μ-loop
-print-node-requires c κs = search needs
+is-mute-requires : tie.Need-is-mute-requires Inv-loop μ-loop
+is-mute-requires c κs = search needs
+
+count-at-requires : tie.Need-count-at-requires Inv-loop μ-loop
+count-at-requires c κs = search needs
+
+count-at-requires-2 : tie.Need-count-at-requires-2 Inv-loop μ-loop
+count-at-requires-2 c κs = search needs
+
+print-sent-requires : tie.Need-print-sent-requires Inv-loop μ-loop
+print-sent-requires c κs = search needs
 
 add-place : tie.Need-add-place Inv-loop μ-loop
 add-place c = search needs
@@ -52,10 +61,13 @@ print-nodes-spec =
     loop-holds
     slice-aggregate-say
     say-requires
-    address-at-requires
-    say-number-requires
-    shared-slice-read-print-node
-    print-node-requires
+    say-address-requires
+    shared-slice-read-print-chain
+    print-chain-requires
+    is-mute-requires
+    count-at-requires
+    count-at-requires-2
+    print-sent-requires
     add-place
     loop-less
     loop-again

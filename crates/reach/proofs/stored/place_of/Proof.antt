@@ -1,7 +1,7 @@
 use Prim.Native.Nat.{_-_, _≤_}
 use borrow.Author.Needs.{needs}
-use Rattle.reach.proofs.network.place_of.Statement.{statement}
-use Rattle.reach.proofs.network.place_of.Tie as tie
+use Rattle.reach.proofs.stored.place_of.Statement.{statement}
+use Rattle.reach.proofs.stored.place_of.Tie as tie
 
 abbrev Inv-loop : tie.InvT-loop
 Inv-loop addresses nodes address place₀ place = place ≤ nodes

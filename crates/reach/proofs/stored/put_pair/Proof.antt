@@ -1,8 +1,8 @@
 use lib.ListN.{length-set}
 use native.Mathlib.Omega.{arith}
 use borrow.Author.Needs.{needs}
-use Rattle.reach.proofs.network.put_pair.Statement.{statement}
-use Rattle.reach.proofs.network.put_pair.Tie as tie
+use Rattle.reach.proofs.stored.put_pair.Statement.{statement}
+use Rattle.reach.proofs.stored.put_pair.Tie as tie
 
 returns : tie.Need-returns
 returns c = search needs
