@@ -55,7 +55,7 @@ static bool done(const char *name, uint8_t number)
 
 static void print_hex(const char *name, const uint8_t *bytes, size_t length)
 {
-    printf("    %s, %zu bytes%s", name, length, length > 0 ? ": " : "");
+    printf("    %s, %u bytes%s", name, (unsigned)length, length > 0 ? ": " : "");
     for (size_t i = 0; i < length; i++) {
         printf("%02X", bytes[i]);
     }
@@ -66,7 +66,7 @@ static void print_hex(const char *name, const uint8_t *bytes, size_t length)
 static void enqueue(const char *name, const uint8_t *pdu, size_t length)
 {
     if (length > SLOT_BYTES) {
-        printf("    %s dropped: its %zu bytes are more than a slot has room for\n", name, length);
+        printf("    %s dropped: its %u bytes are more than a slot has room for\n", name, (unsigned)length);
     } else if (done("queue", mant_queue_add(&queue, pdu, length))) {
         print_hex(name, pdu, length);
     }

@@ -57,7 +57,7 @@ static size_t hear(const char *name, Site *site, const uint8_t *pdu, size_t leng
 {
     MantHeardReliably heard = mant_reliable_hear(site->node, NULL, 0, &site->reliable, pdu, length, sending, output, MANT_RETAINED_LIMIT);
 
-    printf("%s, payload bytes delivered: %zu\n", name, heard.answer.delivered_length);
+    printf("%s, payload bytes delivered: %u\n", name, (unsigned)heard.answer.delivered_length);
     print_outcome("its table", heard.outcome);
     return heard.outcome.length;
 }

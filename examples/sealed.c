@@ -26,7 +26,7 @@ __attribute__((noinline)) static void clear_stack(void)
 
 static void print_hex(const char *name, const uint8_t *bytes, size_t length)
 {
-    printf("%s, %zu bytes: ", name, length);
+    printf("%s, %u bytes: ", name, (unsigned)length);
     for (size_t i = 0; i < length; i++) {
         printf("%02X", bytes[i]);
     }

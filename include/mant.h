@@ -57,15 +57,22 @@
  * library's code takes more than that limit, counted in its disassembly, apart from what the C library's two functions take. Two things come on top,
  * measured there too. For its arguments a caller compiled by another -O takes up to 64 bytes more, and one without -O up to 256 bytes more. And where the
  * loader binds memcpy and its like at their first call, as it does unless told otherwise, that call takes up to 4,096 bytes more: link with
- * -Wl,-z,now or -static where that is too much.
+ * -Wl,-z,now or -static where that is too much. All this is of x86-64; docs/firmware.md has the figures of other processors.
  *
  * Numbers. Every refusal has one: enum MantNumber below; mant_meaning, at the end, gives its words to a program.
  */
 #ifndef MANT_H
 #define MANT_H
 
-#if !defined(__x86_64__) || !defined(__linux__)
-#error "libmant.a is for x86-64 Linux only"
+/* The processors on which the library is tested. docs/firmware.md says how to link it on each. */
+#if defined(__BYTE_ORDER__) && __BYTE_ORDER__ != __ORDER_LITTLE_ENDIAN__
+#error "libmant is tested on little-endian processors only"
+#elif defined(__linux__) && ((defined(__x86_64__) && defined(__LP64__)) || (defined(__aarch64__) && defined(__LP64__)) || \
+                             (defined(__ARM_EABI__) && __ARM_ARCH >= 7) || (defined(__riscv) && __riscv_xlen == 64))
+#elif !defined(__linux__) && (defined(__ARM_ARCH_6M__) || defined(__ARM_ARCH_7M__) || defined(__ARM_ARCH_7EM__) || (defined(__riscv) && __riscv_xlen == 32) || \
+                              defined(__wasm32__))
+#else
+#error "libmant is tested on Linux (x86-64, AArch64, Armv7-A, RV64), bare Cortex-M0+, M3 and M4, bare RV32, and WebAssembly only"
 #endif
 
 #include <stdbool.h>
@@ -147,11 +154,11 @@ enum MantNumber {
 #define MANT_EDITION_1_1 11
 #define MANT_EDITION_1_2 12
 
-/* Holds each struct to its size in the library. */
+/* Holds each struct to its size in the library. Where size_t has 4 bytes, a struct that holds one is smaller. */
 #ifdef __cplusplus
-#define MANT_SIZE(type, size) static_assert(sizeof(type) == (size), #type " is laid out otherwise in the library")
+#define MANT_SIZE(type, size) static_assert(sizeof(size_t) != 8 || sizeof(type) == (size), #type " is laid out otherwise in the library")
 #else
-#define MANT_SIZE(type, size) _Static_assert(sizeof(type) == (size), #type " is laid out otherwise in the library")
+#define MANT_SIZE(type, size) _Static_assert(sizeof(size_t) != 8 || sizeof(type) == (size), #type " is laid out otherwise in the library")
 #endif
 
 /* What writing answers: number 0 and how many bytes were written, or the refusal's number and length 0. */
@@ -418,11 +425,11 @@ MantListFault mant_list_fault(const uint16_t *lists, size_t lists_length);
 
 /* The library's own call for laying. It takes the block as a pointer to MANT_LIST_WORDS words, and each list as a pointer and a length. Call mant_lay_lists
    instead. */
-MantListFault mant_lay_eight(uint16_t *block, const uint16_t *source_pass_first, size_t source_pass_first_length, const uint16_t *source_pass_second,
-                             size_t source_pass_second_length, const uint16_t *source_reject_first, size_t source_reject_first_length,
-                             const uint16_t *source_reject_second, size_t source_reject_second_length, const uint16_t *destination_pass_first,
-                             size_t destination_pass_first_length, const uint16_t *destination_pass_second, size_t destination_pass_second_length,
-                             const uint16_t *destination_reject_first, size_t destination_reject_first_length,
+MantListFault mant_lay_eight(uint16_t block[MANT_LIST_WORDS], const uint16_t *source_pass_first, size_t source_pass_first_length,
+                             const uint16_t *source_pass_second, size_t source_pass_second_length, const uint16_t *source_reject_first,
+                             size_t source_reject_first_length, const uint16_t *source_reject_second, size_t source_reject_second_length,
+                             const uint16_t *destination_pass_first, size_t destination_pass_first_length, const uint16_t *destination_pass_second,
+                             size_t destination_pass_second_length, const uint16_t *destination_reject_first, size_t destination_reject_first_length,
                              const uint16_t *destination_reject_second, size_t destination_reject_second_length);
 
 /* Lays lists of any length into a block, and returns what mant_list_fault returns for the block. If `lists` is NULL, it lays eight empty lists. With number 0
@@ -769,7 +776,7 @@ MantWritten mant_write_exchange(const uint8_t *bytes, size_t bytes_length, uint8
    may stand there: they stay as they are, and are not sent. A record that was freed or dropped is all zeros. */
 typedef struct MantRetained {
     uint8_t pdu[MANT_RETAINED_LIMIT];
-    size_t length;
+    uint64_t length;          /* not a size_t, since the library reads the array itself: it is laid out alike on every processor */
     uint64_t sent_at;         /* when it was last sent, or retained */
     uint64_t count;           /* how often it was sent again */
 } MantRetained;

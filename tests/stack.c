@@ -5,7 +5,8 @@
        gcc -std=c11 -O2 -Wall -Wextra -pedantic tests/stack.c -Iinclude target/staticlib/libmant.a -o /tmp/stack && LD_BIND_NOW=1 /tmp/stack
 
    prints the bytes of each function, the most of the calls tried, and its limit, and fails where they are more than that. mant_lay_eight is called through
-   mant_lay_lists, and what that takes is counted too. tools/stack holds include/mant.h and docs/PERFORMANCE.md to what it prints. */
+   mant_lay_lists, and what that takes is counted too. tools/stack holds include/mant.h and docs/PERFORMANCE.md to what it prints. On another processor there
+   is no limit; tools/firmware holds docs/firmware.md to what it prints there. */
 #include <stdio.h>
 #include <string.h>
 
@@ -13,7 +14,15 @@
 
 #define LIMIT 640
 #define PAINTED 65536
-#define STACK_POINTER "mov %%rsp, %0"
+#if defined(__x86_64__)
+#define STACK_POINTER(kept) __asm__ volatile("mov %%rsp, %0" : "=m"(kept))
+#elif defined(__riscv)
+#define STACK_POINTER(kept) __asm__ volatile("mv %0, sp" : "=r"(kept))
+#elif defined(__wasm__)
+#define STACK_POINTER(kept) __asm__ volatile("global.get __stack_pointer\n local.set %0" : "=r"(kept))
+#else
+#define STACK_POINTER(kept) __asm__ volatile("mov %0, sp" : "=r"(kept))
+#endif
 #define EDITION MANT_EDITION_1_2
 #define NO_LISTS NULL, 0
 #define TWO {{list, MANT_LIST_LIMIT}, {list, MANT_LIST_LIMIT}}
@@ -59,7 +68,7 @@ static bool meant = true;
 #define CALL(name, fact)                               \
     static void name(void)                             \
     {                                                  \
-        __asm__ volatile(STACK_POINTER : "=m"(top));   \
+        STACK_POINTER(top);                            \
         meant = (fact) && meant;                       \
     }
 
@@ -185,6 +194,9 @@ static const struct {
 
 static size_t limit_of(const char *name)
 {
+#ifndef __x86_64__
+    return (void)name, PAINTED;
+#endif
     for (size_t i = 0; i < sizeof limits / sizeof limits[0]; i++) {
         if (strcmp(name, limits[i].name) == 0) {
             return limits[i].bytes;
@@ -197,7 +209,7 @@ static size_t limit_of(const char *name)
 static size_t depth_of(void (*call)(void))
 {
     volatile uint8_t *own;
-    __asm__ volatile(STACK_POINTER : "=m"(own));
+    STACK_POINTER(own);
     for (size_t i = 1; i <= PAINTED; i++) {
         own[-(ptrdiff_t)i] = 0xA5;
     }
@@ -206,7 +218,7 @@ static size_t depth_of(void (*call)(void))
     while (*low == 0xA5) {
         low++;
     }
-    return (size_t)(top - (uintptr_t)low + 7) / 8 * 8;
+    return (uintptr_t)low < top ? (size_t)(top - (uintptr_t)low + 7) / 8 * 8 : 0; /* a leaf may keep all in registers */
 }
 
 /* A PDU of every part: reliable, for another node, a path of 254 addresses, the longest payload. It is delivered to none and repeated. */
@@ -254,7 +266,7 @@ int main(void)
         }
         size_t limit = limit_of(functions[i].name);
         status = most > limit ? 1 : status;
-        printf("%s %zu of %zu%s\n", functions[i].name, most, limit, most > limit ? ", too many" : "");
+        printf("%s %u of %u%s\n", functions[i].name, (unsigned)most, (unsigned)limit, most > limit ? ", too many" : "");
     }
     if (!meant) {
         printf("a call did not go the long way\n");

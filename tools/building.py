@@ -1,6 +1,5 @@
 """Builds from the present sources, for the commands at the top, tools/build and the tests: one build at a time in a clone, and none left running. What is
-built is for x86-64; on another processor it runs under the emulator of the Rattle kit, and a library is also made for that processor, to be tested and
-timed."""
+built is for x86-64; on another processor it runs under the emulator of the Rattle kit, and a library is also made for that processor (tools/boards.py)."""
 import contextlib
 import fcntl
 import hashlib
@@ -14,7 +13,9 @@ import subprocess
 import sys
 import time
 
-import native
+import board_header
+import boards
+import keeping
 
 TOP = pathlib.Path(__file__).resolve().parent.parent
 TARGET = TOP / 'target'
@@ -180,37 +181,70 @@ def sources_of(crate):
     return [TOP / 'crates.txt', *sorted(file for folder in folders for file in folder.rglob('*') if file.is_file())]
 
 
+def module_of(crate):
+    """Where the LLVM module is kept that a library is compiled from."""
+    return TARGET / 'boards' / f'{crate}.bc'
+
+
 def state_of(crate, archive):
-    """A sum over the kit's name, the sources and the archive made from them."""
+    """A sum over the kit's name, the sources, and the archive and the module made from them."""
     kit = subprocess.run(['rt', 'version'], capture_output=True).stdout
     total = hashlib.sha256(kit)
-    for file in [*sources_of(crate), archive]:
+    for file in [*sources_of(crate), archive, module_of(crate)]:
         content = file.read_bytes()
         total.update(f'{file.relative_to(TOP)} {len(content)}\n'.encode() + content)
     return total.hexdigest()
 
 
 def library(name, crate):
-    """Proves a library and writes its archive for C, and one for this machine's processor, unless those that are there were made here from the same
-    sources."""
-    archive, own = TARGET / 'staticlib' / f'lib{crate}.a', TARGET / 'native' / f'lib{crate}.a'
-    made_from = archive.with_suffix('.from')
+    """Proves a library, and writes its archive for C, its module, and an archive for this machine's processor, unless those that are there were made here
+    from the same sources."""
+    archive, made_from = TARGET / 'staticlib' / f'lib{crate}.a', TARGET / 'staticlib' / f'lib{crate}.from'
     if not shutil.which('rt'):
         raise Failed(NO_KIT)
     try:
-        if archive.is_file() and own.is_file() and made_from.is_file() and made_from.read_text() == state_of(crate, archive):
-            return
+        built = all(file.is_file() for file in (archive, module_of(crate), made_from)) and made_from.read_text() == state_of(crate, archive)
     except OSError as error:
         raise Failed(f'{error.filename}: {error.strerror}') from error
-    fail_where_read_only()
-    made_from.unlink(missing_ok=True)
-    own.parent.mkdir(parents=True, exist_ok=True)
-    if platform.machine() == 'x86_64':
-        rt(name, 'staticlib', crate)
+    if not built:
+        fail_where_read_only()
+        made_from.unlink(missing_ok=True)
+        module_of(crate).parent.mkdir(parents=True, exist_ok=True)
+        kit = keeping.keeping_kit(TARGET / 'boards/kit', toolchain(), module_of(crate))
+        rt(name, 'staticlib', crate, RATTLE_HOME=str(kit))
+        made_from.write_text(state_of(crate, archive))
+    for_this_processor(crate, archive)
+
+
+def for_this_processor(crate, archive):
+    """Puts the archive for this machine's processor into target/native, where Rust, Python and the benchmark link it: on x86-64 the one that the kit made."""
+    own = TARGET / 'native' / f'lib{crate}.a'
+    if platform.machine() != 'x86_64':
+        target = f'{platform.machine()}-linux'
+        if target not in boards.TARGETS:
+            raise Failed(f'the library is not made for {platform.machine()}')
+        make_boards(crate, [target])
+        archive = TARGET / 'boards' / target / archive.name
+    if not own.is_file() or own.read_bytes() != archive.read_bytes():
+        fail_where_read_only()
+        own.parent.mkdir(parents=True, exist_ok=True)
         shutil.copyfile(archive, own)
-    else:
-        for_this_processor(name, crate, own)
-    made_from.write_text(state_of(crate, archive))
+
+
+def make_boards(crate, targets):
+    try:
+        boards.make(toolchain(), module_of(crate), TOP / 'include' / f'{crate}.h', TARGET / 'boards', targets)
+    except (board_header.Fault, OSError) as error:
+        raise Failed(f'the module of {crate} could not be compiled for another processor: {error}') from error
+
+
+def for_boards(name, *targets):
+    """The library for other processors, for all or for those that are named."""
+    for target in targets:
+        if target not in boards.TARGETS:
+            raise Failed(f'{target} is none of {", ".join(boards.TARGETS)}')
+    library(name, 'mant')
+    make_boards('mant', targets or boards.TARGETS)
 
 
 def shared(name, crate):
@@ -237,13 +271,3 @@ def shared(name, crate):
     finally:
         made.unlink(missing_ok=True)
     made_from.write_text(state())
-
-
-def for_this_processor(name, crate, own):
-    kept = own.with_name(f'{crate}.bc')
-    kit = native.keeping_kit(own.parent / 'kit', toolchain(), kept)
-    rt(name, 'staticlib', crate, RATTLE_HOME=str(kit))
-    try:
-        native.compiled(toolchain(), kept, own)
-    except (OSError, subprocess.CalledProcessError) as error:
-        raise Failed(f'the module of {crate} could not be compiled for {platform.machine()}: {error}') from error

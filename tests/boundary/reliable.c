@@ -1,7 +1,9 @@
 #define _DEFAULT_SOURCE /* mmap */
 #include "boundary.h"
+#ifdef __linux__
 #include <sys/mman.h>
 #include <unistd.h>
+#endif
 
 /* A command from 1000 to 1600 with ID 7, and its acknowledgement. */
 static const uint8_t command[10] = {0x09, 0, 0x30, 0x01, 0x03, 0xE8, 0x06, 0x40, 7, 99};
@@ -126,16 +128,48 @@ static void with_a_struct(void)
     CHECK(memcmp(at_base, &free_table, sizeof free_table) == 0 && room.behind == 77);
 }
 
+#ifdef __linux__
+static uint8_t *memory;
+static size_t before_end, page;
+
+/* Sixteen records that end at a page that may not be read. NULL if there is no such memory. */
+static MantRetained *sixteen_before_the_end(void)
+{
+    const size_t needed = 16 * sizeof(MantRetained);
+    page = (size_t)sysconf(_SC_PAGESIZE);
+    before_end = (needed + page - 1) / page * page;
+    memory = mmap(NULL, before_end + page, PROT_READ | PROT_WRITE, MAP_PRIVATE | MAP_ANONYMOUS, -1, 0);
+    const bool there = memory != MAP_FAILED && mprotect(memory + before_end, page, PROT_NONE) == 0;
+    return there ? (MantRetained *)(void *)(memory + before_end - needed) : NULL;
+}
+
+static bool given_back(void)
+{
+    return munmap(memory, before_end + page) == 0;
+}
+#else
+/* A bare processor has no such page: there the library is only seen to change none of the record behind. */
+static MantRetained memory[17];
+
+static MantRetained *sixteen_before_the_end(void)
+{
+    return memory;
+}
+
+static bool given_back(void)
+{
+    return memcmp(memory + 16, &zeros, sizeof zeros) == 0;
+}
+#endif
+
 /* With another number of records than 16 none is read: here they end at a page that may not be read, or begin there. */
 static void records_that_are_not_there(void)
 {
-    const size_t page = (size_t)sysconf(_SC_PAGESIZE), room = (16 * sizeof(MantRetained) + page - 1) / page * page;
     const MantAnswer delivered = {.taken = 10};
     const MantNode at_gate = MANT_NODE(1600);
     uint8_t output[11];
-    uint8_t *memory = mmap(NULL, room + page, PROT_READ | PROT_WRITE, MAP_PRIVATE | MAP_ANONYMOUS, -1, 0);
-    CHECK(memory != MAP_FAILED && mprotect(memory + room, page, PROT_NONE) == 0);
-    MantRetained *sixteen = (MantRetained *)(void *)(memory + room - 16 * sizeof(MantRetained)), *none = (MantRetained *)(void *)(memory + room);
+    MantRetained *sixteen = sixteen_before_the_end(), *none = sixteen + 16;
+    CHECK(sixteen != NULL);
     const size_t counts[] = {17, sizeof(MantRetained[16]), 15, 1, SIZE_MAX / sizeof(MantRetained)};
     for (size_t i = 0; i < sizeof counts / sizeof counts[0]; i++) {
         MantRetained *records = i < 2 ? sixteen : none;
@@ -146,7 +180,7 @@ static void records_that_are_not_there(void)
         CHECK(is_outcome(mant_hear_reliably(at_gate, NO_LISTS, records, counts[i], 9, command, 10, sending, output, 11).outcome, 74, 0, 9, 0, 0));
     }
     CHECK(mant_retain(sixteen, 16, 9, 9, command, 10).deed == MANT_DEED_RETAINED);
-    CHECK(munmap(memory, room + page) == 0);
+    CHECK(given_back());
 }
 
 /* An answer that no node gave for these bytes: one of zeros says delivered. Nothing is acknowledged in another's name, nor for bytes that are no PDU or have an

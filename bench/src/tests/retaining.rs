@@ -19,7 +19,7 @@ fn plain_retains_as_the_reference_does() {
             assert_eq!(answered, outcome(wanted, table.last()));
             for (plain, record) in plain.iter().zip(table.records()) {
                 let pdu = record.as_ref().map_or(&[][..], |record| &record.pdu);
-                assert_eq!(&plain.pdu[..plain.length], pdu);
+                assert_eq!(&plain.pdu[..plain.length as usize], pdu);
                 let numbers = record.as_ref().map(|record| (record.sent_at, record.count));
                 assert_eq!((plain.sent_at, plain.count), numbers.unwrap_or((0, 0)));
             }

@@ -35,7 +35,7 @@ impl Lent {
     /// The table for the reference. A length above 256 is no PDU's.
     pub fn read(&self, last: u64) -> Table {
         let records = self.table().iter().map(|record| {
-            let pdu = record.pdu.get(..record.length)?;
+            let pdu = record.pdu.get(..usize::try_from(record.length).ok()?)?;
             Some(reference::Retained {
                 pdu: pdu.to_vec(),
                 sent_at: record.sent_at,
@@ -52,7 +52,7 @@ impl Lent {
         match (deed, done) {
             (ReliableDeed::Retain(time, pdu), Ok(Done::Retained(place, _))) => {
                 table[place] = Retained {
-                    length: pdu.len(),
+                    length: pdu.len() as u64,
                     sent_at: *time,
                     ..Retained::FREE
                 };
@@ -77,7 +77,7 @@ fn any(random: &mut Random) -> Retained {
     pdu.copy_from_slice(&random.bytes(256));
     Retained {
         pdu,
-        length: random.below(300),
+        length: random.below(300) as u64,
         sent_at: random.draw(),
         count: random.draw(),
     }
@@ -87,7 +87,7 @@ fn any(random: &mut Random) -> Retained {
 fn in_library(record: &RetainedRecord) -> Retained {
     Retained {
         pdu: record.pdu,
-        length: record.length,
+        length: record.length as u64,
         sent_at: record.sent_at,
         count: record.count,
     }

@@ -26,8 +26,8 @@ pub const DEED_ACKNOWLEDGED: u8 = 5;
 pub struct Retained {
     /// The PDU, and zeros behind it.
     pub pdu: [u8; RETAINED_LIMIT],
-    /// How many bytes the PDU has.
-    pub length: usize,
+    /// How many bytes the PDU has; 64 bits on every processor.
+    pub length: u64,
     /// When it was last sent, or retained.
     pub sent_at: u64,
     /// How often it was sent again.
