@@ -16,6 +16,7 @@ typedef struct { const void *at; Wide length; } Slice;
 #define SAME(fact) _Static_assert(fact, "laid out otherwise in the library")
 #define WAY static inline __attribute__((unused))
 SAME(sizeof(Slice) == 16 && offsetof(Slice, length) == 8);
+SAME(_Alignof(uint64_t) == 8);
 '''
 WIDENED = {'size_t': 'uint64_t'}
 

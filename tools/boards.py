@@ -32,7 +32,7 @@ TARGETS = {
 X86_64 = '--target=x86_64-unknown-linux-gnu --no-default-config -ffreestanding'.split()
 COMPILED = ('-std=c11 --no-default-config -ffreestanding -ffunction-sections -fdata-sections -Wall -Wextra -Werror -mllvm -trap-unreachable '
             '-mllvm -no-trap-after-noreturn -c').split()
-LINKED = '-flavor wasm --no-entry --strip-all --export-memory --export=__heap_base -z stack-size=16384'.split()
+LINKED = '-flavor wasm --no-entry --strip-all --export-memory --export=__heap_base --stack-first -z stack-size=65536'.split()
 # In WebAssembly a product of two 64-bit numbers with all its bits is a call, which only a compiler's own library has. These lines are it.
 MULTIPLIED = '''typedef unsigned long long Half;
 typedef struct { Half low, high; } Whole;

@@ -3,6 +3,7 @@ built is for x86-64; on another processor it runs under the emulator of the Ratt
 import contextlib
 import fcntl
 import hashlib
+import json
 import os
 import pathlib
 import platform
@@ -16,6 +17,7 @@ import time
 import board_header
 import boards
 import keeping
+import paging
 
 TOP = pathlib.Path(__file__).resolve().parent.parent
 TARGET = TOP / 'target'
@@ -245,6 +247,20 @@ def for_boards(name, *targets):
             raise Failed(f'{target} is none of {", ".join(boards.TARGETS)}')
     library(name, 'mant')
     make_boards('mant', targets or boards.TARGETS)
+
+
+def page(name):
+    """The planner's page, one HTML file with the library in it as WebAssembly."""
+    for_boards(name, 'wasm32')
+    library_there, made = TARGET / 'boards/wasm32', TARGET / 'page/bylgrusk.html'
+    try:
+        text = paging.page((library_there / 'libmant.wasm').read_bytes(), json.loads((library_there / 'libmant.json').read_text()))
+        made.parent.mkdir(parents=True, exist_ok=True)
+        new = made.with_name(f'{made.name}.{os.getpid()}')
+        new.write_text(text)
+        new.replace(made)
+    except (paging.Unmade, OSError) as error:
+        raise Failed(f'the page is not made: {error}') from error
 
 
 def shared(name, crate):

@@ -40,8 +40,12 @@ def content_of(name, file, what):
 
 def write_out(text):
     """Writes a text. Where its reader has gone, as `head` does, nothing is said."""
+    write_bytes(text.encode())
+
+
+def write_bytes(content):
     try:
-        sys.stdout.buffer.write(text.encode())
+        sys.stdout.buffer.write(content)
         sys.stdout.buffer.flush()
     except OSError as error:
         os.dup2(os.open(os.devnull, os.O_WRONLY), sys.stdout.fileno())
