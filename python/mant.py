@@ -11,9 +11,9 @@ in MANT_LIB. Bytes go in as anything like bytes, and come out as bytes.
 >>> answer.delivery, answer.repeat, answer.repeated.hex()
 (<Number.FOR_ANOTHER: 39>, <Number.DONE: 0>, '0300000b03e806400107d07001081212032413220276')
 
-It can read a PDU (`read`, `path`), make one (`originate`), be a node (`hear`, `walk`, `change_over`, `list_fault`, `list_holds`), plan
-(`reach`, `Network`, `most_transmissions`, `most_bytes`, `most_for_command`), exchange with a decoder (`elements`, `read_exchange`, `write_exchange`), seal a
-payload (`seal`) and open it once, against a `Record` (`mant.open`, not below, since `from mant import *` leaves Python's own `open` in its place; see `help(mant.open)`).
+It can read a PDU (`read`, `path`), make one (`originate`), be a node (`hear`, `walk`, `change_over`, `list_fault`, `list_holds`), plan (`reach`, `Network`,
+`most_transmissions`, `most_bytes`, `most_for_command`), exchange with a decoder (`elements`, `read_exchange`, `write_exchange`), seal a payload (`seal`) and
+open it once, against a `Record` (`mant.open`, not below, since `from mant import *` leaves Python's own `open` in its place; see `help(mant.open)`).
 
 >>> import mant
 >>> key, record = b'sixteen  letters', mant.Record()

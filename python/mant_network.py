@@ -30,7 +30,7 @@ class Reached:
 
 @dataclass(frozen=True)
 class Reach:
-    """Who is delivered a report: the nodes in the order in which they were named, and the least hop limit that reaches all, None where no chain leads to one."""
+    """Who is delivered a report: the nodes in the order in which they were named, and the least hop limit that reaches all, None if no chain leads to one."""
     nodes: Tuple[Reached, ...]
     least_hop_limit: Optional[int]
 
@@ -99,8 +99,8 @@ class Network:
 
     def bytes(self, hop_limit, size, enough=4615 * ENOUGH) -> Airtime:
         """How many bytes those transmissions have, where the fresh report has this size, header included."""
-        enough = whole('enough', enough, WORD_64)
-        return self._counted(hop_limit, 'mant_network_bytes', whole('size', size, WORD_16), enough, f'{enough:,} bytes or more go out, and the count stops there')
+        enough, size = whole('enough', enough, WORD_64), whole('size', size, WORD_16)
+        return self._counted(hop_limit, 'mant_network_bytes', size, enough, f'{enough:,} bytes or more go out, and the count stops there')
 
     def cut_off(self) -> Dict[int, Tuple[int, ...]]:
         """For each node but the originator whose failure cuts others off those others: they have a chain, and none without it."""

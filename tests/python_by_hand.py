@@ -156,7 +156,8 @@ def networks():
     same('at hop limits 6 and 7', (mant.reach(6, line).out_of_reach, mant.reach(7, line).out_of_reach, mant.reach(6, line).least_hop_limit), ((9,), (), 7))
     muted = mant.Network(line, not_repeating=[4])
     same('a station in the middle', (muted.reach(7).out_of_reach, muted.reach(7).nodes[3].path_count), ((5, 6, 7, 8, 9), 2))
-    same('how often it goes out', (muted.transmissions(7).total, mant.Network(line).transmissions(6).total, mant.Network(line).transmissions(7).total), (3, 7, 9))
+    whole = mant.Network(line)
+    same('how often it goes out', (muted.transmissions(7).total, whole.transmissions(6).total, whole.transmissions(7).total), (3, 7, 9))
     same('a node that only does not repeat', mant.Network({1: [2]}, not_repeating=[3]).addresses, (1, 2, 3))
     ways = mant.Network({1000: [1, 4], 1: [2], 2: [9], 4: [9]})
     same('two ways', (ways.transmissions(6), ways.bytes(6, 20)), (

@@ -36,12 +36,6 @@ def nodes_of(answer):
     return int(TITLE.match(answer).group(1)), nodes
 
 
-def lengths_of(answer):
-    """The hop limit, and for each node in order its length: 0 for the originator, None where there is no chain."""
-    hop_limit, nodes = nodes_of(answer)
-    return hop_limit, {node: told.length for node, told in nodes.items()}
-
-
 def lines_of(text):
     """The addresses of each line that has some, after that of the hop limit."""
     lines = [re.sub('[:,-]', ' ', line.split('#')[0]).split() for line in text.split('\n')]

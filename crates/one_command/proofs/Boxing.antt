@@ -1,4 +1,4 @@
--- What a box sends is what its node and its table together write; and it isAcknowledging where the table says that it did. Assumes nothing.
+-- What a box sends is what its node and its table together write; and it acknowledges where the table says that it did. Assumes nothing.
 use mathlib.Core.Path.{_≡_, refl, sym, ap, subst, _∙_}
 use mathlib.Core.Bool.{Bool, true, false, cond, _&&_}
 use mathlib.Core.Option.{Option, none, some}

@@ -33,15 +33,19 @@ repeatersOf boxes = map (λ box. box .repeater) boxes
 abbrev pub deliveryAt : Box → List ℕ → ℕ
 deliveryAt box received = deliveryNumber (box .repeater .node) (box .repeater .room) received
 
--- whether it isAcknowledging that: it is a PDU to answer, and nothing is refused
+-- whether it acknowledges that: it is a PDU to answer, and nothing is refused
 unfoldable pub isAcknowledging : Box → List ℕ → Bool
 isAcknowledging box received =
     isAnswered (address (box .repeater)) (deliveryAt box received) received
     && eqb (acknowledgeNumber tableSize (address (box .repeater)) (deliveryAt box received) (box .sending) (box .repeater .room) received) 0
 
--- what it isAcknowledging, a fresh message; and what it sends on hearing a PDU: that, or what it repeats
+-- its acknowledgement of a message, a fresh message itself, the same for every copy
+abbrev pub replyTo : Box → List ℕ → List ℕ
+replyTo box message = acknowledgement (box .sending) (namesOf message)
+
+-- what it sends on hearing a PDU: the acknowledgement, or what it repeats
 unfoldable pub acknowledges : Box → List ℕ → Option (List ℕ)
-acknowledges box received = cond (isAcknowledging box received) (some (acknowledgement (box .sending) (namesOf received))) none
+acknowledges box received = cond (isAcknowledging box received) (some (replyTo box received)) none
 
 unfoldable pub responds : Box → List ℕ → Option (List ℕ)
 responds box received = elim (acknowledges box received) [ none ↦ sends (box .repeater) received | some reply ↦ some reply ]
@@ -66,10 +70,6 @@ pub record Command (boxes : List Box) (there : Box) (command : List ℕ) : Type 
   pub for-it : headerOf command .destination ≡ Address (address (there .repeater))
   pub reply-path : there .sending .«with_path» ≡ true
 
--- a box's acknowledgement of a message, the same for every copy
-abbrev pub replyTo : Box → List ℕ → List ℕ
-replyTo there message = acknowledgement (there .sending) (namesOf message)
-
 -- whether a message is one that a box acknowledges: of protocol 1, for its address, with ACK clear
 abbrev pub asks : List ℕ → Box → Bool
 asks message box =
@@ -85,7 +85,7 @@ pub record Carried (boxes : List Box) (message : List ℕ) : Type 0 where
   pub begins : Begins message
   pub replies-path : (box : Box) → List·Memᴰ box boxes → asks message box ≡ true → box .sending .«with_path» ≡ true
 
--- How often a box with fixed settings has sent a command that it retains: once, and then again as the isAcknowledging of its table say, from a free table on.
+-- How often a box with fixed settings has sent a command that it retains: once, and then again as the answers of its table say, from a free table on.
 pub record Retried (s : RetrySettings) (command : List ℕ) (sendings : ℕ) : Type 0 where
   pub table : List Retained
   pub last : ℕ

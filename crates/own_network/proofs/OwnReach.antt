@@ -1,13 +1,23 @@
 -- Whom a message reaches, from its parts.
-use mathlib.Core.Bool.{Bool, true}
+use mathlib.Core.Bool.{Bool, true, false, not}
 use mathlib.Core.List.{List, List·Memᴰ, map, Memᴰ·cast, Memᴰ·map, Memᴰ·of-map}
 use mathlib.Core.Logic.{_⊎_, inl, inr, ⊎-elim}
-use mathlib.Core.Path.{_≡_, sym}
+use mathlib.Core.Path.{_≡_, refl, sym, ap, _∙_}
 use Prim.Native.Nat.{ℕ}
+use borrow.Author.Tests.{eq-eqb, eqb-true}
+use lib.Dec.{eqb}
+use Rattle.pdu.specs.declared.Destination.{Destination}
+use Rattle.pdu.specs.declared.Destination.the-variants.{Address}
 use Rattle.pdu.specs.declared.Header.{Header}
 use Rattle.chains.proofs.Failing.{chain-along, passing-chain, cut-off, not-reached}
-use Rattle.flood.specs.Air.{Repeater, address, canRepeat, repeaters}
+use Rattle.origin.specs.declared.FreshSettings.{FreshSettings}
+use Rattle.origin.specs.Origination.{freshHeader, fresh}
+use Rattle.decision.specs.Decision.{isForAnother}
+use Rattle.flood.specs.Air.{Repeater, address, canRepeat, repeaters, Nodes, Originated}
+use Rattle.flood.specs.Flood.{Reception}
 use Rattle.flood.proofs.Repeaters.{can-is, is-can, repeaters-are, are-repeaters}
+use Rattle.coverage.specs.Hearing.{TakenByAll}
+use Rattle.coverage.specs.Delivery.{Roomy, Delivered}
 use Rattle.coverage.specs.Reach.{relayed}
 use Rattle.coverage.proofs.Covered.{reach-through}
 use Rattle.coverage.proofs.Left.{is-left, left-at, all-left}
@@ -42,6 +52,27 @@ module _ (hears : ℕ → ℕ → Bool) (header : Header) (nodes : List Repeater
             from,
       )
 
+-- a destination that is the own address is not another's, and one that is not another's is the own
+own-is-no-other : (own : ℕ) (to : Destination) → to ≡ Address own → isForAnother own to ≡ false
+own-is-no-other own to is = rw (is, eq-eqb own own refl)
+
+not-another : (own to : ℕ) (place : Destination) → place ≡ Address to → isForAnother own place ≡ false → own ≡ to
+not-another own to place is e = sym (eqb-true to own (go (eqb to own) (sym (ap (isForAnother own) is) ∙ e)))
+  where
+    go : (t : Bool) → not t ≡ false → t ≡ true
+    go true e = refl
+    go false e = sym e
+
+for-no-other : (hears : ℕ → ℕ → Bool) (nodes : List Repeater) → Nodes nodes
+    → (settings : FreshSettings) (payload : List ℕ) (room : ℕ) → Originated settings payload room → Roomy nodes settings payload
+    → (receptions : List Reception) → TakenByAll hears nodes (fresh settings payload) receptions
+    → (to : ℕ) → settings .destination ≡ Address to
+    → (n : Repeater) (what : List ℕ) (count : ℕ) → Delivered nodes (fresh settings payload) receptions n what count → address n ≡ to
+unfolding freshHeader
+for-no-other hears nodes all settings payload room message each receptions taken to is n what count d =
+    let lets = reach-through hears nodes all settings payload room message each receptions taken .only-let-in n what count d .2 in
+    not-another (address n) to (settings .destination) is (lets .not-for-another)
+
 pub own-reach : OwnReach
 own-reach =
     record {
@@ -49,6 +80,8 @@ own-reach =
       relayed-if = relayed-if;
       relayed-only = relayed-only;
       let-in-asked = λ header n clean pass for-it. record { no-fault = clean; lets-pass = pass; not-for-another = for-it };
+      for-its-own = λ n. own-is-no-other (address n);
+      for-no-other = for-no-other;
       told = told;
       left = λ nodes failed place n n-at other. is-left failed place nodes n-at other;
       left-only = λ nodes failed n m. left-at failed nodes m;

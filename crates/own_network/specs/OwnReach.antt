@@ -8,6 +8,8 @@ use mathlib.Core.Path.{_≡_}
 use Prim.Native.Nat.{ℕ, _+_, _≤_, _<_}
 use lib.ListN.{length, getElem?, replicate}
 use Rattle.octets.specs.Octets.{at}
+use Rattle.pdu.specs.declared.Destination.{Destination}
+use Rattle.pdu.specs.declared.Destination.the-variants.{Address}
 use Rattle.pdu.specs.declared.Header.{Header}
 use Rattle.chains.specs.Chains.{ends, Along, Chain}
 use Rattle.chains.specs.Lengths.{placesOfNodes, noChain, noNode, relays, LengthsFound}
@@ -43,6 +45,13 @@ pub record OwnReach : Type 0 where
   -- no more than this is asked of a node that lets it in
   pub let-in-asked : (header : Header) (n : Repeater) → nodeFault (n .node) ≡ 0 → passFault (n .node) header ≡ 0
       → isForAnother (address n) (header .destination) ≡ false → LetsIn header n
+  -- a message with a destination is for the node at that address, and is delivered to no other
+  pub for-its-own : (n : Repeater) (to : Destination) → to ≡ Address (address n) → isForAnother (address n) to ≡ false
+  pub for-no-other : (hears : ℕ → ℕ → Bool) (nodes : List Repeater) → Nodes nodes
+      → (settings : FreshSettings) (payload : List ℕ) (room : ℕ) → Originated settings payload room → Roomy nodes settings payload
+      → (receptions : List Reception) → TakenByAll hears nodes (fresh settings payload) receptions
+      → (to : ℕ) → settings .destination ≡ Address to
+      → (n : Repeater) (what : List ℕ) (count : ℕ) → Delivered nodes (fresh settings payload) receptions n what count → address n ≡ to
   -- what `find_lengths` of crate `chains` leaves says who of the nodes that are left is delivered it, and with which path count, at any hop limit from 0 to
   -- 7. The node at `failed` is not there. The marks say who can repeat the message
   pub told : (hears : ℕ → ℕ → Bool) (nodes : List Repeater) → Nodes nodes

@@ -80,6 +80,33 @@ fn bounds_and_limits() {
 }
 
 #[test]
+fn networks() {
+    assert_eq!(Network::new(&[], &[], 0), None);
+    assert_eq!(Network::new(&[], &[0; 3], 3), None);
+    assert_eq!(Network::new(&[], &[0; 256], 0), None);
+    let line: Vec<[u8; 2]> = (0..254).map(|node| [node, node + 1]).collect();
+    let network = Network::new(&line, &[0; 255], 0).unwrap();
+    let chains = network.chains(None);
+    assert_eq!((chains.length(254), chains.length(255)), (Some(254), None));
+    assert_eq!(chains.least_hop_limit(), Some(7));
+    let counts = [0, 1, 7, 8].map(|node| chains.path_count(node, 6));
+    assert_eq!(counts, [None, Some(0), Some(6), None]);
+    assert_eq!(chains.path_count(254, 7), Some(253));
+    let cut = network.chains(Some(5));
+    assert_eq!(
+        (cut.length(4), cut.length(5), cut.length(6)),
+        (Some(4), None, None)
+    );
+    assert_eq!(cut.least_hop_limit(), None);
+    let mut table = [7; Network::TABLE];
+    let times = network.transmissions(7, 256, &mut table).unwrap().unwrap();
+    assert_eq!((times.total, times.each()), (255, &[1; 255][..]));
+    assert_eq!(network.transmissions(7, 255, &mut table), Ok(None));
+    let refused = network.bytes(8, 20, 9, &mut table);
+    assert_eq!(refused, Err(Refusal::HopLimitAbove7));
+}
+
+#[test]
 fn refusals_print_number_and_meaning() {
     let refusal: Box<dyn std::error::Error> = Box::new(Refusal::TooShort);
     assert_eq!(
