@@ -6,7 +6,6 @@ the header's."""
 import contextlib
 import hashlib
 import json
-import os
 import pathlib
 import subprocess
 import tempfile
@@ -112,23 +111,25 @@ def described(header):
     return {'structs': structs, 'functions': functions}
 
 
-def state_of(module, header, archive):
-    """A sum over all that an archive is made of, and the archive."""
-    files = [module, header, *MADE_BY, archive]
-    return ' '.join(hashlib.sha256(file.read_bytes()).hexdigest() for file in files)
+def made_for(folder, target):
+    """The files that are made for a target."""
+    return [folder / target / f'libmant.{kind}' for kind in (('a', 'wasm', 'json') if target.startswith('wasm') else ('a',))]
+
+
+def state_of(module, header, made):
+    """A sum over all that a target's files are made of, and the files."""
+    return ' '.join(hashlib.sha256(file.read_bytes()).hexdigest() for file in [module, header, *MADE_BY, *made])
 
 
 def make(toolchain, module, header, folder, targets):
     """Makes the library for these targets, unless what is there was made of the same. Raises board_header.Fault where something is not known."""
     maker = None
     for target in targets:
-        archive = folder / target / 'libmant.a'
-        made_from = archive.with_suffix('.from')
+        made, made_from = made_for(folder, target), folder / target / 'libmant.from'
         with contextlib.suppress(OSError):
-            if made_from.read_text() == state_of(module, header, archive):
+            if made_from.read_text() == state_of(module, header, made):
                 continue
         maker = maker or Maker(toolchain, module, header, folder)
-        with contextlib.suppress(OSError):
-            os.unlink(made_from)
-        maker.archive(target, archive)
-        made_from.write_text(state_of(module, header, archive))
+        made_from.unlink(missing_ok=True)
+        maker.archive(target, made[0])
+        made_from.write_text(state_of(module, header, made))

@@ -61,7 +61,34 @@ const node = write('MantNode', { edition: 12, own: 2000, echo: 1, repeating: 1 }
 const answer = called('mant_hear', node, 0, 0, pdu, bytes.length, output, bytes.length + 2);
 assert.equal(answer.repeat, 0);
 assert.equal(answer.repeated_length, bytes.length + 2);
-assert.equal(called('mant_most_transmissions', 5n, 3n).value, 86n);
-assert.equal(called('mant_most_bytes', 21n, 7n, 20n).too_large, 1);
 assert.equal(called('mant_limits').pdu, 4615);
-console.log(`${Object.keys(functions).length} functions exported to JavaScript, no import`);
+
+// The bounds, against JavaScript's own numbers without a limit: products of 64 bits are made by a function that only libmant.wasm has. So there are also sizes
+// whose product with the nodes is just below 64 bits and just above.
+const most = 2n ** 64n - 1n, start = free, small = Array.from({ length: 41 }, (_, nodes) => BigInt(nodes));
+const large = [2n ** 31n + 1n, 2n ** 32n - 1n, 2n ** 32n, 2n ** 32n + 1n, 2n ** 33n + 5n, 2n ** 63n, most];
+let bounds = 0;
+
+function compare(nodes, hops, size) {
+    let times = 0n, bytes = 0n;
+    for (let hop = 0n, ways = 1n; hop <= (hops === 7n || hops > nodes ? nodes : hops); ways *= nodes - hop, hop++) {
+        times += ways;
+        bytes += ways * (size + 2n * hop);
+    }
+    for (const [name, bound, given] of [['mant_most_transmissions', times, [nodes, hops]], ['mant_most_bytes', bytes, [nodes, hops, size]]]) {
+        free = start;
+        const found = called(name, ...given);
+        assert.deepEqual([found.number, found.too_large, found.value], bound > most ? [0, 1, 0n] : [0, 0, bound], `${name} ${given}`);
+        bounds++;
+    }
+}
+
+for (const nodes of [...small, ...large]) {
+    const about = nodes === 0n ? 0n : most / nodes, near = [about - 3n, about - 2n, about - 1n, about, about + 1n];
+    for (let hops = 0n; hops <= (nodes > 40n ? 3n : 7n); hops++) {
+        for (const size of [0n, 1n, 20n, 4615n, ...large, ...near].filter((size) => size >= 0n && size <= most)) {
+            compare(nodes, hops, size);
+        }
+    }
+}
+console.log(`${Object.keys(functions).length} functions exported to JavaScript, no import, ${bounds} bounds`);
