@@ -6,6 +6,7 @@ import { transmissions } from './plan.js';
 import { change, state } from './state.js';
 import { counted, csvOf, grouped, listed, named, shortened } from './words.js';
 
+const COLUMNS = ['node', 'name', 'state', 'chain', 'path count', 'repeats', 'times sent', 'bytes sent', 'cuts off', 'puts out of reach'];
 export const QUICK = 100_000; // where counting stops while one types
 export const given = (net) => ({ pairs: net.pairBytes, marks: net.marks });
 export const repeatersOf = (net, ...but) => net.nodes.filter((node, i) => node.repeats && !but.includes(i)).length;
@@ -106,14 +107,16 @@ export function answersText() {
     `Transmissions in the worst network of ${counted(answers.others, 'other repeater')}: ${shortened(answers.worst).whole}`, ...byChain().map(node),
     ...linesOf('condition-words')].map((line) => `${line}\n`).join('');
 }
+// The columns are those of ./reach --csv, and the names.
 export function nodesCsv() {
-  const { net, answers } = state, { counts } = answers.sent;
+  const { net, answers, failures } = state, { counts } = answers.sent;
   const row = (i) => {
-    const node = net.nodes[i], length = answers.lengths[i], got = i === 0 ? 'originator' : isDelivered(net.hop, length) ? 'yes' : 'no';
-    const sent = counts ? [counts[i], answers.bytes.counts[i]] : ['', ''];
-    return [node.address, node.name, node.repeats ? 'yes' : 'no', length === NO_CHAIN ? '' : length, got, ...sent];
+    const node = net.nodes[i], length = answers.lengths[i], got = isDelivered(net.hop, length), failure = failures.find((one) => one.address === node.address);
+    const kind = i === 0 ? 'originator' : got ? 'delivered' : length === NO_CHAIN ? 'no chain' : 'out of reach';
+    return [node.address, node.name, kind, length === NO_CHAIN ? '' : length, got ? length - 1 : '', node.repeats ? 'yes' : 'no',
+      ...(counts ? [counts[i], answers.bytes.counts[i]] : ['', '']), failure?.cut.join(' ') ?? '', failure?.beyond.join(' ') ?? ''];
   };
-  return csvOf([['node', 'name', 'repeats', 'hearings', 'delivered', 'sendings', 'bytes'], ...byChain().map(row)]);
+  return csvOf([COLUMNS, ...byChain().map(row)]);
 }
 
 export function startAnswers() {

@@ -121,7 +121,7 @@ function linksDrawn() {
 
 export function draw() {
   const { net, selected, marked, failures } = state, { at, rings } = places(), nodes = nodesDrawn(), failure = failures.find((one) => one.address === marked);
-  glide({ nodes, links: linksDrawn(), rings, lastRing: net.hop < 7 ? net.hop + 1 : 0, selected, marked, cut: failure ? new Set(failure.lost) : null }, at);
+  glide({ nodes, links: linksDrawn(), rings, lastRing: net.hop < 7 ? net.hop + 1 : 0, selected, marked, cut: failure ? new Set([...failure.cut, ...failure.beyond]) : null }, at);
   const isLost = nodes.some((node) => node.kind === 'missed' || node.kind === 'unlinked'), isBase = nodes.some((node) => !node.repeats);
   const legend = [
     ['o', 'originator'], ['d', 'hears it, after n hearings'], isLost && ['m', 'does not'], isBase && ['b', 'does not repeat'], ['s', 'shortest chain'],

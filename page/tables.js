@@ -7,7 +7,7 @@ import { change, state } from './state.js';
 import { counted, csvOf, grouped, listed } from './words.js';
 import { Work } from './work.js';
 
-const SHOWN = 60, MANY = 60; // groups of failures that are listed at once; nodes whose rows are made later
+const SHOWN = 60, NAMED = 10, MANY = 60; // groups of failures that are listed at once, nodes named in one; nodes whose rows are made later
 const COLUMNS = [
   ['address', 'Originator', 1, null], ['name', 'Name', 1, null], ['hear', 'Hear it', -1, 'n'], ['least', 'Least hop limit', -1, 'n'],
   ['sent', 'Sent here', -1, 'n'],
@@ -83,7 +83,7 @@ function showReport(found) {
 function groupsOf(failures) {
   const groups = new Map();
   for (const failure of failures) {
-    const key = `${failure.lost} ${failure.later}`;
+    const key = `${failure.cut} ${failure.beyond}`;
     groups.set(key, [...(groups.get(key) ?? []), failure]);
   }
   return [...groups.values()];
@@ -91,22 +91,21 @@ function groupsOf(failures) {
 
 function showFailures(failures) {
   const { net } = state, addresses = (places) => places.map((i) => net.nodes[i].address);
-  state.failures = failures.map(({ failed, lost, later }) => {
+  state.failures = failures.map(({ failed, cut, beyond }) => {
     const { address, name } = net.nodes[failed];
-    return { address, name, lost: addresses(lost), later: addresses(later) };
+    return { address, name, cut: addresses(cut), beyond: addresses(beyond) };
   });
   const groups = groupsOf(state.failures), rows = groups.slice(0, SHOWN).map(failureRow);
   if (groups.length > SHOWN) rows.push(html('p', { class: 'dim' }, `and ${counted(groups.length - SHOWN, 'more line')}`));
-  $('failures').replaceChildren(...(rows.length ? rows : [html('p', { class: 'dim' }, 'No single node’s failure cuts off another at this hop limit.')]));
+  $('failures').replaceChildren(...(rows.length ? rows : [html('p', { class: 'dim' }, 'No single node’s failure cuts off another, or puts it out of reach at this hop limit.')]));
 }
 
 function failureRow(group) {
-  const [{ lost, later }] = group, mark = (address) => () => state.marked !== address && ((state.marked = address), redraw());
+  const [{ cut, beyond }] = group, mark = (address) => () => state.marked !== address && ((state.marked = address), redraw());
   const who = ({ address, name }) => html('button', { class: 'who', type: 'button', title: name, onfocus: mark(address), onblur: mark(null) }, String(address));
-  const helped = later.length && `; a greater hop limit would help${later.length === lost.length ? '' : ` ${listed(later, 6)}`}`;
+  const said = [cut.length && `no chain leads to ${listed(cut, NAMED)}`, beyond.length && `out of reach at this hop limit: ${listed(beyond, NAMED)}`].filter(Boolean);
   const names = group.flatMap((one, i) => (i ? [' or ', who(one)] : [who(one)]));
-  return html('p', { onpointerenter: mark(group[0].address), onpointerleave: mark(null) }, 'Without ', ...names, `: ${listed(lost, 10)} not reached`,
-    helped ? html('span', { class: 'dim' }, helped) : '', '.');
+  return html('p', { onpointerenter: mark(group[0].address), onpointerleave: mark(null) }, 'Without ', ...names, `: ${said.join('; ')}.`);
 }
 
 // ---- every originator ----

@@ -10,8 +10,8 @@ from trying import TOP, copied, heeding, script
 
 import building
 
-PARTS = ('relay', *(f'tools/{name}.py' for name in ('building', 'board_header', 'board_module', 'board_shim', 'boards', 'command', 'digits', 'keeping')),
-         'docs/NUMBERS.md', 'examples')
+TOOLS = ('building', 'board_header', 'board_module', 'board_shim', 'boards', 'command', 'digits', 'keeping', 'paging')
+PARTS = ('relay', *(f'tools/{name}.py' for name in TOOLS), 'docs/NUMBERS.md', 'examples')
 # as the real one: what has a stamp is not built again
 BUILDS = 'mkdir -p target/bin target/stamp\n[ -e target/stamp/relay ] || { cp built target/bin/relay && touch target/stamp/relay; }\n'
 

@@ -29,7 +29,7 @@ WRONG = (('2\n12x: 4', 2, 'character 3, “x”'), ('8\n1: 2', 1, '0 to 7'), (''
 DROP = """const d = new DataTransfer(); d.items.add(new File([arguments[0]], 'n.txt'));
     dispatchEvent(new DragEvent('drop', { dataTransfer: d, cancelable: true }))"""
 HEADLINE = "return document.querySelector('#headline p').textContent === '{}'"
-TABLES = (('csv-nodes', 'nodes.csv', 'node,name,repeats,hearings,delivered,sendings,bytes', '#nodes-table tbody tr'),
+TABLES = (('csv-nodes', 'nodes.csv', 'node,name,state,chain,path count,repeats,times sent,bytes sent,cuts off,puts out of reach', '#nodes-table tbody tr'),
           ('csv-originators', 'originators.csv', 'originator,name,hear it,others', '#everyone tbody tr'))
 OPENED = ((b'\xef\xbb\xbf1\r\n7: 8\r\n8: 9\r\n', 'All 2 others hear a report of 7.'),
           ('3\n12: 13 # Übergang\n'.encode('utf-16'), 'All 1 others hear a report of 12.'), (b'0\r5: 6 # \xdcbergang\r6: 7', '1 of 2 hear a report of 5.'))

@@ -1,8 +1,8 @@
-"""Every answer of the page about generated networks, against another reading."""
+"""Every answer of the page about generated networks, against the plain model."""
 import re
 
 import facts
-import other_reading
+import plain_model
 
 RATE, SLOT = 4800, 0.5  # what stands in the page's two fields
 TOO_LARGE = 'more than 18,446,744,073,709,551,615, which is as far as is counted'
@@ -82,25 +82,25 @@ def everyone(tally, net, text, found):
     tally.same(f'{text}\nin order', sent, sorted(sent, reverse=True))
 
 
+FAILURE = re.compile(r'Without ([\d or]+): (?:no chain leads to ([^;]*?))?(?:; )?(?:out of reach at this hop limit: (.*?))?\.')
+
+
 def failures(tally, net, text, found):
-    """By each node that is named to fail, whom it cuts off; lists of more than ten are cut short on the page."""
-    named = {}
-    for line in found['failures']:
-        who = re.fullmatch(r'Without ([\d or]+): (.*?) not reached(; a greater hop limit would help.*)?\.', line)
-        for node in re.findall(r'\d+', who[1]) if who else ():
-            named[int(node)] = who[2]
+    """By each node that is named to fail, whom that cuts off and whom it puts out of reach; lists of more than ten are cut short on the page."""
+    named = {int(node): who.groups()[1:] for who in map(FAILURE.fullmatch, found['failures']) if who for node in re.findall(r'\d+', who[1])}
     wanted = net.failures(net.nodes[0], net.hop)
     tally.same(f'{text}\nfailures', sorted(named), sorted(wanted))
-    for node, lost in wanted.items():
-        shown = [int(word) for word in re.findall(r'\d+', named.get(node, '').split(' and ')[0])]
-        tally.same(f'{text}\nwithout {node}', (set(shown) <= lost, len(shown)), (True, min(10, len(lost))))
+    for node, both in wanted.items():
+        for lost, words in zip(both, named.get(node, ('', ''))):
+            shown = [int(word) for word in re.findall(r'\d+', (words or '').split(' and ')[0])]
+            tally.same(f'{text}\nwithout {node}', (set(shown) <= lost, len(shown)), (True, min(10, len(lost))))
 
 
 def generated(tally, b, seed, count):
     """As many networks: most small and dense, some larger and sparse."""
-    rng = other_reading.seeded(seed)
+    rng = plain_model.seeded(seed)
     for place in range(count):
-        net = other_reading.network(rng, 9 if place % 5 else 40)
+        net = plain_model.network(rng, 9 if place % 5 else 40)
         while sum(len(net.sendings(node, net.hop)) for node in net.nodes) > 60_000:
-            net = other_reading.network(rng, 9 if place % 5 else 40)
+            net = plain_model.network(rng, 9 if place % 5 else 40)
         asked(tally, b, net, net.text(rng))

@@ -1,15 +1,15 @@
-"""What the page says of bytes: generated PDUs and batches against another reading, and whole texts against those stored for ./show."""
+"""What the page says of bytes: generated PDUs and batches against the plain model, and whole texts against those stored for ./show."""
 import re
 
 import facts
-import other_reading
+import plain_model
 from trying import TOP
 
 BATCH = 16384
 
 
 def plain(name, words):
-    """A field without what is explained behind it, as the other reading has it."""
+    """A field without what is explained behind it, as the plain model has it."""
     if name in ('time stamp request', 'path bit', 'destination bit', 'encrypted', 'ACK', 'added header'):
         return '1' if words.startswith('yes') else '0'
     if name == 'payload':
@@ -22,21 +22,21 @@ def plain(name, words):
 
 
 def told(found):
-    """What is shown of one PDU, as the other reading has it."""
+    """What is shown of one PDU, as the plain model has it."""
     if found['refused']:
         return int(re.search(r'refused, (\d+)', found['refused'], re.I)[1])
     return {name: plain(name, words) for name, words in found['fields'][0] if name != 'payload as text'}
 
 
 def wanted_of(content, edition):
-    known = other_reading.pdu(content, edition)
+    known = plain_model.pdu(content, edition)
     return known if isinstance(known, int) else {name: value for name, value in known.items() if name != 'size'}
 
 
 def generated(tally, b, seed, count):
-    rng, kinds = other_reading.seeded(seed), set()
+    rng, kinds = plain_model.seeded(seed), set()
     for edition in (12, 11):
-        contents = [other_reading.random_pdu(rng) or b'\0' for _ in range(count // 2)]
+        contents = [plain_model.random_pdu(rng) or b'\0' for _ in range(count // 2)]
         shown = b.run(facts.PDU, 'pdu', edition, [content.hex() for content in contents])
         for content, found in zip(contents, shown):
             wanted = wanted_of(content, edition)
@@ -47,12 +47,12 @@ def generated(tally, b, seed, count):
 
 def batches(tally, b, seed, count):
     """PDUs back to back: how many are shown, and what stops them."""
-    rng = other_reading.seeded(seed)
-    contents = [b''.join(other_reading.random_pdu(rng) for _ in range(rng.randint(1, 6))) or b'\0' for _ in range(count)]
+    rng = plain_model.seeded(seed)
+    contents = [b''.join(plain_model.random_pdu(rng) for _ in range(rng.randint(1, 6))) or b'\0' for _ in range(count)]
     for content, found in zip(contents, b.run(facts.PDU, 'batch', 12, [content.hex() for content in contents])):
         place, sources, refused = 0, [], None
         while place < len(content) and refused is None:
-            one = other_reading.pdu(content[place:], 12)
+            one = plain_model.pdu(content[place:], 12)
             if isinstance(one, int):
                 refused = one
             else:
