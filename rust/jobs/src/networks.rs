@@ -13,7 +13,8 @@ pub fn compare_networks(asked: &Asked) -> Result<(), String> {
     let counted = compare(asked, "reach", case, is_whole)?;
     let Counted { done, such, differ } = counted;
     println!(
-        "generated networks: {done} asked and compared, {such} of them reached whole, {differ} differ"
+        "generated networks, seed {}: {done} asked and compared, {such} of them reached whole, {differ} differ",
+        asked.seed
     );
     match differ {
         0 => Ok(()),
