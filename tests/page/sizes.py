@@ -30,11 +30,11 @@ def worked(b):
 
 
 def timed(tally, b):
-    """The best of three; each network is new to the page each time."""
+    """The better of two; each network is new to the page each time."""
     b.cdp('Performance.enable', timeDomain='threadTicks')
     for name, text in (('a grid, hop limit 2', grid(2)), ('a grid, hop limit 6', grid(6)), ('a chain, hop limit 7', chain(7)), ('16,000 hearings', crowd(6))):
         spent, seen = [], []
-        for _ in range(3):
+        for _ in range(2):
             b.wait(facts.NETWORK, '1\n1: 2')
             before = worked(b)
             seen.append(b.run(TIMED, text))
