@@ -4,7 +4,7 @@
 
 static const uint8_t example[20] = {0x03, 0x00, 0x10, 0x0B, 0x03, 0xE8, 0x06, 0x40, 0x00, 0x70, 0x01, 0x08, 0x12, 0x12, 0x03, 0x24, 0x13, 0x22, 0x02, 0x76};
 static uint8_t output[64], sealed[sizeof example + MANT_SEAL_LENGTH];
-static uint32_t record[MANT_SOURCE_WORDS];
+static MantSources record;
 static const MantNode node = MANT_NODE(2000);
 static const MantKey key = {{1, 2, 3}};
 
@@ -15,8 +15,8 @@ static inline uint8_t one_mant_hear(void)
 
 static inline uint8_t one_mant_open(void)
 {
-    record[0] = 0;
-    return mant_open(key, record, MANT_SOURCE_WORDS, sealed, sizeof sealed, output, sizeof output).number;
+    record.words[0] = 0;
+    return mant_open(key, &record, sealed, sizeof sealed, output, sizeof output).number;
 }
 
 int main(void)
