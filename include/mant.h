@@ -512,8 +512,8 @@ MantStep mant_step(MantNode node, const uint16_t *lists, size_t lists_length, co
  *     stations are held and listed as they stand there. By address they are looked for as if the addresses rose, so where they do not, one that stands there
  *     may not be found.
  * Numbers: 55, 56.
- * Stack: mant_stations_held 8, mant_station_at 8, mant_station_of 56, mant_remove_station 56, mant_count_heard 104,
- *     mant_count_answer 104, mant_hear_and_count 368.
+ * Stack: mant_stations_held 8, mant_station_at 8, mant_station_of 40, mant_remove_station 40, mant_count_heard 72,
+ *     mant_count_answer 72, mant_hear_and_count 352.
  */
 
 #define MANT_STATION_LIMIT 128
@@ -765,7 +765,7 @@ MantWritten mant_write_exchange(const uint8_t *bytes, size_t bytes_length, uint8
  *     first is always the one at the lowest place. A call changes one record at most; with a refusal it changes none, nor the last time. With another number
  *     of records than MANT_RECORDS no record is read: sizeof table in place of MANT_RECORDS is refused with 74.
  * Numbers: 10, 11, 70 to 75, 77.
- * Stack: mant_retain 696, mant_retry 712, mant_hear_reliably 680, mant_acknowledge 632.
+ * Stack: mant_retain 656, mant_retry 672, mant_hear_reliably 680, mant_acknowledge 632.
  */
 
 /* How many records a table of retained PDUs has, and how many bytes the longest PDU that it retains. */
@@ -940,7 +940,7 @@ static inline MantOutcome mant_reliable_acknowledge(MantReliable *reliable, uint
  *     entry of a source counts, and an address above 65,535 is no source's. If a source gets another key, remove it from the record (mant_remove_source):
  *     under a new key its numbers may begin at 0 again. To seal, none, but the caller counts the message numbers.
  * Numbers: in sealing 1 to 6, 88, 85, 86 and 87; in opening 1 to 6, 80 to 84 and 87; mant_message_number 1 to 6, 80 and 81.
- * Stack: mant_seal 1,480, mant_open 1,504, mant_message_number 184, mant_remove_source 8.
+ * Stack: mant_seal 1,480, mant_open 1,496, mant_message_number 184, mant_remove_source 8.
  */
 
 #define MANT_SOURCE_LIMIT 64
