@@ -1034,9 +1034,9 @@ bool mant_remove_source(MantSources *record, uint16_t source);
 #define MANT_NO_NODE 255
 #define MANT_NO_HOP_LIMIT 8
 
-/* How often a report goes out on a network, or how many bytes that is. Served: there are at most MANT_NODE_LIMIT nodes, the originator is one of them, and
-   counts and table have the room. Enough: the value is not below what the caller said is enough. Number 10: the hop limit is above 7, and then served
-   is false. The value is 0 unless the number is 0, the network served and the value not enough. */
+/* How often a report goes out on a network, or how many bytes that is. Served: there are at most MANT_NODE_LIMIT nodes, the originator is one of them, counts
+   and table have the room, and the size is at most 65,535. Enough: the value is not below what the caller said is enough. Number 10: the hop limit is above
+   7, and then served is false. The value is 0 unless the number is 0, the network served and the value not enough. */
 typedef struct MantAirtime {
     uint8_t number;
     bool served;
@@ -1084,9 +1084,9 @@ uint8_t mant_least_hop_limit(const uint8_t *lengths, size_t lengths_length);
 MantAirtime mant_network_transmissions(const uint8_t *pairs, size_t pairs_length, size_t from, uint64_t hop_limit, uint64_t enough, uint8_t *marks,
                                        size_t marks_length, uint64_t *counts, size_t counts_length, uint8_t *table, size_t table_length);
 
-/* How many bytes these transmissions have together, and each node's own in `counts`, if the fresh report has this size: each address of a path adds 2. The
-   size has 16 bits, so C cuts a larger number. */
-MantAirtime mant_network_bytes(const uint8_t *pairs, size_t pairs_length, size_t from, uint64_t hop_limit, uint16_t size, uint64_t enough, uint8_t *marks,
+/* How many bytes these transmissions have together, and each node's own in `counts`, if the fresh report has this size: each address of a path adds 2. A
+   size above 65,535 is not served. */
+MantAirtime mant_network_bytes(const uint8_t *pairs, size_t pairs_length, size_t from, uint64_t hop_limit, uint64_t size, uint64_t enough, uint8_t *marks,
                                size_t marks_length, uint64_t *counts, size_t counts_length, uint8_t *table, size_t table_length);
 
 /* The most transmissions that one fresh PDU with a path and this hop limit can cause among so many repeating nodes, its first sending counted. Echo is

@@ -87,7 +87,7 @@ FUNCTIONS = {
     'mant_chain_lengths': (c_bool, *SLICE, *SLICE, c_size_t, c_size_t, *SLICE),
     'mant_least_hop_limit': (c_uint8, *SLICE),
     'mant_network_transmissions': (Airtime, *SLICE, c_size_t, c_uint64, c_uint64, *SLICE * 3),
-    'mant_network_bytes': (Airtime, *SLICE, c_size_t, c_uint64, c_uint16, c_uint64, *SLICE * 3),
+    'mant_network_bytes': (Airtime, *SLICE, c_size_t, c_uint64, c_uint64, c_uint64, *SLICE * 3),
     'mant_most_transmissions': (Bound, c_uint64, c_uint64),
     'mant_most_bytes': (Bound, c_uint64, c_uint64, c_uint64),
     'mant_most_for_command': (Bound, c_uint64, c_uint64, c_uint64, c_uint64, c_uint64),

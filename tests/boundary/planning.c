@@ -64,6 +64,26 @@ static void counts_on_a_network(void)
     CHECK(memcmp(counts, untouched, sizeof counts) == 0 && memcmp(marks, as_before, 7) == 0);
 }
 
+/* Sizes that do not fit 16 bits, also where the low 16 bits are a size that is served: not served, and nothing is written. The largest that is served. */
+static void sizes_on_a_network(void)
+{
+    const uint64_t sizes[] = {65536, 65536 + 20, 4294967296 + 7, UINT64_MAX}, untouched[7] = {5, 5, 5, 5, 5, 5, 5};
+    const uint8_t as_before[7] = {0, 0, 0, 0, 0, 1, 0};
+    uint8_t marks[7] = {0, 0, 0, 0, 0, 1, 0};
+    uint64_t counts[7];
+    memcpy(counts, untouched, sizeof counts);
+    memset(table, 7, sizeof table);
+    for (size_t i = 0; i < sizeof sizes / sizeof *sizes; i++) {
+        MantAirtime air = mant_network_bytes(pairs, sizeof pairs, 0, 7, sizes[i], 1000, marks, 7, counts, 7, table, sizeof table);
+        CHECK(air.number == 0 && !air.served && !air.enough && air.value == 0);
+        air = mant_network_bytes(pairs, sizeof pairs, 0, 8, sizes[i], 1000, marks, 7, counts, 7, table, sizeof table);
+        CHECK(air.number == MANT_HOP_LIMIT_ABOVE_7 && !air.served && !air.enough && air.value == 0);
+        CHECK(memcmp(counts, untouched, sizeof counts) == 0 && memcmp(marks, as_before, 7) == 0 && table[0] == 7 && table[sizeof table - 1] == 7);
+    }
+    MantAirtime air = mant_network_bytes(pairs, sizeof pairs, 0, 7, 65535, 1000000, marks, 7, counts, 7, table, sizeof table);
+    CHECK(air.served && !air.enough && air.value == 6 * 65535 + 18 && counts[0] == 65535 && table[0] == 0);
+}
+
 /* Where every node hears every other, as often as at most among as many repeaters; and a line of 255 at hop limit 7 once from each. */
 static void worst_and_longest(void)
 {
@@ -99,5 +119,6 @@ void planning(void)
     bounds_and_limits();
     chains();
     counts_on_a_network();
+    sizes_on_a_network();
     worst_and_longest();
 }

@@ -1,10 +1,10 @@
 -- The answers of the layer as the values that C sees where the layer has an enum, and what C gives for one. `Written` and a walk's `Cursor` go
 -- through as they are. What the values mean is defined below this crate.
-use Prim.Native.Nat.{ℕ}
+use Prim.Native.Nat.{ℕ, _≤_, _<_}
 use mathlib.Core.Bool.{Bool, true, false, cond}
 use mathlib.Core.List.{List, []}
 use mathlib.Core.Path.{_≡_}
-use lib.Dec.{eqb}
+use lib.Dec.{eqb, ltb}
 use lib.ListN.{length}
 use Rattle.pdu.specs.declared.Destination.{Destination}
 use Rattle.pdu.specs.declared.Destination.the-variants.{Everyone, Address}
@@ -266,6 +266,13 @@ abbrev pub CountsInC : List ℕ → List ℕ → ℕ → ℕ → ℕ → ℕ →
 CountsInC pairs marks from h price growth enough counts table told marksNow countsNow tableNow =
     let answer = waysAnswer pairs marks from h price growth enough (length counts) (length table) in
     (told ≡ airtimeInC answer) × Counts pairs marks from h price growth enough counts table answer marksNow countsNow tableNow
+
+-- the same in bytes, for a fresh message of this size; a size above 65,535 is not served, and nothing is written
+abbrev pub BytesInC : List ℕ → List ℕ → ℕ → ℕ → ℕ → ℕ → List ℕ → List ℕ → MantAirtime → List ℕ → List ℕ → List ℕ → Type 0
+BytesInC pairs marks from h size enough counts table told marksNow countsNow tableNow =
+    (size ≤ 65535 → CountsInC pairs marks from h size 2 enough counts table told marksNow countsNow tableNow)
+    × (65535 < size → (told ≡ airtimeInC (cond (ltb 7 h) airtime.HopRefused airtime.NotServed))
+      × (marksNow ≡ marks) × (countsNow ≡ counts) × (tableNow ≡ table))
 
 -- a least hop limit (document 02, W-208); 8 where none reaches all
 abbrev pub leastInC : Least → ℕ

@@ -1,10 +1,10 @@
 -- What C sees of a node's answer, from what the node answers with the settings that C gave; and of a network's count.
-use Prim.Native.Nat.{ℕ, _+_, _≤_, _<_}
+use Prim.Native.Nat.{ℕ, _+_, _%_, _≤_, _<_}
 use native.Mathlib.Omega.{arith}
-use mathlib.Core.Bool.{false}
+use mathlib.Core.Bool.{false, cond}
 use mathlib.Core.List.{List}
-use mathlib.Core.Path.{_≡_, refl, ap, ap₂, _∙_}
-use lib.Dec.{eqb}
+use mathlib.Core.Path.{_≡_, refl, ap, ap₂, _∙_, subst}
+use lib.Dec.{eqb, ltb}
 use lib.ListN.{length, drop}
 use Rattle.pdu.specs.declared.Sender.{Sender}
 use Rattle.pdu.specs.declared.Sender.the-variants.{Unknown, Known}
@@ -25,12 +25,13 @@ use Rattle.batch.specs.Walk.{isTooLong, Steps}
 use Rattle.batch.proofs.Stepping.{within-batch, answered}
 use Rattle.listening.specs.Listening.{answerNumber, memoryAfterAnswer}
 use Rattle.ways.specs.declared.Airtime.{Airtime}
+use Rattle.ways.specs.declared.Airtime.the-variants.{HopRefused, NotServed}
 use Rattle.ways.specs.Answer.{Counts}
 use Rattle.boundary.specs.declared.planning.MantAirtime.{MantAirtime}
 use Rattle.boundary.specs.declared.a_node.MantNode.{MantNode}
 use Rattle.boundary.specs.declared.a_node.MantAnswer.{MantAnswer}
 use Rattle.boundary.specs.declared.a_walk.MantStep.{MantStep}
-use Rattle.boundary.specs.Boundary.{hasSender, senderAddress, senderFromC, nodeFromC, answerInC, answerFromC, HearsInC, ListensInC, stepInC, StepsInC, airtimeInC, CountsInC}
+use Rattle.boundary.specs.Boundary.{hasSender, senderAddress, senderFromC, nodeFromC, answerInC, answerFromC, HearsInC, ListensInC, stepInC, StepsInC, airtimeInC, CountsInC, BytesInC}
 
 pub heard-in-c : (given : MantNode) (settings : Settings) (lists : Lists) (received output left : List ℕ) (answer : Answer) (told : MantAnswer)
     → settings ≡ nodeFromC given → Hears (nodeOf settings lists) received output answer left → told ≡ answerInC answer
@@ -126,3 +127,19 @@ network-in-c pairs marks from h price growth enough counts table answer told mar
   e ∙ ap airtimeInC (counted .is),
   record { is = refl; marks-kept = counted .marks-kept; counts-are = counted .counts-are; table-is = counted .table-is },
 )
+
+-- how many bytes that is, for a size that C gave in 64 bits
+module _ (pairs marks : List ℕ) (from h size enough : ℕ) (counts table : List ℕ) (answer : Airtime) (told : MantAirtime) (is : told ≡ airtimeInC answer) where
+  pub bytes-in-c : (narrow : ℕ) (marksNow countsNow tableNow : List ℕ) → size ≤ 65535 → narrow ≡ size % 65536
+      → Counts pairs marks from h narrow 2 enough counts table answer marksNow countsNow tableNow
+      → BytesInC pairs marks from h size enough counts table told marksNow countsNow tableNow
+  bytes-in-c narrow marksNow countsNow tableNow small narrowed counted =
+      let same : narrow ≡ size = omega (arith, narrowed, small) in (
+        λ _. network-in-c pairs marks from h size 2 enough counts table answer told marksNow countsNow tableNow
+            (subst (λ (n : ℕ). Counts pairs marks from h n 2 enough counts table answer marksNow countsNow tableNow) same counted) is,
+        λ large. absurd (omega (arith, small, large)),
+      )
+
+  pub oversized-in-c : 65535 < size → answer ≡ cond (ltb 7 h) HopRefused NotServed
+      → BytesInC pairs marks from h size enough counts table told marks counts table
+  oversized-in-c large refused = (λ small. absurd (omega (arith, small, large)), λ _. (is ∙ ap airtimeInC refused, refl, refl, refl))

@@ -3,14 +3,18 @@
 use boundary::MantAirtime;
 use boundary::MantBound;
 use boundary::MantLimits;
+use ways::Airtime;
+ghost use mathlib.Core.Bool.{cond};
 ghost use mathlib.Core.Path.{_≡_};
-ghost use Prim.Native.Nat.{max};
+ghost use lib.Dec.{ltb};
+ghost use Prim.Native.Nat.{max, _%_};
 ghost use Rattle.chains.specs.Lengths.{LengthsFound};
 ghost use Rattle.chains.specs.Reach.{leastHop};
 ghost use Rattle.bound.specs.Bound.{bound, bytesBound};
 ghost use Rattle.bound.specs.Answer.{boundAnswer};
 ghost use Rattle.bound.specs.Command.{commandBound};
-ghost use Rattle.boundary.specs.Boundary.{boundInC, CountsInC, leastInC, limitsInC};
+ghost use Rattle.ways.specs.declared.Airtime.the-variants.{HopRefused, NotServed};
+ghost use Rattle.boundary.specs.Boundary.{boundInC, BytesInC, CountsInC, leastInC, limitsInC};
 
 // Writes for each node of a network how many hearings its shortest chain from the node at `from` has, or 255 where there is none, as
 // `chains::find_lengths` does: a chain goes through nodes that repeat, and not by the node at `failed`; 255 there says that none has failed. Document 02,
@@ -62,22 +66,42 @@ pub extern "C" fn mant_network_transmissions(
     ))
 }
 
-// How many bytes these transmissions have together, if the fresh message has `size` bytes. `counts` gets each node's own bytes.
+// How many bytes these transmissions have together, if the fresh message has `size` bytes. `counts` gets each node's own bytes. A size above 65,535 is
+// not served, and nothing is written.
 #[no_mangle]
 pub extern "C" fn mant_network_bytes(
     pairs: &[u8],
     from: usize,
     hop_limit: u64,
-    size: u16,
+    size: u64,
     enough: u64,
     marks: &mut [u8],
     counts: &mut [u64],
     table: &mut [u8],
 ) -> MantAirtime
-    ensures { λ r. ⌜ CountsInC (now (pairs .entry)) (now (marks .entry)) from «hop_limit» size 2 enough (now (counts .entry)) (now (table .entry))
+    ensures { λ r. ⌜ BytesInC (now (pairs .entry)) (now (marks .entry)) from «hop_limit» size enough (now (counts .entry)) (now (table .entry))
         r (now (marks .exit)) (now (counts .exit)) (now (table .exit)) ⌝ }
 {
+    if size > 65535 {
+        return boundary::airtime_in_c(size_refused(hop_limit));
+    }
+    let size = narrow(size);
     boundary::airtime_in_c(ways::bytes(pairs, from, hop_limit, size, enough, marks, counts, table))
+}
+
+fn size_refused(hop_limit: u64) -> Airtime
+    ensures { λ r. ⌜ r ≡ cond (ltb 7 «hop_limit») HopRefused NotServed ⌝ }
+{
+    if hop_limit > 7 {
+        return Airtime::HopRefused;
+    }
+    Airtime::NotServed
+}
+
+fn narrow(size: u64) -> u16
+    ensures { λ r. ⌜ r ≡ size % 65536 ⌝ }
+{
+    (size % 65536) as u16
 }
 
 // The most transmissions that one fresh message with that hop limit can cause among so many repeating nodes, its own counted. Its originator and its

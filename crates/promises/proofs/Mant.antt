@@ -1,12 +1,15 @@
 -- Every public function of `mant`: its promise asks nothing of the caller and determines what the caller sees.
 use mathlib.Core.List.{List}
+use mathlib.Core.Logic.{by-cases}
 use mathlib.Core.Path.{_≡_, refl, sym, _∙_}
-use Prim.Native.Nat.{ℕ}
+use Prim.Native.Nat.{ℕ, _≤_}
+use native.Mathlib.Decide.{decLt}
+use native.Mathlib.Omega.{arith}
 use denote.Ref.{now}
 use Rattle.promises.specs.Promise.{both, Promised, PromisedWithOutput}
 use Rattle.chains.proofs.Outcomes.{one-outcome}
 use Rattle.boundary.specs.declared.planning.MantAirtime.{MantAirtime}
-use Rattle.boundary.specs.Boundary.{CountsInC}
+use Rattle.boundary.specs.Boundary.{CountsInC, BytesInC}
 use Rattle.mant.proofs.reading.mant_read.Reads as mant-read-reads
 use Rattle.mant.proofs.reading.mant_read.Kinds as mant-read-kinds
 use Rattle.mant.proofs.reading.mant_path_address.Reads as mant-path-address-reads
@@ -148,10 +151,26 @@ pub mant-network-transmissions : PromisedWithOutput 4 mant-network-transmissions
     (λ κs s. both (now (s .1 .1 .1 .1 .0)) (both (now (s .1 .1 .1 .1 .1 .0)) (now (s .1 .1 .1 .1 .1 .1 .0))))
 mant-network-transmissions = (λ κs a. tt, λ κs a x y s t p q. one-count _ _ _ _ _ _ _ _ _ x y _ _ _ _ _ _ p q)
 
+-- and in bytes, of any size
+one-count-of-bytes : (pairs marks : List ℕ) (from h size enough : ℕ) (counts table : List ℕ) (x y : MantAirtime) (m c t n d u : List ℕ)
+    → BytesInC pairs marks from h size enough counts table x m c t → BytesInC pairs marks from h size enough counts table y n d u
+    → (x ≡ y) × (both m (both c t) ≡ both n (both d u))
+one-count-of-bytes pairs marks from h size enough counts table x y m c t n d u p q =
+    by-cases (decLt 65535 size)
+    (λ large.
+    let f = p .1 large in
+    let g = q .1 large in (
+      f .0 ∙ sym (g .0),
+      λ i. both ((f .1 ∙ sym (g .1)) i) (both ((f .2 ∙ sym (g .2)) i) ((f .3 ∙ sym (g .3)) i)),
+    ))
+    (λ small.
+    let most : size ≤ 65535 = omega (arith, small) in
+    one-count pairs marks from h size 2 enough counts table x y m c t n d u (p .0 most) (q .0 most))
+
 pub mant-network-bytes : PromisedWithOutput 4 mant-network-bytes-kinds.ps mant-network-bytes-kinds.r
     mant-network-bytes-reads.Asked mant-network-bytes-reads.Post
     (λ κs s. both (now (s .1 .1 .1 .1 .1 .0)) (both (now (s .1 .1 .1 .1 .1 .1 .0)) (now (s .1 .1 .1 .1 .1 .1 .1 .0))))
-mant-network-bytes = (λ κs a. tt, λ κs a x y s t p q. one-count _ _ _ _ _ _ _ _ _ x y _ _ _ _ _ _ p q)
+mant-network-bytes = (λ κs a. tt, λ κs a x y s t p q. one-count-of-bytes _ _ _ _ _ _ _ _ x y _ _ _ _ _ _ p q)
 
 pub mant-most-transmissions : Promised 0 mant-most-transmissions-kinds.ps mant-most-transmissions-kinds.r
     mant-most-transmissions-reads.Asked mant-most-transmissions-reads.Post (λ κs x. x)

@@ -14,6 +14,9 @@ use reference::{chains, count};
 /// The reference counts no more transmissions than these.
 const MOST_COUNTED: u64 = 20_000;
 
+/// A larger size is not served.
+const MOST_SIZE: u64 = 65_535;
+
 /// What is asked.
 #[derive(Debug)]
 struct Asked {
@@ -22,7 +25,7 @@ struct Asked {
     from: usize,
     failed: usize,
     hop_limit: u64,
-    size: u16,
+    size: u64,
     /// How many numbers and how many bytes the caller lends.
     places: usize,
     room: usize,
@@ -59,9 +62,19 @@ fn asked(random: &mut Random) -> Asked {
         } else {
             random.below(8) as u64
         },
-        size: random.between(1, 65_535) as u16,
+        size: size(random),
         places: nodes + usize::from(random.one_in(16)),
         room: nodes * 256 + random.below(300) - usize::from(nodes > 0 && random.one_in(16)),
+    }
+}
+
+/// A size, mostly one that is served; else often one whose low 16 bits are.
+fn size(random: &mut Random) -> u64 {
+    let served = random.between(1, MOST_SIZE as usize) as u64;
+    match random.below(16) {
+        0 => served + (1 << random.between(16, 63)),
+        1 => random.pick(&[0, MOST_SIZE, MOST_SIZE + 1, u64::MAX]),
+        _ => served,
     }
 }
 
@@ -124,7 +137,7 @@ fn compare_counts(random: &mut Random, asked: &Asked) -> Compared {
             &hearings,
             from,
             hop_limit as usize,
-            size.into(),
+            size.min(MOST_SIZE),
             MOST_COUNTED,
         )
     });
@@ -139,6 +152,7 @@ fn compare_counts(random: &mut Random, asked: &Asked) -> Compared {
     lent(random, asked, wanted(times), |lent| {
         network_transmissions(&asked.pairs, from, hop_limit, enough, lent)
     })?;
+    let found = found.filter(|_| size <= MOST_SIZE);
     let bytes = found.map(|found| found.map(|found| (found.bytes, found.bytes_by)));
     let enough = enough_of(
         random,

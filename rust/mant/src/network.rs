@@ -117,7 +117,7 @@ impl<'a> Network<'a> {
     ) -> Result<Option<Airtime>, Refusal> {
         let pairs = self.hearings.as_flattened();
         self.counted(table, |lent| {
-            raw::network_bytes(pairs, self.from, hop_limit, size, enough, lent)
+            raw::network_bytes(pairs, self.from, hop_limit, size.into(), enough, lent)
         })
     }
 

@@ -78,7 +78,7 @@ extern "C" {
     fn mant_chain_lengths(pairs: *const u8, pairs_length: usize, marks: *const u8, marks_length: usize, from: usize, failed: usize, lengths: *mut u8, lengths_length: usize) -> bool;
     fn mant_least_hop_limit(lengths: *const u8, lengths_length: usize) -> u8;
     fn mant_network_transmissions(pairs: *const u8, pairs_length: usize, from: usize, hop_limit: u64, enough: u64, marks: *mut u8, marks_length: usize, counts: *mut u64, counts_length: usize, table: *mut u8, table_length: usize) -> Airtime;
-    fn mant_network_bytes(pairs: *const u8, pairs_length: usize, from: usize, hop_limit: u64, size: u16, enough: u64, marks: *mut u8, marks_length: usize, counts: *mut u64, counts_length: usize, table: *mut u8, table_length: usize) -> Airtime;
+    fn mant_network_bytes(pairs: *const u8, pairs_length: usize, from: usize, hop_limit: u64, size: u64, enough: u64, marks: *mut u8, marks_length: usize, counts: *mut u64, counts_length: usize, table: *mut u8, table_length: usize) -> Airtime;
     fn mant_most_transmissions(nodes: u64, hop_limit: u64) -> Bound;
     fn mant_most_bytes(nodes: u64, hop_limit: u64, size: u64) -> Bound;
     fn mant_most_for_command(
@@ -150,7 +150,7 @@ pub fn network_bytes(
     pairs: &[u8],
     from: usize,
     hop_limit: u64,
-    size: u16,
+    size: u64,
     enough: u64,
     lent: Lent,
 ) -> Airtime {
