@@ -1,11 +1,12 @@
 /*
- * mant.h: the MANT layer of ALERT2 for C, linked from libmant.a (rt staticlib mant).
+ * mant.h: the MANT layer of ALERT2 for C, linked from libmant.a (rt staticlib mant; for boards docs/firmware.md).
  *
  * Every call returns a result for every input: nothing has to be checked before it. What each returns is proved of the code in the library, against the
- * definitions in the crates' specs/ folders. Six functions are in this header and so outside the proof. mant_lay_lists hands the lists of a struct on to
- * mant_lay_eight. The four mant_reliable_ ones hand the records and the time of a MantReliable on to the call without that word, and keep the time that
- * comes back. mant_meaning has the words of a number. No call keeps anything between calls, allocates, or does input or output. So two may run at
- * once unless they share memory that one of them changes. The library needs memcpy and memset, and no other function of the C library.
+ * definitions in the crates' specs/ folders. On processors other than x86-64 a shim in C lies between, outside the proof (docs/AUDIT.md). Six functions are in
+ * this header and so outside the proof. mant_lay_lists hands the lists of a struct on to mant_lay_eight. The four mant_reliable_ ones hand the records and the
+ * time of a MantReliable on to the call without that word, and keep the time that comes back. mant_meaning has the words of a number. No call keeps anything
+ * between calls, allocates, or does input or output. So two may run at once unless they share memory that one of them changes. The library needs memcpy and
+ * memset, and no other function of the C library.
  *
  * The groups, by what a box does:
  *
@@ -31,7 +32,8 @@
  * type, which nothing else changes during the call; with length 0 it may be anything, NULL too, and is not followed. An output shares no memory with another
  * slice of the call, nor does memory that is lent. Structs are those declared here. They are passed by value and so aligned by the compiler. MantLists,
  * MantListBlock, MantStations, MantQueue, MantReliable and MantSources are passed by address, and only that of a MantLists may be NULL. A bool in a struct
- * holds 0 or 1, as C's does unless it was written by other means, such as memcpy.
+ * holds 0 or 1, as C's does unless it was written by other means, such as memcpy. Addresses have 16 bits, so C cuts 66,536 to 1000; MantHeard's path count
+ * has 8.
  *
  * Slices. A slice is passed as a pointer and then a length, which counts elements: bytes, the values of a list, the words of a block of lists, records. Only
  * so many elements are ever read or written.
@@ -1010,13 +1012,14 @@ bool mant_remove_source(MantSources *record, uint16_t source);
 
 /* ---- Planning ----
  *
- * Whom a report reaches on a network of which it is known who hears whom, over how many hearings, and how often it goes out there, in all and from each
- * node; how often one report can go out at most on any network, and one command with its acknowledgements; and the sizes, for a program in another
- * language. These calls are for a planner's computer: a box needs none of them.
+ * Whom a report reaches on a network, over how many hearings, and how often it goes out there, in all and from each node. How often one report, or one
+ * command with its acknowledgements, can go out at most on any network. The sizes, for a program in another language. These calls are for a planner's
+ * computer: a box needs none of them.
  * A network. `marks` has a byte for each node, at most MANT_NODE_LIMIT, and a node is its place there. A node whose byte is not 0 does not repeat the report:
  * its repeating is off, its lists stop it, or the report is for that node. The originator's byte says nothing. `pairs` says who hears whom: a sender's
  * place, then the place of a node that hears it, and so on. What is said twice counts once. A place that no node has says nothing, nor does a node that
- * hears itself, nor a last byte without a partner. A hearing that is not certain is safely told as one: it never takes a chain or a transmission away.
+ * hears itself, nor a last byte without a partner. A hearing more never takes a chain or a transmission away. So tell one that is not certain to bound the
+ * transmissions, and leave it out to see who is delivered the report for certain.
  * Memory: for the two counts of a network a table of 256 bytes a node, MANT_AIRTIME_TABLE for every network, lent for the call alone. What it holds before is
  * of no matter; afterwards it is all zeros.
  * Numbers: 10.
@@ -1067,20 +1070,22 @@ MANT_SIZE(MantLimits, 56);
 
 /* Writes for each node how many hearings its shortest chain from the originator has, the node at place `from`: 0 for the originator, MANT_NO_CHAIN where no
    chain leads to it. A chain goes from the originator through nodes that repeat the report, and not by the node at place `failed`, which neither sends nor
-   hears; MANT_NO_NODE says that none has failed. A node of length k, from 1 on, is delivered the report at hop limit h if k is at most h + 1, at 7 if k is
-   not MANT_NO_CHAIN; the path count is then k - 1. A node that has a chain, and none where another has failed, is cut off by that failure. Returns false,
-   and writes nothing, if there are more than MANT_NODE_LIMIT nodes, none is at `from`, or there is not one length for each node. */
+   hears; MANT_NO_NODE says that none has failed. A node of length k, from 1 on, is delivered the report at hop limit h if k is at most h + 1, or at 7 if it
+   has a chain. The smallest path count is then k - 1. A node whose lists stop the report is not delivered it. A report with a destination is delivered to that
+   node alone. A node that has a chain, and none where another has failed, is cut off by that failure. Returns false, and writes nothing, if there are more than
+   MANT_NODE_LIMIT nodes, none is at `from`, or there is not one length for each node. */
 bool mant_chain_lengths(const uint8_t *pairs, size_t pairs_length, const uint8_t *marks, size_t marks_length, size_t from, size_t failed,
                         uint8_t *lengths, size_t lengths_length);
 
-/* The least hop limit, 0 to 7, at which all nodes but the originator are delivered the report, by their lengths; MANT_NO_HOP_LIMIT if one has no chain. */
+/* The least hop limit, 0 to 7, at which a chain reaches every node but the originator, by their lengths; MANT_NO_HOP_LIMIT if one has no chain. A failed node
+   has no chain and counts as missed, so set the failed node's length to 0 first. */
 uint8_t mant_least_hop_limit(const uint8_t *lengths, size_t lengths_length);
 
-/* How often one report with a path goes out on the network, its first sending counted, if every node takes what it hears once, and repeats it unless it has
-   a mark; and in `counts`, a number for each node, how often each sends it. It goes out no more often where transmissions are lost. Echo is on at each
-   node, no two have the same address, and none takes a transmission twice, or one that it does not hear by `pairs`. The count stops at `enough`, which
-   bounds the time: counts are then all 0. On a desk computer 10,000,000 take a tenth of a second in most networks, and four seconds in the worst. With number
-   10, or if the network is not served, nothing is written. `marks` is as before afterwards; it changes during the call. */
+/* How often one report with a path goes out on the network, its first sending counted. Every node takes what it hears once, and repeats it unless it has a
+   mark. `counts` gets how often each node sends it. It goes out no more often where transmissions are lost. Echo is on at each node, no two have the same
+   address, and none takes a transmission twice, or one that it does not hear by `pairs`. The count stops at `enough`, which bounds the time: counts are then
+   all 0. On a desk computer 10,000,000 take a tenth of a second in most networks, and four seconds in the worst. With number 10, or if the network is not
+   served, nothing is written. `marks` is as before afterwards; it changes during the call. */
 MantAirtime mant_network_transmissions(const uint8_t *pairs, size_t pairs_length, size_t from, uint64_t hop_limit, uint64_t enough, uint8_t *marks,
                                        size_t marks_length, uint64_t *counts, size_t counts_length, uint8_t *table, size_t table_length);
 

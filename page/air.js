@@ -39,7 +39,7 @@ function showCost(to) {
   const worst = shortened(mostForCommand(tries, repeatersOf(net, 0, to), net.hop, back));
   const count = (value) => (value === null ? `≥ ${grouped(QUICK)}` : grouped(value));
   $('command-cost').replaceChildren(...rowsOf([
-    ['Transmissions, this network, at most', html('b', {}, here.short), here.whole], ['in the worst network', worst.short, worst.whole],
+    [`Transmissions, this network${isKnown ? ', at most' : ''}`, html('b', {}, here.short), here.whole], ['in the worst network', worst.short, worst.whole],
     ['of one sending of the command', count(there)], ['of one acknowledgement', count(answer)]]));
   $('command-formula').textContent = `${counted(tries + 1, 'sending')} × ${count(there)} × (1 + ${count(answer)})`;
 }

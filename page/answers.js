@@ -92,17 +92,21 @@ export function showNodes() {
   }));
 }
 
+// A mark also stands for lists that stop the report.
+export const ifLetIn = (node) => (node.repeats ? '' : ' if its lists let it in');
+export const heardAfter = (i) => `hears it after ${counted(state.answers.lengths[i], 'hearing')}${ifLetIn(state.net.nodes[i])}`;
+
 // The answers as a text, as one would write them in a mail.
 export function answersText() {
   const { net, answers } = state, linesOf = (id) => [...$(id).children].map((line) => line.textContent.replace(/\s+/g, ' ')).filter(Boolean);
   const node = (i) => {
-    const words = i === 0 ? 'the originator' : lengthWords(i).replace(/^(\d+)$/, 'hears it after $1');
+    const words = i === 0 ? 'the originator' : lengthWords(i).replace(/^\d+$/, heardAfter(i));
     const sends = answers.sent.counts ? `, sends it ${counted(answers.sent.counts[i], 'time')}` : '';
     return `${named(net.nodes[i])}${net.nodes[i].repeats ? '' : ' (does not repeat)'}: ${words}${sends}`;
   };
   return [
     `Report of ${named(net.nodes[0])}, hop limit ${net.hop}, ${counted(answers.size, 'byte')}`, ...linesOf('headline'),
-    `Transmissions on this network, at most: ${sentWords(answers)}`,
+    `Transmissions on this network${answers.sent.enough ? '' : ', at most'}: ${sentWords(answers)}`,
     ...(answers.bytes ? [`Bytes on this network, at most: ${grouped(answers.bytes.value)}`] : []),
     `Transmissions in the worst network of ${counted(answers.others, 'other repeater')}: ${shortened(answers.worst).whole}`, ...byChain().map(node),
     ...linesOf('condition-words')].map((line) => `${line}\n`).join('');
@@ -112,7 +116,7 @@ export function nodesCsv() {
   const { net, answers, failures } = state, { counts } = answers.sent;
   const row = (i) => {
     const node = net.nodes[i], length = answers.lengths[i], got = isDelivered(net.hop, length), failure = failures.find((one) => one.address === node.address);
-    const kind = i === 0 ? 'originator' : got ? 'delivered' : length === NO_CHAIN ? 'no chain' : 'out of reach';
+    const kind = i === 0 ? 'originator' : got ? `delivered${ifLetIn(node)}` : length === NO_CHAIN ? 'no chain' : 'out of reach';
     return [node.address, node.name, kind, length === NO_CHAIN ? '' : length, got ? length - 1 : '', node.repeats ? 'yes' : 'no',
       ...(counts ? [counts[i], answers.bytes.counts[i]] : ['', '']), failure?.cut.join(' ') ?? '', failure?.beyond.join(' ') ?? ''];
   };

@@ -1,4 +1,5 @@
 // The drawing's panel: what is drawn of the network, where, and the line below it in which the chosen node or hearing is changed.
+import { heardAfter } from './answers.js';
 import { $, download, html } from './dom.js';
 import { Drawing } from './draw.js';
 import { addHearing, addNode, removeHearing, removeNode, setAddress, setName, setOriginator, setPlaces, setRepeats } from './edits.js';
@@ -100,7 +101,7 @@ function nodesDrawn() {
     const length = answers.lengths[i], got = isDelivered(net.hop, length);
     const kind = i === 0 ? 'originator' : got ? 'delivered' : length === NO_CHAIN ? 'unlinked' : 'missed';
     const far = counted(length, 'hearing');
-    const words = { originator: 'the originator', delivered: `hears it after ${far}`, missed: `out of reach, ${far} away`,
+    const words = { originator: 'the originator', delivered: heardAfter(i), missed: `out of reach, ${far} away`,
       unlinked: 'no chain of hearings leads there' }[kind];
     const caption = small ? (node.name.length > LONGEST ? `${node.name.slice(0, LONGEST - 1)}…` : node.name) : '';
     return { address: node.address, kind, repeats: node.repeats, under: i === 0 ? 'origin' : length === NO_CHAIN ? '–' : String(length), caption,

@@ -24,7 +24,7 @@ b'open gate 3'
 What is refused raises Refused, with its `number` and its `meaning`. A setting reaches the library as it is, or is no number that C can hold, and then raises
 ValueError; none is trimmed. So does what is no network, and a choice of list that is not 0, 1 or 2. A bound above 18,446,744,073,709,551,615 and
 a count that stops raise OverflowError, and what is no number, no bytes or no Node where one is asked for TypeError. There is always room for what is written,
-so that the numbers for want of room are never answered. LibraryMissing says that there is no library, and how to make it.
+so that the numbers for want of room are never returned. LibraryMissing says that there is no library, and how to make it.
 
 >>> originate(b'rain', source=1000, hop_limit=263)
 Traceback (most recent call last):

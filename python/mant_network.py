@@ -17,7 +17,7 @@ class Reached:
 
     address     its address
     chain       how many hearings its shortest chain has: 0 for the originator, None where there is no chain
-    path_count  of the transmission in which the report is delivered; None where it is not
+    path_count  the smallest with which the report is delivered; None where it is not
     """
     address: int
     chain: Optional[int]
@@ -51,7 +51,8 @@ class Network:
     """A network of which it is known who hears whom. `heard_by` has for each node the nodes that hear it, as a dict or as pairs; the first is the originator.
     `not_repeating` has the nodes that do not repeat the report: repeating is off, their lists stop it, or it is for them. What is told holds if the report is
     fresh, with a path, each transmission is taken once by every node that hears its sender and by no other, and every node has echo on and an address of its
-    own. Where transmissions are lost it goes out no more often. A hearing that is not certain is safely told as one.
+    own. A node whose lists stop the report is not delivered it. A report with a destination is delivered to that node alone. Lists have no fault, and outputs
+    have room. Where transmissions are lost it goes out no more often. Tell an uncertain hearing for the counts, and leave it out for chains and failures.
 
     >>> network = Network({1200: [2001, 2002], 2001: [2002, 3000], 2002: [2001, 3000]}, not_repeating=[3000])
     >>> network.reach(1).least_hop_limit, network.cut_off()
@@ -76,7 +77,8 @@ class Network:
         self._marks = bytes(address in silent for address in self.addresses)
 
     def lengths(self, failed=None):
-        """The shortest chain of each node, in order, where the node at the address `failed` neither sends nor hears: its hearings, None where there is none."""
+        """The shortest chain of each node, in order, where the node at the address `failed` neither sends nor hears: its hearings, None where there is none.
+        The failed node itself has none."""
         place = NO_NODE if failed is None else self.addresses.index(failed)
         nodes = len(self.addresses)
         found = (ctypes.c_uint8 * nodes)()

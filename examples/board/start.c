@@ -1,6 +1,6 @@
 /* What runs before main on a bare Cortex-M: the vector table, the memory that C expects, and an end at any fault.
 
-   Under QEMU, printf goes to the debugger by semihosting (newlib's rdimon). On real hardware take out the two lines marked QEMU, give the C library a _write
+   Under QEMU, printf goes to the debugger by semihosting (newlib's rdimon). On real hardware take out the three lines marked QEMU, give the C library a _write
    that sends bytes to a serial port, and set the clocks up before main. */
 #include <stdint.h>
 #include <stdlib.h>
@@ -33,7 +33,7 @@ void reset(void)
 /* Any fault: stops the emulator with status 1. On real hardware let the watchdog restart the box instead. */
 static void fault(void)
 {
-    register uint32_t what __asm__("r0") = 0x18, why __asm__("r1") = 0x20023;
+    register uint32_t what __asm__("r0") = 0x18, why __asm__("r1") = 0x20023; /* QEMU */
     __asm__ volatile("bkpt 0xAB" : : "r"(what), "r"(why)); /* QEMU */
     for (;;) {
     }

@@ -54,6 +54,9 @@ class Hands:
     def typing(self):
         self.same('the example', (self.headline(), self.sent()), ('5 of 7 hear a report of 1200.', '7'))
         self.same('it is the network of ./reach', *(re.findall(r'\d+', re.sub('#.*', '', text)) for text in (self.text(), EXAMPLE.read_text())))
+        copied = self.b.wait(facts.COPIED, 'copy-answers')
+        self.same('a base station in the copied answers', [line for line in copied.split('\n') if line.startswith('3000 ')], [
+            '3000 District base (does not repeat): hears it after 3 hearings if its lists let it in, sends it 0 times'])
         self.b.type('#source', '2005: 3000\n')
         self.same('typed: a hearing more', self.b.run("return document.querySelectorAll('[data-pair=\"2005 3000\"]').length"), 1)
         self.b.click('#undo')
@@ -182,7 +185,7 @@ class Hands:
             shown = self.b.run("return [...document.querySelectorAll(arguments[0])].map((row) => [row.cells[0].textContent, row.cells[1].textContent])", table)
             self.same(f'{name}: its rows', [row.split(',')[:2] for row in rows[1:-1]], shown)
         copied = self.b.wait(facts.COPIED, 'copy-answers')
-        self.same('copied answers', ('3001 Town base' in copied, 'no number is too small' in copied, self.headline() in copied), (True, True, True))
+        self.same('copied answers', ('3001 Town base' in copied, 'who hears the report for certain' in copied, self.headline() in copied), (True, True, True))
         return saved, self.b.run(STANDING)
 
     def files(self):

@@ -19,7 +19,11 @@ use Rattle.node.specs.Answers.{answerOf, Hears}
 use Rattle.flood.specs.Air.{Repeater, address, sends, Originated}
 use Rattle.flood.proofs.Exact.{longest}
 use Rattle.flood.proofs.Others.{are-others, others-are}
+use Rattle.chains.specs.declared.Least.{Least}
+use Rattle.chains.specs.declared.Least.the-variants.{HopLimit, Unreachable}
 use Rattle.chains.specs.Lengths.{isHeard}
+use Rattle.chains.specs.Reach.{leastHop}
+use Rattle.boundary.specs.Boundary.{leastInC}
 use Rattle.coverage.specs.Delivery.{Delivers}
 use Rattle.coverage.proofs.Cases as cases
 use Rattle.coverage.proofs.Planned.{reach, schedule, planned-told}
@@ -54,6 +58,11 @@ sent : (n : Repeater) (received : List ℕ)
 unfolding sends answerOf
 sent n received = refl
 
+-- 8 is told of no hop limit
+told-eight : (lengths : List ℕ) (told : Least) → leastHop lengths ≡ told → leastInC told ≡ 8 → told ≡ Unreachable
+told-eight lengths (HopLimit h) is e = let low : h ≤ 7 = least lengths h is .0 in absurd (omega (arith, low, e))
+told-eight lengths Unreachable is e = refl
+
 room-enough : (settings : FreshSettings) (payload : List ℕ) (room : ℕ) → Originated settings payload room → settings .«hop_limit» ≤ 6
     → length (fresh settings payload) + 2 * settings .«hop_limit» ≤ pduLimit
 room-enough settings payload room message hops =
@@ -87,6 +96,9 @@ least-reach =
       least-only = least-only;
       unreachable = unreachable;
       unreachable-only = unreachable-only;
+      in-c = λ lengths is. ap (λ (told : Least). leastInC told) is;
+      in-c-only = λ lengths e. told-eight lengths (leastHop lengths) refl e;
+      in-c-least = λ lengths h is. ap (λ (told : Least). leastInC told) is;
       pair = (refl, refl);
       answered = answered;
       answered-only = answered-only;

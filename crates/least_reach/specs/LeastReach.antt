@@ -29,6 +29,7 @@ use Rattle.coverage.specs.Reach.{Reach}
 use Rattle.coverage.specs.Told.{Says}
 use Rattle.coverage.specs.Cases.{reportAsked, reading, repeater, toldOfEach, nextInLine, lineAddresses, lineReceptions, lineAir, lineTold}
 use Rattle.coverage.specs.Cases.{twoWays, twoWaysAddresses, longerFirst}
+use Rattle.boundary.specs.Boundary.{leastInC}
 
 pub record LeastReach : Type 0 where
   -- I. WHAT 02 ASKS
@@ -84,6 +85,10 @@ pub record LeastReach : Type 0 where
       → leastHop lengths ≡ HopLimit h
   pub unreachable : (lengths : List ℕ) → leastHop lengths ≡ Unreachable → (h : ℕ) → h ≤ 7 → ¬ AllDelivered h lengths
   pub unreachable-only : (lengths : List ℕ) → ((h : ℕ) → h ≤ 7 → ¬ AllDelivered h lengths) → leastHop lengths ≡ Unreachable
+  -- what C is told of it: 8 exactly if it is told that none reaches all, and else the least hop limit
+  pub in-c : (lengths : List ℕ) → leastHop lengths ≡ Unreachable → leastInC (leastHop lengths) ≡ 8
+  pub in-c-only : (lengths : List ℕ) → leastInC (leastHop lengths) ≡ 8 → leastHop lengths ≡ Unreachable
+  pub in-c-least : (lengths : List ℕ) (h : ℕ) → leastHop lengths ≡ HopLimit h → leastInC (leastHop lengths) ≡ h
   -- a pair is a sender's place, and then the place of a node that hears it
   pub pair : (isHeard (1 ∷ 2 ∷ []) 1 2 ≡ true) × (isHeard (1 ∷ 2 ∷ []) 2 1 ≡ false)
   -- a node of the model delivers what its function `hear` returns: number 0, and the payload at the place that the answer names, and no other; and it sends

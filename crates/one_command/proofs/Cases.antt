@@ -59,7 +59,7 @@ unfolding bound series terms fallingProduct repeaters keep canRepeat nodeFault f
 of-reply = refl
 
 -- numbers of which none is there twice, and so of what they are the keys of
-of-keys : {A : Type 0} (key : A → ℕ) (l : List A) → List·Nodup (map key l) → List·Nodup l
+pub of-keys : {A : Type 0} (key : A → ℕ) (l : List A) → List·Nodup (map key l) → List·Nodup l
 of-keys key [] d = nodup-nil
 of-keys key (x ∷ l) d = nodup-more (λ m. apart d (Memᴰ·map key m) refl) (of-keys key l ((nodup-cons .0 d) .1))
 

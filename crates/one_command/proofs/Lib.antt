@@ -1,3 +1,5 @@
+pub mod Again
+pub mod Apart
 pub mod Boxing
 pub mod Cases
 pub mod Commands

@@ -35,6 +35,8 @@ use Rattle.together.proofs.Several.{together-within, together-bytes, together-h
 use Rattle.together.proofs.Sums.{Alone, OnlyTaken}
 use Rattle.one_command.specs.Boxes.{Box, repeatersOf, allSent, commandsIn, repliesIn, Command, replyTo, repliesOf, Carried, Retried}
 use Rattle.one_command.specs.OneCommand.{OneCommand, Within}
+use Rattle.one_command.proofs.Again.{each-counts, carried, asked-for, reached-bytes, twelve, two-messages, once-again, retried}
+use Rattle.one_command.proofs.Apart.{asks-is, asks-only, reply-apart, originated-more, only-heard, in-c, in-c-only}
 use Rattle.one_command.proofs.Boxing.{box-writes, box-answers, box-answers-only}
 use Rattle.one_command.proofs.Cases.{one-sending, run, of-order, of-reply, reached-asked}
 use Rattle.one_command.proofs.Commands.{commands-few, replies-few, counted}
@@ -161,6 +163,8 @@ one-command =
       together-heard = λ hears nodes all events fresh once only.
           (together-heard nodes all events fresh once hears only, together-heard-bytes nodes all events fresh once hears only);
       originated = of-originated;
+      originated-more = originated-more;
+      only-heard = only-heard;
       one-message = one-message;
       traffic = λ boxes all events carried once.
           of-traffic boxes all events carried once Anyone (mostOf (repeatersOf boxes)) (mostBytesOf (repeatersOf boxes))
@@ -174,6 +178,11 @@ one-command =
           of-command-heard boxes all there bytes c s sendings r events sent once hears only;
       reply-bound = reply-bound;
       both-apart = both-apart;
+      reply-apart = reply-apart;
+      asks-is = asks-is;
+      asks-only = asks-only;
+      in-c = in-c;
+      in-c-only = in-c-only;
       box-writes = box-writes;
       box-answers = λ box table last received long e. box-answers box table last received long e;
       box-answers-only = λ box table last received long e. box-answers-only box table last received long e;
@@ -183,6 +192,10 @@ one-command =
       retried-asked = λ s bytes sendings table last operations free sent.
           record { table = table; last = last; operations = operations; free = free; as-sent = sent };
       one-sending = one-sending;
+      each-counts = each-counts;
       reached = (run, of-order, of-reply, refl);
       reached-asked = reached-asked;
+      reached-split = (carried .0, carried .1, asked-for .0, asked-for .1);
+      reached-bytes = reached-bytes;
+      reached-again = (twelve, refl, retried, two-messages, once-again);
     }

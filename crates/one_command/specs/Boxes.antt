@@ -1,4 +1,4 @@
--- Document 02, W-210: what goes out when boxes that acknowledge hear each other. Assumes nothing.
+-- Document 02, W-210: what goes out when boxes that acknowledge hear each other.
 use mathlib.Core.Bool.{Bool, true, not, cond, _&&_}
 use mathlib.Core.Option.{Option, none, some}
 use mathlib.Core.List.{List, [], map, List·Memᴰ}
@@ -43,10 +43,11 @@ isAcknowledging box received =
 abbrev pub replyTo : Box → List ℕ → List ℕ
 replyTo box message = acknowledgement (box .sending) (namesOf message)
 
--- what it sends on hearing a PDU: the acknowledgement, or what it repeats
+-- the acknowledgement that it sends on hearing a PDU, if it acknowledges that
 unfoldable pub acknowledges : Box → List ℕ → Option (List ℕ)
 acknowledges box received = cond (isAcknowledging box received) (some (replyTo box received)) none
 
+-- what it sends on hearing a PDU: the acknowledgement, or what it repeats
 unfoldable pub responds : Box → List ℕ → Option (List ℕ)
 responds box received = elim (acknowledges box received) [ none ↦ sends (box .repeater) received | some reply ↦ some reply ]
 
@@ -85,7 +86,8 @@ pub record Carried (boxes : List Box) (message : List ℕ) : Type 0 where
   pub begins : Begins message
   pub replies-path : (box : Box) → List·Memᴰ box boxes → asks message box ≡ true → box .sending .«with_path» ≡ true
 
--- How often a box with fixed settings has sent a command that it retains: once, and then again as the answers of its table say, from a free table on.
+-- How often a box with fixed settings has sent a command since it was last retained: once, and then again as the answers of its table say, from a free
+-- table on.
 pub record Retried (s : RetrySettings) (command : List ℕ) (sendings : ℕ) : Type 0 where
   pub table : List Retained
   pub last : ℕ

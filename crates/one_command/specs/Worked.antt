@@ -1,9 +1,10 @@
 -- W-210's command in a small network: one repeater, 3000, between the originator 2000 and the destination 1000, all within reach of each other.
-use mathlib.Core.Bool.{true, false}
-use mathlib.Core.List.{List, [], _∷_, map}
+use mathlib.Core.Bool.{Bool, true, false}
+use mathlib.Core.List.{List, [], _∷_, _++_, map}
 use Prim.Native.Nat.{ℕ}
 use Rattle.answering.specs.declared.Sending.{Sending}
 use Rattle.coverage.specs.Cases.{repeater}
+use Rattle.ending.specs.History.{RetrySettings}
 use Rattle.flood.specs.Flood.{Reception}
 use Rattle.together.specs.Together.{Event, Sent, Heard}
 use Rattle.one_command.specs.Boxes.{Box}
@@ -28,3 +29,15 @@ by node transmission = Heard (record { node = node; transmission = transmission 
 -- 3000 repeats the command; 1000 hears both and acknowledges both; 3000 repeats both acknowledgements
 abbrev pub bothAnswered : List (Event (List ℕ))
 bothAnswered = Sent order ∷ by 1 0 ∷ by 2 0 ∷ by 2 1 ∷ by 1 2 ∷ by 1 3 ∷ []
+
+-- the command is sent once more, and all of that happens again
+abbrev pub answeredAgain : List (Event (List ℕ))
+answeredAgain = bothAnswered ++ (Sent order ∷ by 1 6 ∷ by 2 6 ∷ by 2 7 ∷ by 1 8 ∷ by 1 9 ∷ [])
+
+-- delay 5, one more sending
+abbrev pub oneTry : RetrySettings
+oneTry = record { delay = 5; tries = 1; room = 256 }
+
+-- who hears whom where every node hears every other
+abbrev pub allHear : ℕ → ℕ → Bool
+allHear sender node = true

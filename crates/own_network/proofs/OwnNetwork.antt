@@ -1,12 +1,13 @@
 -- How often one message goes out on its network, of a message that origination wrote: the record, from its parts. Assumes nothing.
-use mathlib.Core.Path.{_≡_, sym, ap, subst, _∙_}
-use mathlib.Core.Bool.{Bool, true, cond}
+use mathlib.Core.Path.{_≡_, refl, sym, ap, subst, _∙_}
+use mathlib.Core.Bool.{Bool, true, false, cond}
 use mathlib.Core.Logic.{_⊎_, by-cases}
 use mathlib.Core.Option.{some}
 use mathlib.Core.List.{List, map, List·Memᴰ, List·Nodup}
 use Prim.Native.Nat.{ℕ, _+_, _*_, _≤_, _<_, min}
 use native.Mathlib.Decide.{ℕ-discrete}
 use native.Mathlib.Omega.{arith}
+use borrow.Author.Tests.{lt-ltb, le-ltb}
 use lib.Dec.{eqb}
 use lib.ListN.{length, getElem?, length-map}
 use Rattle.octets.specs.Octets.{at}
@@ -18,7 +19,8 @@ use Rattle.bound.proofs.Series.{terms-seven, terms-below}
 use Rattle.chains.specs.Lengths.{nodeLimit}
 use Rattle.ways.specs.declared.Airtime.{Airtime}
 use Rattle.ways.specs.declared.Airtime.the-variants.{Exactly, Enough}
-use Rattle.ways.specs.Answer.{Counts}
+use Rattle.ways.specs.Answer.{upTo, isServed, whether, ways, waysAnswer, Counts}
+use Rattle.ways.specs.Ways.{ofAll}
 use Rattle.ways.proofs.Answers.{Serves, below-enough, not-below}
 use Rattle.origin.specs.declared.FreshSettings.{FreshSettings}
 use Rattle.origin.specs.Origination.{freshHeader, fresh}
@@ -41,6 +43,7 @@ use Rattle.airtime.proofs.Same.{air-more}
 use Rattle.airtime.proofs.Told.{times-told, bytes-told, times-by-told, bytes-by-told}
 use Rattle.airtime.proofs.Within.{air-within, bytes-within, by-within, bytes-by-within}
 use Rattle.airtime.proofs.Worst.{air-below, bytes-below, air-all, bytes-all}
+use Rattle.boundary.specs.Boundary.{airtimeInC}
 use Rattle.own_network.specs.OwnNetwork.{times, octets, timesBy, octetsBy, OwnNetwork}
 use Rattle.own_network.proofs.Cases as cases
 
@@ -205,6 +208,26 @@ two-ways-run =
     (two-ways-taken .0) (two-ways-taken .1) .0
     ∙ cases.six
 
+-- what C is told
+in-c : (pairs marks : List ℕ) (from h price growth enough places room : ℕ)
+    → let told = airtimeInC (waysAnswer pairs marks from h price growth enough places room) in
+    let number = ways pairs marks from h price growth ofAll in let so = isServed (length marks) from places room in
+    (7 < h → told ≡ record { number = 10; served = false; enough = false; value = 0 })
+    × (h ≤ 7 → so ≡ false → told ≡ record { number = 0; served = false; enough = false; value = 0 })
+    × (h ≤ 7 → so ≡ true → enough ≤ number → told ≡ record { number = 0; served = true; enough = true; value = 0 })
+    × (h ≤ 7 → so ≡ true → number < enough → told ≡ record { number = 0; served = true; enough = false; value = number })
+unfolding waysAnswer whether upTo
+in-c pairs marks from h price growth enough places room = (
+  λ above. rw (lt-ltb 7 h above),
+  λ low no. rw (le-ltb 7 h low, no),
+  λ low so past. rw (le-ltb 7 h low, so, le-ltb (ways pairs marks from h price growth ofAll) enough past),
+  λ low so less. rw (le-ltb 7 h low, so, lt-ltb (ways pairs marks from h price growth ofAll) enough less),
+)
+
+served-limits : (isServed 255 254 255 65280 ≡ true) × (isServed 255 254 255 65279 ≡ false)
+unfolding isServed
+served-limits = (refl, refl)
+
 pub own-network : OwnNetwork
 unfolding airOf airBytes airBy airBytesBy
 own-network =
@@ -225,6 +248,8 @@ own-network =
           told hears nodes all settings payload room message pairs says few marks marked place from-at enough counts table as-many long;
       bytes-told = λ pairs hears nodes all says few settings payload room message marks marked place from-at enough counts table as-many long.
           told-bytes hears nodes all settings payload room message pairs says few marks marked place from-at enough counts table as-many long;
+      in-c = in-c;
+      served-limits = served-limits;
       in-line = cases.in-line;
       two-ways = cases.two-ways;
       all-three = cases.all-three;

@@ -83,6 +83,7 @@ own-reach =
       for-its-own = λ n. own-is-no-other (address n);
       for-no-other = for-no-other;
       told = told;
+      found-limits = cases.found-limits;
       left = λ nodes failed place n n-at other. is-left failed place nodes n-at other;
       left-only = λ nodes failed n m. left-at failed nodes m;
       none-failed = λ nodes failed past. all-left failed nodes past;
@@ -104,6 +105,8 @@ own-reach =
       addressed-taken = cases.addressed-taken;
       addressed-told = cases.addressed-told;
       addressed-ends = cases.addressed-ends;
+      line-says = cases.line-says;
+      two-ways-says = cases.two-ways-says;
       line-failure = cases.line-failure;
       two-ways-failure = cases.two-ways-failure;
     }

@@ -1,12 +1,13 @@
 -- Worked cases of whom a message reaches, computed over real bytes. Assumes nothing.
 use mathlib.Core.Path.{_≡_, refl, sym, ap}
-use mathlib.Core.Bool.{true, not}
+use mathlib.Core.Bool.{Bool, true, false, not}
 use mathlib.Core.Logic.{inl}
 use mathlib.Core.List.{List, [], _∷_, map, List·Memᴰ, List·Memᴰ·head, List·Memᴰ·tail, Memᴰ·of-map}
 use Prim.Native.Nat.{ℕ, _+_, _*_}
 use native.Mathlib.Omega.{arith}
 use lib.ListN.{length, replicate}
 use Rattle.octets.specs.Numbers.{_gives_, _orElse_}
+use Rattle.octets.specs.Octets.{at}
 use Rattle.pdu.specs.Header.{headerOf}
 use Rattle.pdu.specs.Reading.{readOf}
 use Rattle.pdu.specs.Parts.{addressesAt, inPath, lastOr}
@@ -14,7 +15,7 @@ use Rattle.bound.specs.Bound.{terms}
 use Rattle.writing.specs.Writing.{headerBytes, pathBytes, encode}
 use Rattle.lists.specs.Lists.{lowAboveHigh, faultOf, firstFault, holds}
 use Rattle.chains.specs.Chains.{hearsOne, hearers, ends, Shortest}
-use Rattle.chains.specs.Lengths.{isHeard, placesOfNodes, noNode, isUnmarked, isUsable, relays}
+use Rattle.chains.specs.Lengths.{isHeard, placesOfNodes, noNode, isUnmarked, isUsable, relays, areFound}
 use Rattle.origin.specs.Origination.{freshHeader, fresh}
 use Rattle.decision.specs.Decision.{echoFault, passFault, dropFault, deliveryFault, repeatFault}
 use Rattle.node.specs.Repeat.{repeated}
@@ -28,7 +29,8 @@ use Rattle.coverage.specs.Delivery.{Planned, LetsIn, Roomy, Delivered}
 use Rattle.coverage.specs.Reach.{relayed}
 use Rattle.coverage.specs.Cases.{reportAsked, reading, repeater, tell, toldAlong, nextInLine, twoWays, twoWaysAddresses, written, reception}
 use Rattle.coverage.proofs.Cases.{differing, planned, no-chain, shortest-is}
-use Rattle.coverage.proofs.Checked.{absent, distinct, all, below, happens, areTaken, checked}
+use Rattle.coverage.specs.Told.{Says}
+use Rattle.coverage.proofs.Checked.{absent, distinct, all, below, below-pass, happens, areTaken, checked}
 use Rattle.coverage.proofs.Covered.{by-shortest}
 use Rattle.coverage.proofs.Planned.{reach}
 use Rattle.coverage.proofs.Schedule.{within}
@@ -201,3 +203,41 @@ pub two-ways-failure : (map (ends (relays twoWaysPairs (replicate 5 0) 0 noNode)
     ≡ (0 ∷ []) ∷ (1 ∷ []) ∷ (2 ∷ 0 ∷ []) ∷ (4 ∷ 1 ∷ []) ∷ [])
 unfolding ends hearers hearsOne relays isHeard isUsable isUnmarked placesOfNodes
 two-ways-failure = (refl, refl)
+
+pub found-limits : (areFound 255 254 255 ≡ true) × (areFound 256 0 256 ≡ false) × (areFound 3 3 3 ≡ false)
+unfolding areFound
+found-limits = (refl, refl, refl)
+
+-- THE PAIRS, place by place
+agree : Bool → Bool → Bool
+agree true there = there
+agree false there = not there
+
+agree-same : (here there : Bool) → agree here there ≡ true → here ≡ there
+unfolding agree
+agree-same true there e = sym e
+agree-same false true e = e
+agree-same false false e = refl
+
+module _ (pairs : List ℕ) (hears : ℕ → ℕ → Bool) (nodes : List Repeater) where
+  abbrev sameAt : ℕ → ℕ → Bool
+  sameAt i j = agree (isHeard pairs i j) (hears (at (map address nodes) i) (at (map address nodes) j))
+
+  says-all : below (λ i. below (λ j. sameAt i j) (length nodes)) (length nodes) ≡ true → Says pairs hears nodes
+  says-all e i j first second =
+      agree-same _ _
+      (below-pass (λ k. sameAt i k) (length nodes) (below-pass (λ k. below (λ l. sameAt k l) (length nodes)) (length nodes) e i first) j second)
+
+line-checked : below (λ i. below (λ j. sameAt linePairs nextInLine fourInLine i j) 4) 4 ≡ true
+unfolding below agree isHeard
+line-checked = refl
+
+pub line-says : Says linePairs nextInLine fourInLine
+line-says = says-all linePairs nextInLine fourInLine line-checked
+
+two-ways-checked : below (λ i. below (λ j. sameAt twoWaysPairs twoWays (map repeater twoWaysAddresses) i j) 5) 5 ≡ true
+unfolding below agree isHeard written inPath
+two-ways-checked = refl
+
+pub two-ways-says : Says twoWaysPairs twoWays (map repeater twoWaysAddresses)
+two-ways-says = says-all twoWaysPairs twoWays (map repeater twoWaysAddresses) two-ways-checked

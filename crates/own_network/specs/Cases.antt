@@ -1,4 +1,4 @@
--- Worked cases of whom a message reaches: a node that does not repeat, a list, hop limit 7, a destination, a failure. Assumes nothing.
+-- Worked cases of whom a message reaches: a node that does not repeat, a list, hop limit 7, a destination, a failure.
 use mathlib.Core.Bool.{true, false}
 use mathlib.Core.List.{List, [], _∷_, _++_, map}
 use Prim.Native.Nat.{ℕ, _+_}

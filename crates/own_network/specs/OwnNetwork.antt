@@ -1,5 +1,5 @@
 -- How often one message goes out on a network of which it is known who hears whom, as one record; `proofs/OwnNetwork.antt` gives it from its parts.
-use mathlib.Core.Bool.{Bool, true, not}
+use mathlib.Core.Bool.{Bool, true, false, not}
 use mathlib.Core.List.{List, [], _∷_, map, List·Memᴰ, List·Nodup}
 use mathlib.Core.Logic.{_≢_, _⊎_}
 use mathlib.Core.Option.{some}
@@ -14,7 +14,8 @@ use Rattle.bound.specs.Bound.{bound, bytesBound, terms}
 use Rattle.chains.specs.Lengths.{nodeLimit, isUnmarked}
 use Rattle.ways.specs.declared.Airtime.{Airtime}
 use Rattle.ways.specs.declared.Airtime.the-variants.{Exactly, Enough}
-use Rattle.ways.specs.Answer.{Counts}
+use Rattle.ways.specs.Answer.{isServed, ways, waysAnswer, Counts}
+use Rattle.ways.specs.Ways.{ofAll}
 use Rattle.origin.specs.declared.FreshSettings.{FreshSettings}
 use Rattle.origin.specs.Origination.{freshHeader, fresh}
 use Rattle.flood.specs.Air.{Repeater, address, canRepeat, onTheAir, bytesOnTheAir, repeaters, Nodes, Originated}
@@ -25,6 +26,7 @@ use Rattle.coverage.specs.Marks.{MarksSay}
 use Rattle.coverage.specs.Told.{Says}
 use Rattle.coverage.specs.Cases.{reportAsked, reading, repeater, nextInLine, twoWays, twoWaysAddresses, longerFirst}
 use Rattle.airtime.specs.Airtime.{airOf, airBytes, airBy, airBytesBy, sentBy, bytesSentBy}
+use Rattle.boundary.specs.Boundary.{airtimeInC}
 
 -- any nodes, and any message that origination wrote with a path
 module _ (hears : ℕ → ℕ → Bool) (nodes : List Repeater) (settings : FreshSettings) (payload : List ℕ) where
@@ -111,6 +113,17 @@ pub record OwnNetwork : Type 0 where
       → (octets hears nodes settings payload < enough → (answer ≡ Exactly (octets hears nodes settings payload))
       × ((place : ℕ) → place < length nodes → at countsNow place ≡ octetsBy hears nodes settings payload (at (map address nodes) place)))
       × (enough ≤ octets hears nodes settings payload → answer ≡ Enough)
+  -- what C is told: number 10 exactly if the hop limit is above 7; else whether the network is served; else that the number is enough, exactly if it is not
+  -- below `enough`; else the number
+  pub in-c : (pairs marks : List ℕ) (from h price growth enough places room : ℕ)
+      → let told = airtimeInC (waysAnswer pairs marks from h price growth enough places room) in
+      let number = ways pairs marks from h price growth ofAll in let so = isServed (length marks) from places room in
+      (7 < h → told ≡ record { number = 10; served = false; enough = false; value = 0 })
+      × (h ≤ 7 → so ≡ false → told ≡ record { number = 0; served = false; enough = false; value = 0 })
+      × (h ≤ 7 → so ≡ true → enough ≤ number → told ≡ record { number = 0; served = true; enough = true; value = 0 })
+      × (h ≤ 7 → so ≡ true → number < enough → told ≡ record { number = 0; served = true; enough = false; value = number })
+  -- 255 nodes are served, the originator at the last place, with a table of 65,280 bytes, and not with a byte less
+  pub served-limits : (isServed 255 254 255 65280 ≡ true) × (isServed 255 254 255 65279 ≡ false)
   -- no more is asked of room and marks than these conditions say
   pub roomy-asked : (nodes : List Repeater) (settings : FreshSettings) (payload : List ℕ)
       → let counting = repeaters (freshHeader settings (length payload)) nodes in

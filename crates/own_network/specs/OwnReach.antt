@@ -12,7 +12,7 @@ use Rattle.pdu.specs.declared.Destination.{Destination}
 use Rattle.pdu.specs.declared.Destination.the-variants.{Address}
 use Rattle.pdu.specs.declared.Header.{Header}
 use Rattle.chains.specs.Chains.{ends, Along, Chain}
-use Rattle.chains.specs.Lengths.{placesOfNodes, noChain, noNode, relays, LengthsFound}
+use Rattle.chains.specs.Lengths.{placesOfNodes, noChain, noNode, relays, areFound, LengthsFound}
 use Rattle.origin.specs.declared.FreshSettings.{FreshSettings}
 use Rattle.origin.specs.Origination.{freshHeader, fresh}
 use Rattle.decision.specs.Decision.{isForAnother, passFault}
@@ -62,6 +62,8 @@ pub record OwnReach : Type 0 where
       → (from : ℕ) → getElem? (map address nodes) from ≡ some (settings .source) → from ≢ failed
       → (before lengths : List ℕ) → LengthsFound pairs marks from failed before true lengths
       → Told hears nodes settings payload failed receptions lengths
+  -- 255 nodes are served, with the originator at the last place, and 256 are not; nor where the originator is at no node's place
+  pub found-limits : (areFound 255 254 255 ≡ true) × (areFound 256 0 256 ≡ false) × (areFound 3 3 3 ≡ false)
   -- the nodes that are left are those at the other places; all of them where no node has that place
   pub left : (nodes : List Repeater) (failed place : ℕ) (n : Repeater) → getElem? nodes place ≡ some n → place ≢ failed
       → List·Memᴰ n (remaining failed nodes)
@@ -110,6 +112,9 @@ pub record OwnReach : Type 0 where
   pub addressed-told : toldOf fourInLine (reportTo 1002) (reception 1 0 ∷ reception 2 1 ∷ []) ≡ (1001 ∷ 39 ∷ 0 ∷ []) ∷ (1002 ∷ 0 ∷ 1 ∷ reading) ∷ []
   pub addressed-ends : map (ends (relayed nextInLine (freshHeader (reportTo 1002) 1) fourInLine) (map address fourInLine) 1000) (0 ∷ 1 ∷ 2 ∷ 3 ∷ [])
       ≡ (1000 ∷ []) ∷ (1001 ∷ []) ∷ (1002 ∷ []) ∷ [] ∷ []
+  -- the pairs of the line of four, and of the two ways, say who hears whom there
+  pub line-says : Says linePairs nextInLine fourInLine
+  pub two-ways-says : Says twoWaysPairs twoWays (map repeater twoWaysAddresses)
   -- in the line of four the failure of the second node cuts off all behind it; in the two ways that of 4, at place 3, cuts off nobody: 9, at place 4, is
   -- then 3 hearings away, by 1 and 2, and not 2
   pub line-failure : map (ends (relays linePairs (replicate 4 0) 0 1) (placesOfNodes 4) 0) (0 ∷ 1 ∷ 2 ∷ 3 ∷ []) ≡ (0 ∷ []) ∷ [] ∷ [] ∷ [] ∷ []

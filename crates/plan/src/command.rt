@@ -8,6 +8,7 @@ use crate::complain_of;
 use crate::complain_use;
 use crate::say;
 use crate::say_count;
+use crate::say_once;
 use bound::Bound;
 use libc::STDOUT_FILENO;
 
@@ -116,7 +117,7 @@ fn print_parts(tries: u64, nodes: u64, hop_limit: u64, answer_nodes: u64, answer
     say(
         b"A lower hop limit helps most, then fewer tries. A repeater that need not carry the command does not count,\n",
     );
-    say(b"if its destination pass list leaves out the destination and the originator.\n");
+    say(b"if its destination pass list is on and leaves out the destination and the originator.\n");
 }
 
 fn say_sent(tries: u64) {
@@ -139,4 +140,5 @@ fn say_conditions(before: &[u8]) {
     say(
         b"every node has echo suppression on, no two nodes have the same address, and no node takes a transmission twice.\n",
     );
+    say_once();
 }

@@ -147,6 +147,12 @@ fn say_conditions(before: &[u8]) {
         b"it was originated with a path, every node has echo suppression on, the originator too, no two nodes have the same address,\n",
     );
     say(b"and no node takes a transmission twice.\n");
+    say_once();
+}
+
+// Beside the condition that no node takes a transmission twice.
+fn say_once() {
+    say(b"A radio hears each transmission once; a decoder that hands a frame over twice breaks this.\n");
 }
 
 fn say_count(number: u64, what: &[u8]) {

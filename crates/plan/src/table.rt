@@ -1,5 +1,6 @@
 // The table of bounds, a row for each number of nodes and a column for each hop limit.
 use crate::say;
+use crate::say_once;
 use bound::Bound;
 
 // Prints the bounds for 0 to 12 repeating nodes and hop limits 0 to 7.
@@ -16,7 +17,9 @@ fn print_title() {
     say(b"The report's originator and its destination do not count, also if they repeat.\n");
     say(b"The report was originated with a path, every node has echo suppression on,\n");
     say(b"the originator too, no two nodes have the same address, and no node takes a\n");
-    say(b"transmission twice.\n\n");
+    say(b"transmission twice.\n");
+    say_once();
+    say(b"\n");
     say(b"  N     h=0     h=1     h=2     h=3     h=4     h=5     h=6         h=7\n");
 }
 

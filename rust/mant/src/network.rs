@@ -7,8 +7,11 @@ use crate::Refusal;
 /// the originator. A node is its place, from 0 on. What is told holds if the
 /// report is fresh, with a path, each transmission is taken once by every node
 /// that hears its sender and by no other, and every node has echo on and an
-/// address of its own. Where transmissions are lost the report goes out no
-/// more often. A hearing that is not certain is safely told as one.
+/// address of its own. A node whose lists stop the report is not delivered it.
+/// A report with a destination is delivered to that node alone. Lists have no
+/// fault, and outputs have room. Where transmissions are lost the report goes
+/// out no more often. Tell an uncertain hearing for the counts, and leave it
+/// out for chains and failures.
 ///
 /// Gauge 0 is heard by the repeaters 1 and 2, which hear each other. Base
 /// station 3 hears both and does not repeat:
@@ -21,7 +24,8 @@ use crate::Refusal;
 /// let chains = network.chains(None);
 /// assert_eq!((chains.length(3), chains.least_hop_limit()), (Some(2), Some(1)));
 /// assert_eq!(chains.path_count(3, 1), Some(1));
-/// assert_eq!(network.chains(Some(1)).length(3), Some(2));
+/// let without = network.chains(Some(1));
+/// assert_eq!((without.length(3), without.least_hop_limit()), (Some(2), Some(1)));
 ///
 /// let mut table = [0; Network::TABLE];
 /// let times = network.transmissions(3, 1_000, &mut table)?.unwrap();
@@ -43,6 +47,7 @@ pub struct Network<'a> {
 pub struct Chains {
     lengths: [u8; Network::LIMIT],
     nodes: usize,
+    failed: usize,
 }
 
 /// How often a report goes out, or how many bytes that is, in all and from each
@@ -82,11 +87,11 @@ impl<'a> Network<'a> {
         let mut chains = Chains {
             lengths: [raw::NO_CHAIN; Self::LIMIT],
             nodes: self.marks.len(),
+            failed: failed.unwrap_or(raw::NO_NODE),
         };
         let lengths = &mut chains.lengths[..chains.nodes];
-        let failed = failed.unwrap_or(raw::NO_NODE);
         let pairs = self.hearings.as_flattened();
-        raw::chain_lengths(pairs, self.marks, self.from, failed, lengths);
+        raw::chain_lengths(pairs, self.marks, self.from, chains.failed, lengths);
         chains
     }
 
@@ -148,17 +153,23 @@ impl Chains {
         length.filter(|length| *length != raw::NO_CHAIN)
     }
 
-    /// The path count with which a node is first delivered a report of this
+    /// The smallest path count with which a node is delivered a report of this
     /// hop limit. None: it is not, as the originator never is.
     pub fn path_count(&self, node: usize, hop_limit: u8) -> Option<u8> {
         let count = self.length(node)?.checked_sub(1)?;
         (hop_limit == 7 || count <= hop_limit).then_some(count)
     }
 
-    /// The least hop limit at which every node but the originator is delivered
-    /// the report. None: no chain leads to one of them.
+    /// The least hop limit at which a chain reaches every node but the
+    /// originator. None: no chain leads to one of them. A node that has failed
+    /// does not count.
     pub fn least_hop_limit(&self) -> Option<u8> {
-        let least = raw::least_hop_limit(&self.lengths[..self.nodes]);
+        let mut lengths = self.lengths;
+        let lengths = &mut lengths[..self.nodes];
+        if let Some(failed) = lengths.get_mut(self.failed) {
+            *failed = 0;
+        }
+        let least = raw::least_hop_limit(lengths);
         (least != raw::NO_HOP_LIMIT).then_some(least)
     }
 }

@@ -98,6 +98,7 @@ fn networks() {
         (Some(4), None, None)
     );
     assert_eq!(cut.least_hop_limit(), None);
+    assert_eq!(network.chains(Some(254)).least_hop_limit(), Some(7));
     let mut table = [7; Network::TABLE];
     let times = network.transmissions(7, 256, &mut table).unwrap().unwrap();
     assert_eq!((times.total, times.each()), (255, &[1; 255][..]));
