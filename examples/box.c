@@ -83,8 +83,7 @@ static bool open_sealed(const uint8_t *pdu, MantHeader header)
     if (!done("opening", opened.number) && opened.number != MANT_NUMBER_NOT_GREATER) {
         return false;
     }
-    const uint8_t *number = pdu + header.header_length;
-    uint64_t message = (uint64_t)header.source << 32 | (uint64_t)header.pdu_id << 24 | (uint64_t)number[0] << 16 | (uint64_t)number[1] << 8 | number[2];
+    uint64_t message = (uint64_t)header.source << 32 | (uint64_t)header.pdu_id << 24 | mant_message_number(pdu, header.pdu_length).message;
     if (opened.number == MANT_DONE) {
         save();
         print_hex(header.source == BASE && header.has_destination ? "command" : "sealed report", plain, opened.length);

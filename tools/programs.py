@@ -12,6 +12,7 @@ import definitions
 
 FUNCTION = re.compile(r'^( *)(?:#\[\w+\] *)?(?:pub(?:\(\w+\))? )?(?:extern "C" )?fn (\w+)')
 CONSTANT = re.compile(r'^ *(?:pub(?:\(\w+\))? )?const (\w+)')
+PROOF = re.compile(r'proofs/(.+)/Proof\.antt')
 
 
 @dataclasses.dataclass
@@ -177,9 +178,22 @@ class Crate:
         return not any(function in callees for callees in self.calls.values())
 
 
+def follows(change):
+    """The function whose own proof a change alters, as a walk by hand that follows changed code; None where it alters something else."""
+    found = PROOF.fullmatch(change.file)
+    return found.group(1) if found else None
+
+
+def unfollowed(crate, program):
+    """The functions whose proof a program changes without their code: such a program would be refused for its proof alone."""
+    bodies = set().union(*(places(crate, change) for change in program.changes if not follows(change)))
+    return {follows(change) for change in program.changes} - {None} - {function for function, _ in bodies}
+
+
 def redefined(change):
-    """The definition or law that a change outside the code alters, as (file, name), or ('use', '') for a `use` line; None where it is neither."""
-    return None if change.file.startswith('src/') else definitions.at(change.file, change.text, change.text.index(change.old))
+    """The definition or law that a change outside the code and its own proof alters, as (file, name), or ('use', '') for a `use` line; None where it is
+    neither."""
+    return None if change.file.startswith('src/') or follows(change) else definitions.at(change.file, change.text, change.text.index(change.old))
 
 
 def altered_by(program):
@@ -195,8 +209,10 @@ def widens(change):
 
 def places(crate, change):
     """What a change alters, as (function, whether no other function's needs rest on it): a body; what is added after a promise; the promise of a
-    function that none of its crate calls; a constant, over as many lines as end in `\\`, which stands in the body of each function
+    function that none of its crate calls; a function's own proof; a constant, over as many lines as end in `\\`, which stands in the body of each function
     that names it."""
+    if function := follows(change):
+        return {(function, True)}
     if not change.file.startswith('src/'):
         followed = widens(change) if redefined(change) == ('use', '') else redefined(change) in crate.definitions.under
         return set() if followed else {(change.file, False)}

@@ -16,8 +16,9 @@ const TOP: u64 = 18446744073709551615;
 
 // The most transmissions that one fresh message with that hop limit can cause among so many repeating nodes, its own counted: 1 + N + N (N - 1) + ..
 // Its originator and its destination do not count among them, also if they repeat. That holds where the message was originated with a path, echo is on at every
-// node, the originator too, no two nodes have the same address, and none takes a transmission twice. Any numbers are answered, within 21 turns of a loop:
-// `HopRefused` for a hop limit above 7, else `TooLarge` where 64 bits do not hold the number.
+// node, the originator too, no two nodes have the same address, and none takes a transmission twice. A radio hears each transmission once; a decoder that
+// hands a frame over twice breaks that. Any numbers are answered, within 21 turns of a loop: `HopRefused` for a hop limit above 7, else `TooLarge` where 64
+// bits do not hold the number.
 // Document 01, "Checked by hand", the bound of demand 3; document 02, W-203.
 pub fn most_transmissions(nodes: u64, hop_limit: u64) -> Bound
     ensures { λ r. ⌜ r ≡ boundAnswer «hop_limit» (bound nodes «hop_limit») ⌝ }

@@ -106,8 +106,9 @@ fn narrow(size: u64) -> u16
 
 // The most transmissions that one fresh message with that hop limit can cause among so many repeating nodes, its own counted. Its originator and its
 // destination do not count among them, also if they repeat. That holds where the message was originated with a path, echo is on at every node, the
-// originator too, no two nodes have the same address, and none takes a transmission twice. Any numbers are answered: number 10 for a hop limit above 7,
-// else `too_large` where 64 bits do not hold the value. Document 01, "Checked by hand", the bound of demand 3; document 02, W-203.
+// originator too, no two nodes have the same address, and none takes a transmission twice. A radio hears each transmission once; a decoder that hands a
+// frame over twice breaks that. Any numbers are answered: number 10 for a hop limit above 7, else `too_large` where 64 bits do not hold the value.
+// Document 01, "Checked by hand", the bound of demand 3; document 02, W-203.
 #[no_mangle]
 pub extern "C" fn mant_most_transmissions(nodes: u64, hop_limit: u64) -> MantBound
     ensures { λ r. ⌜ r ≡ boundInC (boundAnswer «hop_limit» (bound nodes «hop_limit»)) ⌝ }

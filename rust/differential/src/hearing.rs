@@ -4,16 +4,13 @@ use crate::output::Output;
 use crate::same::{lists, node, wrapped, wrapped_node, Input};
 use crate::Compared;
 use differential::answer;
-use generator::{block, edition, good_block, received, room, settings_for, Random};
+use generator::{edition, mostly_good_block, received, room, settings_for, Random};
 use mant::raw;
 use reference::{hear, read, Settings};
 
 /// Compares on any settings, blocks of lists, received bytes and rooms.
 pub fn compare(random: &mut Random) -> Compared {
-    let block = match random.one_in(4) {
-        true => block(random),
-        false => good_block(random),
-    };
+    let block = mostly_good_block(random);
     let bytes = received(random);
     let shown = read(&bytes).ok();
     let settings = Settings {

@@ -6,9 +6,12 @@ use crate::same::{node, Input};
 use crate::table::answer_for;
 use crate::Compared;
 use differential::{answer, names_of, outcome};
-use generator::{edition, habits, reliable_deed, retained_records, Random, ReliableDeed};
+use generator::{
+    edition, habits, mostly_good_block, reliable_deed, retained_records, Block, Random,
+    ReliableDeed,
+};
 use mant::raw::{self, Outcome, RECORDS};
-use reference::{hear, Done, Lists, Sending, Settings, Table, MOST_PDU};
+use reference::{hear, Done, Sending, Settings, Table, MOST_PDU};
 
 /// A table in the library, in the reference, and in the wrapper where it has
 /// 16 records.
@@ -30,6 +33,15 @@ struct Asked<'a> {
     answer: raw::Answer,
     delivery: u8,
     sending: &'a Sending,
+}
+
+/// A node that hears: its settings for the library and for the reference, and
+/// its lists.
+#[derive(Debug)]
+struct Hearer<'a> {
+    at: raw::Node,
+    settings: &'a Settings,
+    block: &'a Block,
 }
 
 /// Compares a history: all that is answered and written, and every record after
@@ -79,27 +91,24 @@ impl Tables {
                 self.stepped(input, *time, (*delay, *tries), &output)
             }
             ReliableDeed::Hear(settings, received, sending, room) => {
-                let mut repeated = [0; MOST_PDU];
                 let settings = Settings {
                     edition: edition(random),
                     ..*settings
                 };
-                let heard = hear(&settings, &Lists::EMPTY, received, &mut repeated);
-                let at = node(random, &settings);
-                let library = raw::hear(at, &[], received, &mut repeated);
-                input.same("node's answer", library, answer(&heard))?;
-                let output = Output::of(random, *room);
-                if random.flag() {
-                    return self.heard_in_one(input, (at, &settings), (received, sending), &output);
-                }
-                let asked = Asked {
-                    own: settings.own_address,
-                    received,
-                    answer: library,
-                    delivery: heard.delivery,
-                    sending,
+                let hearer = Hearer {
+                    at: node(random, &settings),
+                    settings: &settings,
+                    block: &mostly_good_block(random),
                 };
-                self.heard(input, &asked, &output)
+                let input = Input {
+                    bytes: received,
+                    rest: &(input.rest, &hearer),
+                };
+                let output = Output::of(random, *room);
+                match random.flag() {
+                    true => self.heard_in_one(&input, &hearer, sending, &output),
+                    false => self.heard_apart(&input, &hearer, sending, &output),
+                }
             }
             ReliableDeed::Answer(own, received, delivery, sending, room) => {
                 let asked = Asked {
@@ -176,21 +185,50 @@ impl Tables {
         Ok(wanted)
     }
 
-    /// A node hears a PDU, and its table with it, in one call: what the
-    /// reference's node answers and leaves, and then its table.
+    /// A node hears the input's bytes, and then its table, by a call each.
+    fn heard_apart(
+        &mut self,
+        input: &Input,
+        hearer: &Hearer,
+        sending: &Sending,
+        output: &Output,
+    ) -> Answered {
+        let (received, mut repeated) = (input.bytes, [0; MOST_PDU]);
+        let Hearer {
+            at,
+            settings,
+            block,
+        } = hearer;
+        let heard = hear(settings, &block.lists(), received, &mut repeated);
+        let library = raw::hear(*at, &block.0, received, &mut repeated);
+        input.same("node's answer", library, answer(&heard))?;
+        let asked = Asked {
+            own: settings.own_address,
+            received,
+            answer: library,
+            delivery: heard.delivery,
+            sending,
+        };
+        self.heard(input, &asked, output)
+    }
+
+    /// A node hears the input's bytes, and its table with it, in one call: what
+    /// the reference's node answers and leaves, and then its table.
     fn heard_in_one(
         &mut self,
         input: &Input,
-        (at, settings): (raw::Node, &Settings),
-        (received, sending): (&[u8], &Sending),
+        hearer: &Hearer,
+        sending: &Sending,
         output: &Output,
     ) -> Answered {
         let (mut library, mut reference) = (output.clone(), output.clone());
         let mut wrapper = output.clone();
-        let sent = differential::sending(sending);
+        let (received, sent) = (input.bytes, differential::sending(sending));
+        let (settings, block) = (hearer.settings, hearer.block);
+        let at = (hearer.at, &block.0[..]);
         let (table, room) = (self.library.change(), library.room());
-        let heard = raw::hear_reliably((at, &[]), table, self.last, received, sent, room);
-        let wanted = hear(settings, &Lists::EMPTY, received, reference.room());
+        let heard = raw::hear_reliably(at, table, self.last, received, sent, room);
+        let wanted = hear(settings, &block.lists(), received, reference.room());
         input.same("node's answer", heard.answer, answer(&wanted))?;
         let (own, delivery) = (settings.own_address, wanted.delivery);
         let room = reference.room();
@@ -200,14 +238,8 @@ impl Tables {
         if let Some(table) = &mut self.wrapper {
             let last = table.last();
             let mut records = *table.records();
-            let wrapped = raw::hear_reliably(
-                (at, &[]),
-                &mut records,
-                last,
-                received,
-                sent,
-                wrapper.room(),
-            );
+            let room = wrapper.room();
+            let wrapped = raw::hear_reliably(at, &mut records, last, received, sent, room);
             input.same("once more", wrapped, heard)?;
             *table = mant::Reliable::from_records(records, wrapped.outcome.last);
         }

@@ -4,7 +4,7 @@ use crate::output::Output;
 use crate::same::{lists, node, wrapped, wrapped_node, Input};
 use crate::Compared;
 use differential::answer;
-use generator::{batch, block, edition, good_block, settings_for, Block, Random};
+use generator::{batch, edition, mostly_good_block, settings_for, Block, Random};
 use mant::{raw, Cursor};
 use reference::numbers::BATCH_SIZE;
 use reference::{hear, walk, Edition, Settings, Step, MOST_BATCH, MOST_PDU};
@@ -28,10 +28,7 @@ impl Case<'_> {
 
 /// Compares a whole walk, and steps from any cursor.
 pub fn compare(random: &mut Random) -> Compared {
-    let block = match random.one_in(4) {
-        true => block(random),
-        false => good_block(random),
-    };
+    let block = mostly_good_block(random);
     let batch = batch(random);
     let settings = Settings {
         edition: edition(random),

@@ -70,6 +70,14 @@ pub fn good_block(random: &mut Random) -> Block {
     Block(words)
 }
 
+/// A block of any kind one time in four, else one whose lists are good.
+pub fn mostly_good_block(random: &mut Random) -> Block {
+    match random.one_in(4) {
+        true => block(random),
+        false => good_block(random),
+    }
+}
+
 /// A length in a block: small, near the most values, or any.
 fn length(random: &mut Random) -> u16 {
     let (small, any) = (random.below(12) as u16, random.word());

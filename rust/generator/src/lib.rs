@@ -25,7 +25,7 @@ mod shape;
 mod table;
 
 pub use batch::batch;
-pub use block::{block, good_block, Block};
+pub use block::{block, good_block, mostly_good_block, Block};
 pub use exchange::{exchange, exchanged_pdu, levels_down, sent_run, short_exchange};
 pub use history::{deed, history, source_near, Deed, Hearing, History};
 pub use job::{damaged_job, job, random_job, DamagedJob, JobParts};

@@ -11,9 +11,9 @@
 mod modem;
 
 use mant::{
-    originate, read, Answer, Bits, Choice, Deed, EightLists, Fresh, Header, Key, ListFault, Lists,
-    Names, Node, Queue, Record, Refusal, Reliable, Sending, Stations, TwoLists, EDITION_1_2,
-    PAYLOAD_LIMIT, PDU_LIMIT,
+    message_number, originate, read, Answer, Bits, Choice, Deed, EightLists, Fresh, Header, Key,
+    ListFault, Lists, Names, Node, Queue, Record, Refusal, Reliable, Sending, Stations, TwoLists,
+    EDITION_1_2, PAYLOAD_LIMIT, PDU_LIMIT,
 };
 
 // What the box is set to.
@@ -43,7 +43,7 @@ struct Repeater {
     alarms: Reliable,
     record: Record,
     /// Of what was opened last the source, PDU ID and message number.
-    last_opened: Option<(u16, Option<u8>, [u8; 3])>,
+    last_opened: Option<(u16, Option<u8>, u32)>,
     /// The alarms that wait for a slot, a bit each, and the PDU ID that they get.
     raised: u8,
     alarm_id: u8,
@@ -152,12 +152,10 @@ impl Repeater {
         if !matches!(opened, Ok(_) | Err(Refusal::NumberNotGreater)) {
             return false;
         }
-        let sealed = &bytes[header.payload.clone()];
-        let message = Some((
-            header.source,
-            header.pdu_id,
-            [sealed[0], sealed[1], sealed[2]],
-        ));
+        let Ok(number) = message_number(bytes) else {
+            return false;
+        };
+        let message = Some((header.source, header.pdu_id, number));
         if let Ok(length) = opened {
             self.save();
             let command = header.source == BASE && header.destination.is_some();
