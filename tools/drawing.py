@@ -4,7 +4,7 @@ import math
 import layouts
 import networks
 from layouts import DISC
-from networks import kind_of
+from networks import kind_of, state_of
 
 KINDS = ('originator', 'delivered', 'out of reach', 'no chain')
 MARGIN, LEGEND, LEAST = 24, 104, 620
@@ -127,7 +127,7 @@ def sent_by(told):
 def discs(hop_limit, nodes, at):
     for node, told in nodes.items():
         kind, (x, y) = kind_of(told.length, hop_limit), at[node]
-        words = f'{node}: chain of {told.length}, {kind}' if told.length else f'{node}: {kind}'
+        words = f'{node}: chain of {told.length}, {state_of(told, hop_limit)}' if told.length else f'{node}: {kind}'
         words += f', sends it {told.times} time{"" if told.times == 1 else "s"}' if told.times is not None else '' if told.repeats else ', does not repeat it'
         light, sent = ' light' if kind in ('originator', 'delivered') else '', sent_by(told)
         yield (f'<g><title>{words}</title><circle class="{class_of(kind)}" cx="{x:.1f}" cy="{y:.1f}" r="{DISC}"/>'

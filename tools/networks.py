@@ -4,12 +4,13 @@ import re
 from typing import NamedTuple, Optional
 
 TITLE = re.compile(r'hop limit (\d), originator (\d+)')
-NODE = re.compile(r'node (\d+): (?:(the originator)|chain of (\d+) hearings?, (?:delivered with path count (\d+)|out of reach)|no chain, out of reach)'
+NODE = re.compile(r'node (\d+): (?:(the originator)|chain of (\d+) hearings?, (?:delivered with path count (\d+)(?: if its lists let it in)?|out of reach)'
+                  r'|no chain, out of reach)'
                   r'(?:; (?:(does not repeat)|sends it (\d+) times?(?:, (\d+) bytes?)?))?')
 TIMES = re.compile(r'^the report goes out (\d+) times?( or more)?.*$', re.M)
 LOST = re.compile(r'^without node (\d+) (no chain leads to|hop limit \d does not reach)((?: \d+)+)$', re.M)
 WHOLE = re.compile(rf'{TITLE.pattern}\n(?:{NODE.pattern}\n)+\d+ nodes? out of reach\n(?:the least hop limit that reaches all is \d|no hop limit reaches all)\n'
-                   rf'the report goes out .*\n(?:that is .*\n)?(?:(?:without node .*\n)+|no single failure .*\n)This holds .*\n.*\n.*\n')
+                   rf'the report goes out .*\n(?:that is .*\n)?(?:(?:without node .*\n)+|no single failure .*\n)This holds .*\n(?:.*\n){{4}}')
 COLUMNS = 'node,state,chain,path count,repeats,times sent,bytes sent,cuts off,puts out of reach'
 
 
@@ -64,11 +65,17 @@ def kind_of(length, hop_limit):
     return 'originator' if length == 0 else 'delivered' if hop_limit == 7 or length <= hop_limit + 1 else 'out of reach'
 
 
+def state_of(told, hop_limit):
+    """A node's kind; a mark also stands for lists that stop the report."""
+    kind = kind_of(told.length, hop_limit)
+    return 'delivered if its lists let it in' if kind == 'delivered' and not told.repeats else kind
+
+
 def csv(answer):
     """A row for each node, after the names of the columns; what is not told is left empty, and several addresses have spaces between them."""
     hop_limit, nodes = nodes_of(answer)
     lost = {(int(node), words.startswith('no chain')): others.strip() for node, words, others in LOST.findall(answer)}
-    rows = [(node, kind_of(told.length, hop_limit), told.length, told.path_count, 'yes' if told.repeats else 'no', told.times if told.repeats else 0,
+    rows = [(node, state_of(told, hop_limit), told.length, told.path_count, 'yes' if told.repeats else 'no', told.times if told.repeats else 0,
              told.octets if told.repeats else None if nodes[next(iter(nodes))].octets is None else 0, lost.get((node, True)), lost.get((node, False)))
             for node, told in nodes.items()]
     return '\n'.join([COLUMNS, *(','.join('' if field is None else str(field) for field in row) for row in rows), ''])

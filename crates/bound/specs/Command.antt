@@ -1,4 +1,4 @@
--- Document 02, W-210: how many times a command and its acknowledgements can go out, from the bounds of one sending of each. Assumes nothing.
+-- Document 02, W-210: how many times a command and its acknowledgements can go out, from the bounds of one sending of each.
 use Prim.Native.Nat.{ℕ, _+_, _*_}
 use Rattle.bound.specs.Bound.{bound}
 

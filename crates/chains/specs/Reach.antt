@@ -11,8 +11,8 @@ use Rattle.chains.specs.Lengths.{noChain}
 use Rattle.chains.specs.declared.Least.{Least}
 use Rattle.chains.specs.declared.Least.the-variants.{HopLimit, Unreachable}
 
--- whether a node is delivered a report of hop limit h, from 0 to 7: its shortest chain has 1 to h + 1 hearings, or any number at 7, which is never
--- lowered; the originator's has none
+-- whether a node that lets the message in is delivered it at hop limit h, from 0 to 7: its shortest chain has 1 to h + 1 hearings, or any number at 7,
+-- which is never lowered; the originator's has none
 unfoldable pub isDelivered : ℕ → ℕ → Bool
 isDelivered h value = ltb 0 value && (ltb value noChain && (eqb h 7 || leb value (h + 1)))
 

@@ -1,4 +1,4 @@
--- What the functions of crates `chains` and `ways` are told of a network besides who hears whom: which nodes do not repeat the message. Assumes nothing.
+-- What the functions of crates `chains` and `ways` are told of a network besides who hears whom: which nodes do not repeat the message.
 use mathlib.Core.List.{List}
 use mathlib.Core.Logic.{_≢_}
 use mathlib.Core.Option.{some}

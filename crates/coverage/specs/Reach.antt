@@ -1,4 +1,4 @@
--- Whom a message reaches: by chains through nodes that can repeat it, and document 02's W-208, where all nodes can. Assumes nothing.
+-- Whom a message reaches: by chains through nodes that can repeat it, and document 02's W-208, where all nodes can.
 use mathlib.Core.Bool.{Bool, _&&_, _||_}
 use mathlib.Core.List.{List, map, List·Memᴰ}
 use mathlib.Core.Logic.{_≢_, _⊎_}

@@ -2,7 +2,7 @@
 //
 // reach         reads a network on standard input and answers for a report of its first node, the originator, with the network's hop limit. Document 02,
 //               W-208, and crate `own_network`.
-// reach BYTES   says the bytes on the air too, for a fresh report of that length, 7 to 4,105
+// reach SIZE    says the bytes on the air too, for a fresh report of that length, 7 to 4,105
 mod airtime;
 mod failures;
 mod network;
@@ -32,7 +32,7 @@ fn main() {
     }
     let size = size_asked();
     if size == 0 {
-        return say_error(b"reach: BYTES, the length of the fresh report, is 7 to 4105\n");
+        return say_error(b"reach: SIZE, the length of the fresh report, is 7 to 4105\n");
     }
     ask(size);
 }

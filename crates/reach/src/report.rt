@@ -84,10 +84,11 @@ fn print_nodes(
     while place < lengths.len() {
         say(b"node ");
         say_address(addresses, place);
-        print_chain(hop_limit, lengths[place]);
+        let mute = is_mute(marks, place);
+        print_chain(hop_limit, lengths[place], mute);
         print_sent(
             air,
-            is_mute(marks, place),
+            mute,
             count_at(times, place),
             count_at(octets, place),
         );
@@ -95,7 +96,8 @@ fn print_nodes(
     }
 }
 
-fn print_chain(hop_limit: u8, length: u8) {
+// A mark also stands for lists that stop the report, so of a mute node delivery is said with that condition.
+fn print_chain(hop_limit: u8, length: u8, mute: bool) {
     if length == 0 {
         return say(b": the originator");
     }
@@ -109,6 +111,9 @@ fn print_chain(hop_limit: u8, length: u8) {
     }
     say(b", delivered with path count ");
     say_number(length as u64 - 1);
+    if mute {
+        say(b" if its lists let it in");
+    }
 }
 
 // The originator sends the report, also where it repeats nothing.
@@ -151,12 +156,14 @@ fn print_totals(hop_limit: u8, lengths: &[u8]) {
 
 fn print_conditions() {
     say(
-        b"This holds if the report is fresh, with a path and no destination. Each transmission is taken once by every node that hears its sender, and by no other.\n",
+        b"This holds if the report is fresh and has a path. Each transmission is taken once by every node that hears its sender, and by no other.\n",
+    );
+    say(b"Every node has its own address, echo suppression on and lists without fault.\n");
+    say(
+        b"A node without `-` repeats the report and has room for it (4615 bytes always suffice).\n",
     );
     say(
-        b"Every node has an address of its own, echo suppression on and lists without fault. Each without `-` repeats the report, and has room (4615 bytes always are).\n",
+        b"A node whose lists stop the report has a `-` and is not delivered it. A destination has a `-`, and only it is delivered the report.\n",
     );
-    say(
-        b"A node whose lists stop the report has a `-`, and is not delivered it. If transmissions are lost, the report goes out no more often.\n",
-    );
+    say(b"If transmissions are lost, the report goes out no more often.\n");
 }

@@ -1,4 +1,4 @@
--- Several messages in one log: fresh messages are sent, each at its time, and what their nodes repeat is mixed in any order. Assumes nothing.
+-- Several messages in one log: fresh messages are sent, each at its time, and what their nodes repeat is mixed in any order.
 use mathlib.Core.Bool.{Bool, true}
 use mathlib.Core.Option.{Option, none, some}
 use mathlib.Core.List.{List, [], _∷_, _++_, map, List·Memᴰ}

@@ -22,14 +22,14 @@ say-requires c κs = search needs
 say-address-requires : tie.Need-say-address-requires Inv-loop μ-loop
 say-address-requires c κs = search needs
 
+is-mute-requires : tie.Need-is-mute-requires Inv-loop μ-loop
+is-mute-requires c κs = search needs
+
 shared-slice-read-print-chain : tie.Need-shared-slice-read-print-chain Inv-loop μ-loop
 shared-slice-read-print-chain c = search needs
 
 print-chain-requires : tie.Need-print-chain-requires Inv-loop μ-loop
 print-chain-requires c κs = search needs
-
-is-mute-requires : tie.Need-is-mute-requires Inv-loop μ-loop
-is-mute-requires c κs = search needs
 
 count-at-requires : tie.Need-count-at-requires Inv-loop μ-loop
 count-at-requires c κs = search needs
@@ -62,9 +62,9 @@ print-nodes-spec =
     slice-aggregate-say
     say-requires
     say-address-requires
+    is-mute-requires
     shared-slice-read-print-chain
     print-chain-requires
-    is-mute-requires
     count-at-requires
     count-at-requires-2
     print-sent-requires
