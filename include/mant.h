@@ -1023,7 +1023,7 @@ bool mant_remove_source(MantSources *record, uint16_t source);
  * Memory: for the two counts of a network a table of 256 bytes a node, MANT_AIRTIME_TABLE for every network, lent for the call alone. What it holds before is
  * of no matter; afterwards it is all zeros.
  * Numbers: 10.
- * Stack: mant_chain_lengths 104, mant_least_hop_limit 8, mant_network_transmissions 45,152, mant_network_bytes 45,160, mant_most_transmissions 8,
+ * Stack: mant_chain_lengths 104, mant_least_hop_limit 8, mant_network_transmissions 45,152, mant_network_bytes 45,208, mant_most_transmissions 8,
  *     mant_most_bytes 8, mant_most_for_command 32, mant_limits 8. The two counts of a network go down once for each node of a path, 176 bytes each: at
  *     hop limits 0 to 6 they take 1,512 bytes at most.
  */

@@ -272,7 +272,7 @@ abbrev pub BytesInC : List ℕ → List ℕ → ℕ → ℕ → ℕ → ℕ → 
 BytesInC pairs marks from h size enough counts table told marksNow countsNow tableNow =
     (size ≤ 65535 → CountsInC pairs marks from h size 2 enough counts table told marksNow countsNow tableNow)
     × (65535 < size → (told ≡ airtimeInC (cond (ltb 7 h) airtime.HopRefused airtime.NotServed))
-      × (marksNow ≡ marks) × (countsNow ≡ counts) × (tableNow ≡ table))
+    × (marksNow ≡ marks) × (countsNow ≡ counts) × (tableNow ≡ table))
 
 -- a least hop limit (document 02, W-208); 8 where none reaches all
 abbrev pub leastInC : Least → ℕ

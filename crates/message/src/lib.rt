@@ -88,7 +88,10 @@ pub fn begin_hash(bytes: &[u8], number: u32) -> Running
         octets::byte(bytes, 3),
     ];
     let fixed = sha1::feed(sha1::begin(), &first);
-    let header = sha1::feed(fixed, octets::part(bytes, 4, fields::path_count_place(byte0) - 4));
+    let header = sha1::feed(
+        fixed,
+        octets::part(bytes, 4, fields::path_count_place(byte0) - 4),
+    );
     let digits = number_bytes(number);
     sha1::feed(header, &digits)
 }

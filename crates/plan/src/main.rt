@@ -152,7 +152,9 @@ fn say_conditions(before: &[u8]) {
 
 // Beside the condition that no node takes a transmission twice.
 fn say_once() {
-    say(b"A radio hears each transmission once; a decoder that hands a frame over twice breaks this.\n");
+    say(
+        b"A radio hears each transmission once; a decoder that hands a frame over twice breaks this.\n",
+    );
 }
 
 fn say_count(number: u64, what: &[u8]) {

@@ -86,12 +86,7 @@ fn print_nodes(
         say_address(addresses, place);
         let mute = is_mute(marks, place);
         print_chain(hop_limit, lengths[place], mute);
-        print_sent(
-            air,
-            mute,
-            count_at(times, place),
-            count_at(octets, place),
-        );
+        print_sent(air, mute, count_at(times, place), count_at(octets, place));
         place += 1;
     }
 }
