@@ -129,7 +129,7 @@ def check_open(words, answer):
 def said_of(node, mute, times, octets):
     """The line that `reach` prints of a node."""
     chain = 'no chain' if node.chain is None else f'chain of {counted(node.chain, "hearing")}'
-    reached = 'out of reach' if node.is_out_of_reach else f'delivered with path count {node.path_count}'
+    reached = 'out of reach' if node.is_out_of_reach else f'delivered with path count {node.path_count}' + ' if its lists let it in' * mute
     sends = '; does not repeat' if mute else f'; sends it {counted(times[node.address], "time")}, {counted(octets[node.address], "byte")}' if times else ''
     return f'node {node.address}: ' + ('the originator' if node.chain == 0 else f'{chain}, {reached}') + sends
 
@@ -148,9 +148,10 @@ def check_reach(words, answer):
                'no hop limit reaches all' if found.least_hop_limit is None else f'the least hop limit that reaches all is {found.least_hop_limit}',
                f'the report goes out {counted(times.total, "time")} on this network' if times.total else 'the report goes out 10000000 times or more',
                *(f'without node {failed} no chain leads to {" ".join(map(str, others))}' for failed, others in network.cut_off().items())]
-    kept = [line.split(',')[0] if line.startswith('the report goes out') else line for line in said
-            if not line.startswith(('that is', 'no single', 'This holds')) and 'does not reach' not in line]
-    return printed, kept[:len(printed)] + kept[len(printed) + 2:]
+    conditions = next(place for place, line in enumerate(said) if line.startswith('This holds'))
+    kept = [line.split(',')[0] if line.startswith('the report goes out') else line for line in said[:conditions]
+            if not line.startswith(('that is', 'no single')) and 'does not reach' not in line]
+    return printed, kept
 
 
 CHECKS = {name[len('check_'):]: value for name, value in list(globals().items()) if name.startswith('check_')}
