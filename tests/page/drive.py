@@ -31,11 +31,11 @@ class Browser:
         self.driver = subprocess.Popen([DRIVER, f'--port={self.port}', '--log-level=OFF'], stdout=subprocess.DEVNULL, stderr=subprocess.DEVNULL)
         options = {'args': [*ARGUMENTS, f'--window-size={width},{height}', f'--user-data-dir={self.folder.name}/profile'],
                    'binary': next(filter(None, map(shutil.which, BROWSERS))), 'prefs': {'download.default_directory': self.folder.name}}
-        self.session = ''
+        self.base = ''
         self.wait_for_driver()
         logged = {'browser': 'ALL', 'performance': 'ALL'}
         capabilities = {'alwaysMatch': {'browserName': 'chrome', 'goog:chromeOptions': options, 'goog:loggingPrefs': logged}}
-        self.session = f"/session/{self.ask('POST', '/session', {'capabilities': capabilities})['sessionId']}"
+        self.base = f"/session/{self.ask('POST', '/session', {'capabilities': capabilities})['sessionId']}"
         self.ask('POST', '/timeouts', {'script': 60000})
         self.look(width, height, dark)
         if before:
@@ -68,7 +68,7 @@ class Browser:
 
     def ask(self, method, path, body=None):
         content = json.dumps(body or {}).encode() if method == 'POST' else None
-        request = urllib.request.Request(f'http://127.0.0.1:{self.port}{self.session}{path}', content, {'Content-Type': 'application/json'}, method=method)
+        request = urllib.request.Request(f'http://127.0.0.1:{self.port}{self.base}{path}', content, {'Content-Type': 'application/json'}, method=method)
         try:
             with urllib.request.urlopen(request, timeout=120) as answer:
                 return json.load(answer)['value']
