@@ -1,4 +1,4 @@
-"""The lines that `jobs lines` prints (rust/jobs/src/lines.rs): a call of the library from Python for each, beside what the independent reading answers."""
+"""The lines that `jobs lines` prints (rust/jobs/src/lines.rs): a call of the library from Python for each, beside what the reference model returns."""
 import dataclasses
 
 import mant
@@ -158,7 +158,7 @@ CHECKS = {name[len('check_'):]: value for name, value in list(globals().items())
 
 
 def compared(line):
-    """What a line asks for, what Python answers, and what the reading does."""
+    """What a line asks for, what Python returns, and what the model does."""
     words, answer = line.rstrip('\n').split(' =', 1)
     verb, *words = words.split(' ')
     return (verb, *CHECKS[verb](words, answer.split()))

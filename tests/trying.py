@@ -1,4 +1,4 @@
-"""What the tests in Python share: a count of what they ask, small repositories and copies of this one in scratch folders, and the independent reading
+"""What the tests in Python share: a count of what they ask, small repositories and copies of this one in scratch folders, and the reference model
 (rust/reference). With it the modules in tools/ and python/ can be imported."""
 import pathlib
 import shutil
@@ -72,5 +72,5 @@ def counted(number, what):
 
 
 def reading(*words, **more):
-    """Starts the program of the independent reading, rust/jobs."""
+    """Starts the program of the reference model, rust/jobs."""
     return subprocess.Popen(['cargo', 'run', '--offline', '--release', '--quiet', '-p', 'jobs', '--', *words], cwd=TOP / 'rust', **more)

@@ -1,4 +1,4 @@
-//! Measures the library beside the Rust reading, a plain C version and memcpy,
+//! Measures the library beside the reference model, a plain C version and memcpy,
 //! and prints a Markdown table of ns for one run.
 
 mod counting;
@@ -108,7 +108,7 @@ fn main() {
     println!("\nHow the node's cost grows:\n");
     growth(&example);
     println!(
-        "\nThe Rust reading is rust/reference. memcpy copies the PDU that is read, written or repeated, or \
+        "\nThe reference model is rust/reference. memcpy copies the PDU that is read, written or repeated, or \
          every PDU of the batch, one by one, or a station's words, or the exchange that is read, or a level, or \
          each PDU that is added and then the batch that is taken, or a PDU that is retained or sent again, or one that is \
          sealed or opened. Ratios are of the best rounds."
@@ -137,7 +137,7 @@ fn growth(example: &[u8]) {
 /// The first two lines of a table.
 fn heading() {
     println!(
-        "| case | library | Rust reading | plain C | memcpy | library : plain C | library : Rust |"
+        "| case | library | model | plain C | memcpy | library : plain C | library : model |"
     );
     println!("|---|---:|---:|---:|---:|---:|---:|");
 }

@@ -1,4 +1,4 @@
-//! A built program and the reading on generated inputs.
+//! A built program and the reference model on generated inputs.
 
 use generator::Random;
 use std::io::{self, Write};
@@ -26,7 +26,7 @@ pub struct Case {
     pub input: Vec<u8>,
     /// The program's arguments.
     pub words: Vec<String>,
-    /// What the reading prints for it.
+    /// What the model prints for it.
     pub wanted: String,
     /// What is said of it where the program prints something else, a line.
     pub shown: String,
@@ -38,7 +38,7 @@ pub struct Counted {
     pub done: u64,
     /// Of them those whose text is as was asked for.
     pub such: u64,
-    /// On which the program and the reading differ.
+    /// On which the program and the model differ.
     pub differ: u64,
 }
 

@@ -1,4 +1,4 @@
-//! Generated inputs of the library's functions with the reading's answers, a
+//! Generated inputs of the library's functions with the model's results, a
 //! line each, for a wrapper in another language.
 //!
 //! A line is a verb, what is asked, `=`, and what is answered: a number, and

@@ -1,14 +1,14 @@
-//! The independent reading of document 01 beside the built programs, and asked
-//! for its answers.
+//! The reference model of document 01 beside the built programs, and asked for
+//! its results.
 //!
 //! `jobs print` prints what `relay` must print for the job on standard input.
 //! `jobs compare PROGRAM [seed [count [first]]]` relays generated jobs by the
-//! program and compares its whole text with the reading's: the seed of the
+//! program and compares its whole text with the model's: the seed of the
 //! jobs (1), how many (1,000), and the first (0), so that one can be run alone.
 //! `jobs reach PROGRAM [seed [count [first]]]` asks the program `reach` about
 //! generated networks and compares in the same way.
 //! `jobs lines SEED COUNT` prints so many generated inputs of the library's
-//! functions, with what the reading answers.
+//! functions, with what the model returns.
 
 mod compare;
 mod lines;
@@ -43,7 +43,7 @@ fn main() -> ExitCode {
     }
 }
 
-/// Prints the reading's text for the job on standard input.
+/// Prints the model's text for the job on standard input.
 fn print() -> io::Result<()> {
     let mut job = vec![];
     io::stdin().read_to_end(&mut job)?;

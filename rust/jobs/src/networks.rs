@@ -1,4 +1,4 @@
-//! The built program `reach` and the reading on generated networks.
+//! The built program `reach` and the reference model on generated networks.
 
 use crate::compare::{compare, Asked, Case, Counted};
 use generator::{network, Random};
@@ -18,7 +18,7 @@ pub fn compare_networks(asked: &Asked) -> Result<(), String> {
     );
     match differ {
         0 => Ok(()),
-        _ => Err(String::from("the program and the reading differ")),
+        _ => Err(String::from("the program and the model differ")),
     }
 }
 

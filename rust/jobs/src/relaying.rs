@@ -1,4 +1,4 @@
-//! The built program `relay` and the reading on generated jobs.
+//! The built program `relay` and the reference model on generated jobs.
 
 use crate::compare::{compare, Asked, Case, Counted};
 use generator::{damaged_job, job, random_job, Random};
@@ -15,7 +15,7 @@ pub fn compare_jobs(asked: &Asked) -> Result<(), String> {
     match differ {
         0 if such < done || asked.count < 10 => Ok(()),
         0 => Err(String::from("every job was refused, which compares little")),
-        _ => Err(String::from("the program and the reading differ")),
+        _ => Err(String::from("the program and the model differ")),
     }
 }
 

@@ -1,4 +1,4 @@
-//! A plain reading of document 01, and of document 02 as far as it is built,
+//! The reference model: document 01, and document 02 as far as it is built,
 //! written from their text alone.
 //!
 //! Nothing here is fast or clever. Each module cites the section that it reads,

@@ -1,4 +1,4 @@
-//! The reading beside the documents: the cases that 01 checks by hand, and
+//! The reference model beside the documents: the cases that 01 checks by hand, and
 //! others worked out from the sentences of 01 and 02.
 
 mod batch;

@@ -1,5 +1,5 @@
 //! 02, W-208, and how often a report goes out, by flooding one among nodes of
-//! the reading.
+//! the model.
 
 use crate::{node, ASKED};
 use reference::*;
