@@ -3,7 +3,8 @@ import re
 
 import programs
 
-HEAD = '| Crate | specs | src | proofs | wrong programs | in checks | prove, s |'
+HEAD = '| Crate | specs | src | proofs | mutants | edit files | prove, s |\n|---|---|---|---|---|---|---|\n'
+TABLE = re.compile(rf'(?<={re.escape(HEAD)})(?:\|.*\n)+')
 FUNCTION = re.compile(r'^ *(?:#\[\w+\] *)?pub (?:extern "C" )?fn \w+', re.M)
 
 
@@ -17,18 +18,17 @@ def lines(folder, pattern):
     return sum(len(file.read_text().splitlines()) for file in folder.rglob(pattern))
 
 
-def defining(top, name):
-    """The lines of a crate's definitions that are neither blank nor a comment nor name other files."""
-    texts = [file.read_text() for file in (top / 'crates' / name / 'specs').rglob('*.antt')]
-    return sum(not re.match(r'\s*(?:$|--|(?:pub )?(?:use|mod) )', line) for text in texts for line in text.splitlines())
+def defining(file):
+    """The lines of a file of definitions that are neither blank nor a comment nor name other files."""
+    return sum(not re.match(r'\s*(?:$|--|(?:pub )?(?:use|mod) )', line) for line in file.read_text().splitlines()) if file.is_file() else 0
 
 
 def row(top, name):
-    """A crate's lines of specs, src and proofs, its wrong programs, and the checks that try them."""
+    """A crate's lines of specs, src and proofs, its mutants, and the edit files that hold them."""
     crate = top / 'crates' / name
     edits = sorted((crate / 'must-fail').glob('*.edit'))
-    wrong = sum(len(programs.read(edit)[0]) for edit in edits)
-    return [lines(crate / 'specs', '*.antt'), lines(crate / 'src', '*.rt'), lines(crate / 'proofs', '*.antt'), wrong, len(edits)]
+    mutants = sum(len(programs.read(edit)[0]) for edit in edits)
+    return [lines(crate / 'specs', '*.antt'), lines(crate / 'src', '*.rt'), lines(crate / 'proofs', '*.antt'), mutants, len(edits)]
 
 
 def table(top, seconds):
@@ -36,8 +36,17 @@ def table(top, seconds):
     rows = {name: row(top, name) for name in crates(top)}
     total = [sum(column) for column in zip(*rows.values())]
     for name, counts in rows.items():
-        yield f'| `{name}` | {" | ".join(map(str, counts))} | {seconds.get(name, "")} |'
-    yield f'| all | {" | ".join(map(str, total))} | |'
+        yield f'| `{name}` | {" | ".join(map(str, counts))} | {seconds.get(name, "")} |\n'
+    yield f'| all | {" | ".join(map(str, total))} | |\n'
+
+
+def renewed(top, text, seconds):
+    """A text with its table of the crates counted anew. The seconds are those given, else those that stand there."""
+    def counted(old):
+        stand = dict(re.findall(r'^\| `(\w+)` \|.*\| (\d*) \|$', old.group(), re.M))
+        return ''.join(table(top, {**stand, **seconds}))
+
+    return TABLE.sub(counted, text)
 
 
 def public_functions(top):
@@ -57,5 +66,5 @@ def generated(top):
 def totals(top):
     """What the documents count, by the words that they have for it."""
     rows = [row(top, name) for name in crates(top)]
-    return {'crates': len(rows), 'wrong programs': sum(row[3] for row in rows), 'checks of wrong programs': sum(row[4] for row in rows),
-            'public functions': public_functions(top), 'exported functions': declared(top), 'generated inputs': generated(top)}
+    return {'crates': len(rows), 'mutants': sum(row[3] for row in rows), 'public functions': public_functions(top),
+            'exported functions': declared(top), 'generated inputs': generated(top)}
