@@ -181,7 +181,7 @@ def flooded(count, hop_limit, with_path=True, echo=True, echo_at_originator=True
 
 
 def flooding():
-    """The bound is met, and each of its conditions is needed, as README says."""
+    """The bound is met, and each of its conditions is needed, as docs/planning.md says."""
     same('met', [flooded(*pair) for pair in ((2, 3), (3, 7), (4, 3))], [mant.most_transmissions(*pair) for pair in ((2, 3), (3, 7), (4, 3))])
     same('two nodes, hop limit 3', (mant.most_transmissions(2, 3), flooded(2, 3, with_path=False), flooded(2, 3, echo=False)), (5, 7, 7))
     same('one node, hop limit 2', (mant.most_transmissions(1, 2), flooded(1, 2, echo_at_originator=False)), (2, 3))
