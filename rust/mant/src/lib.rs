@@ -97,5 +97,10 @@ fn length(written: raw::Written) -> Result<usize, Refusal> {
     Refusal::check(written.number).map(|()| written.length)
 }
 
+/// The examples of docs/rust.md, run with those of this crate.
+#[cfg(doctest)]
+#[doc = include_str!("../../../docs/rust.md")]
+struct Page;
+
 #[cfg(test)]
 mod tests;
