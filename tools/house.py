@@ -24,6 +24,14 @@ def floors(top):
     return found
 
 
+def unsupported(top):
+    """The crates that stand on one that comes later, each with that one."""
+    lines = [line.split('#')[0].partition(':') for line in (top / 'crates.txt').read_text().splitlines()]
+    names = [name.strip() for name, _, _ in lines]
+    for place, (_, _, below) in enumerate(lines):
+        yield from ((names[place], other) for other in below.split() if other in names[place:])
+
+
 def lives(top, crate):
     """Which kind of crate it is, and what its source says first."""
     folder = top / 'crates' / crate / 'src'
@@ -78,4 +86,4 @@ def picture(top):
     return '\n'.join([
         f'<svg xmlns="http://www.w3.org/2000/svg" {size} viewBox="0 0 {WIDTH} {y + 52}">', STYLE, '<rect class="paper" width="100%" height="100%"/>',
         f'<path class="roof" d="M{SIDE - 14} {ROOF}L{WIDTH / 2:.0f} 6L{WIDTH - SIDE + 14} {ROOF}z"/>'
-        f'<text class="title" x="{WIDTH / 2:.0f}" y="{ROOF - 22}">{count} crates, each on those below</text>', *parts, *legend(y + 14), '</svg>', ''])
+        f'<text class="title" x="{WIDTH / 2:.0f}" y="{ROOF - 22}">{count} crates in {len(floors(top))} floors</text>', *parts, *legend(y + 14), '</svg>', ''])
