@@ -1,72 +1,49 @@
 /*
- * mant.h: the MANT layer of ALERT2 for C, linked from libmant.a (rt staticlib mant; for boards docs/firmware.md).
+ * mant.h: the MANT layer of ALERT2 for C. Link libmant.a (rt staticlib mant; for boards docs/firmware.md).
  *
- * Every call returns a result for every input: nothing has to be checked before it. What each returns is proved of the code in the library, against the
- * definitions in the crates' specs/ folders. On processors other than x86-64 a shim in C lies between, outside the proof (docs/AUDIT.md). Six functions are in
- * this header and so outside the proof. mant_lay_lists hands the lists of a struct on to mant_lay_eight. The four mant_reliable_ ones hand the records and the
- * time of a MantReliable on to the call without that word, and keep the time that comes back. mant_meaning has the words of a number. No call keeps anything
- * between calls, allocates, or does input or output. So two may run at once unless they share memory that one of them changes. The library needs memcpy and
- * memset, and no other function of the C library.
- *
- * The groups, by what a box does:
- *
- *     Reading              what the bytes of a PDU say
+ *     Reading              the fields of a PDU
  *     Originating          a fresh PDU from settings and a payload
- *     A node               what is delivered and what is repeated, for one PDU or over a batch; its address lists
- *     Stations heard       who was heard, how often, and over how short a path
+ *     A node               what is delivered and what is repeated
+ *     Stations heard       who was heard, how often, over how short a path
  *     The transmit queue   PDUs that wait for the modem's next slot
- *     The serial exchange  a PDU between a decoder and an encoder that are two devices
- *     Reliable messages    PDUs that are sent again until they are acknowledged
- *     Sealing and opening  payloads enciphered under a key, and opened once
- *     Planning             whom a report reaches on a network, and how often it goes out there; how often it can at most; the sizes
+ *     The serial exchange  a PDU between a decoder and an encoder
+ *     Reliable messages    PDUs that are sent again until acknowledged
+ *     Sealing and opening  payloads encrypted under a key
+ *     Planning             whom a report reaches, and how often it goes out
  *
- * Each begins with what it is for, its memory, the numbers that it answers beside 0 and the stack of its calls, and ends with an example: the body of a main,
- * with mant.h, assert.h and string.h included, which the tests take out of here, compile and run as C11. C++11 can include this header too; the .name = of
- * its structs is C++20's, in the order of the struct, and g++ -Wextra warns there of each field that is not named (-Wno-missing-field-initializers). Before
- * C++20 begin with = {} and set the fields one by one. examples/box.c is a whole repeater.
+ * Each group ends with an example, the body of a main, which the tests run. examples/box.c is a whole repeater. C++11 can include this header. Designated
+ * initializers (.name =) need C++20; before that begin with = {} and set the fields.
  *
- * Documents. 01 is the scope document; 02 the requests made after it, W-201 to W-212, each told in docs/requests/W-201.md and so on; 000 the protocol's
- * edition 1.2; 003 the binary elements that serial devices send each other. The four themselves are kept apart from this repository.
+ * Every call:
+ * - is defined for every input and for arbitrary memory contents. Check nothing first.
+ * - returns a number for bad input: the first that applies, in the order of its comment. enum MantNumber has the words.
+ * - changes no output and no lent memory if that number is not 0, and sets the fields beside `number` to 0, unless its comment says otherwise.
+ * - writes output from its first byte on, and keeps the bytes behind. MANT_PDU_LIMIT bytes are room for every PDU.
+ * - takes the PDU at the start of the bytes and ignores what follows, unless its comment says otherwise. 1 to 6: there is no PDU.
+ * - keeps nothing, allocates nothing, does no input or output, and needs only memcpy and memset. Calls may run at once unless they share memory that one of
+ *   them changes.
+ * - is proved against the specs/ folders of crates/. Not proved: the six functions defined here and, off x86-64, a shim in C (docs/AUDIT.md).
  *
- * What a caller owes, since no code can look whether it holds. A pointer with a length other than 0 points to that many elements, aligned as C aligns their
- * type, which nothing else changes during the call; with length 0 it may be anything, NULL too, and is not followed. An output shares no memory with another
- * slice of the call, nor does memory that is lent. Structs are those declared here. They are passed by value and so aligned by the compiler. MantLists,
- * MantListBlock, MantStations, MantQueue, MantReliable and MantSources are passed by address, and only that of a MantLists may be NULL. A bool in a struct
- * holds 0 or 1, as C's does unless it was written by other means, such as memcpy. Addresses have 16 bits, so C cuts 66,536 to 1000; MantHeard's path count
- * has 8.
+ * The caller:
+ * - passes pointers to as many elements as the length says, aligned, and changed by nothing else during the call. With length 0 NULL will do.
+ * - lets output and lent memory overlap no other argument, and passes NULL for no struct but a MantLists.
+ * - sets a bool to 0 or 1, also by memcpy. C cuts numbers to their fields: address 66,536 arrives as 1000.
+ * - owns what a box remembers: MantStations, MantQueue, MantReliable, MantSources. Each is empty if it is all zeros.
+ * - keeps over a restart the MantSources, the last message number and the last PDU ID.
  *
- * Slices. A slice is passed as a pointer and then a length, which counts elements: bytes, the values of a list, the words of a block of lists, records. Only
- * so many elements are ever read or written.
+ * Edition. MANT_EDITION_1_1 or MANT_EDITION_1_2; any other number gets 17. In 1.2 the first of the three reserved bits after the port is the encrypted flag
+ * (W-209). A node does the same under both. Sealing is of 1.2 alone.
  *
- * Output. It changes only where a PDU, its plain payload, an exchange or what was taken from a queue is written (number 0), or, at a node, where the repeat
- * number is 0. It then begins with that, and keeps its bytes past the end of it. With every other number the output is left as it was. MANT_PDU_LIMIT
- * bytes are room for every PDU, MANT_EXCHANGE_LIMIT for every exchange that is written, MANT_QUEUE_BYTES for all that a queue holds.
+ * Stack. Bytes on x86-64 with gcc -O2; other processors: docs/firmware.md. A caller compiled by another -O takes up to 64 bytes more, and one without -O up to
+ * 256 bytes more. If the loader binds memcpy at its first call, as by default, that call takes up to 4,096 bytes more: link with -Wl,-z,now or -static to avoid
+ * it.
  *
- * Lent memory. What a box remembers lies in structs of the caller's, who lends one to each call that needs it and keeps it from call to call: MantStations,
- * MantQueue, MantReliable, MantSources. Each is empty when it is all zeros. With a refusal nothing in it changes. Every
- * call is defined for arbitrary memory contents: each group says what it returns for malformed memory. A block of address lists is lent too. Only laying
- * writes it, also when a list has a fault. Over a restart a box must keep the record, and beside it what it counts itself, the message number and the PDU ID
- * that it used last. The rest may begin empty again, and lists are laid again.
- *
- * Edition. In edition 1.1 of the protocol the three bits after the port are one reserved number; in 1.2 the first of them is the encrypted flag
- * (document 02, W-209). The edition is a number, MANT_EDITION_1_1 or MANT_EDITION_1_2. It is a parameter of mant_read and mant_write_again, and a setting of
- * a fresh PDU and of a node. Any other number is refused with 17 before all else is looked at, also one that would be 11 or 12 if it were cut to fewer bits.
- * A node answers and repeats the same, byte for byte, under both. Paths, stations, exchanges, queues and retained PDUs show none of these bits, an
- * acknowledgement has them clear, and sealing is of 1.2 alone, so these take no edition.
- *
- * Stack. Bytes below the caller's stack pointer, return address included: the most of the calls that tests/stack.c tries of each. tests/run_boundary measures
- * them, compiled by gcc -O2, and fails where one is above its limit (docs/PERFORMANCE.md) or more than 64 bytes from the figure here. No way through the
- * library's code takes more than that limit, counted in its disassembly, apart from what the C library's two functions take. Two things come on top,
- * measured there too. For its arguments a caller compiled by another -O takes up to 64 bytes more, and one without -O up to 256 bytes more. And where the
- * loader binds memcpy and its like at their first call, as it does unless told otherwise, that call takes up to 4,096 bytes more: link with
- * -Wl,-z,now or -static where that is too much. All this is of x86-64; docs/firmware.md has the figures of other processors.
- *
- * Numbers. Every refusal has one: enum MantNumber below; mant_meaning, at the end, gives its words to a program.
+ * Documents 000 to 003, 01 and 02 are not in this repository; docs/requests has W-201 to W-212, the requests of 02.
  */
 #ifndef MANT_H
 #define MANT_H
 
-/* The processors on which the library is tested. docs/firmware.md says how to link it on each. */
+/* Tested processors; docs/firmware.md says how to link on each. */
 #if defined(__BYTE_ORDER__) && __BYTE_ORDER__ != __ORDER_LITTLE_ENDIAN__
 #error "libmant is tested on little-endian processors only"
 #elif defined(__linux__) && ((defined(__x86_64__) && defined(__LP64__)) || (defined(__aarch64__) && defined(__LP64__)) || \
@@ -85,7 +62,7 @@
 extern "C" {
 #endif
 
-/* Those that begin with JOB are given by the program relay only. */
+/* The JOB numbers come from the program relay only. */
 enum MantNumber {
     MANT_DONE = 0,                          /* done */
     MANT_TOO_SHORT = 1,                     /* too short: every PDU has 6 bytes or more */
@@ -149,21 +126,20 @@ enum MantNumber {
     MANT_ALREADY_ENCRYPTED = 88             /* its encrypted bit is already set */
 };
 
-/* No number: what delivery and repeat hold in a step that has no answer, MANT_ENDED. */
+/* Both numbers of a step without an answer. */
 #define MANT_NO_NUMBER 255
 
-/* The editions as numbers; no other number is one. */
 #define MANT_EDITION_1_1 11
 #define MANT_EDITION_1_2 12
 
-/* Holds each struct to its size in the library. Where size_t has 4 bytes, a struct that holds one is smaller. */
+/* Each struct has its size in the library. Where size_t has 4 bytes, one that holds it is smaller. */
 #ifdef __cplusplus
 #define MANT_SIZE(type, size) static_assert(sizeof(size_t) != 8 || sizeof(type) == (size), #type " is laid out otherwise in the library")
 #else
 #define MANT_SIZE(type, size) _Static_assert(sizeof(size_t) != 8 || sizeof(type) == (size), #type " is laid out otherwise in the library")
 #endif
 
-/* What writing answers: number 0 and how many bytes were written, or the refusal's number and length 0. */
+/* What was written: 0 and the length in bytes, or a number. */
 typedef struct MantWritten {
     uint8_t number;
     size_t length;
@@ -172,29 +148,27 @@ MANT_SIZE(MantWritten, 16);
 
 /* ---- Reading ----
  *
- * What the bytes of a PDU say: each field of its header, its path, who sent it last, where its payload lies; and the PDU written again from that.
  * Memory: none.
  * Numbers: 17, 1 to 6; in writing again also 14.
  * Stack: mant_read 176, mant_path_address 136, mant_path_has 136, mant_write_again 232.
  */
 
-/* Sizes in bytes; the path's in addresses. */
+/* In bytes; the path in addresses. */
 #define MANT_FIXED_LENGTH 6
 #define MANT_PAYLOAD_LIMIT 4095
 #define MANT_PATH_LIMIT 255
 #define MANT_HEADER_LIMIT 520
 #define MANT_PDU_LIMIT 4615
 
-/* The header of a PDU, in the order of its bits. A destination, PDU ID or path count that the PDU does not have is 0. With a number other than 0
-   every field after it is 0 or false. */
+/* A header. A destination, PDU ID or path count that the PDU lacks is 0. */
 typedef struct MantHeader {
-    uint8_t number;           /* 0; else 17, or 1 to 6 */
+    uint8_t number;
     uint8_t protocol;         /* 0 best efforts, 1 reliable */
     bool time_stamp_request;
     bool path_bit;
-    bool has_destination;     /* without one the PDU is for everyone */
+    bool has_destination;     /* false: for everyone */
     uint8_t port;
-    bool has_encrypted;       /* false under edition 1.1, which has no encrypted flag; `encrypted` is false then */
+    bool has_encrypted;       /* false under edition 1.1; `encrypted` is false then */
     bool encrypted;
     uint8_t reserved;         /* 0 to 3; under edition 1.1 all three bits, 0 to 7 */
     bool ack;
@@ -205,26 +179,23 @@ typedef struct MantHeader {
     uint16_t destination;
     uint8_t pdu_id;
     uint8_t path_count;
-    bool has_last_sender;     /* false: the PDU has no path bit, so who sent it last is unknown */
-    uint16_t last_sender;     /* who it was heard from: the last path address, or the source if the path is empty; 0 where it is unknown */
-    size_t header_length;     /* the payload begins here */
-    size_t pdu_length;        /* header and payload; the next PDU of a batch begins here */
+    bool has_last_sender;     /* false: no path bit, so the last sender is unknown */
+    uint16_t last_sender;     /* the last path address, or the source if the path is empty; 0 if unknown */
+    size_t header_length;     /* where the payload begins */
+    size_t pdu_length;        /* where the next PDU of a batch begins */
 } MantHeader;
 MANT_SIZE(MantHeader, 40);
 
-/* The header of the PDU at the start of the bytes as the edition shows it, and its last sender; 17 for an edition that is none, and then the number, 1
-   to 6, of why there is no PDU there. Bytes after the PDU are not looked at. */
+/* Reads the header of a PDU under an edition. Refusals: 17, then 1 to 6. */
 MantHeader mant_read(uint64_t edition, const uint8_t *bytes, size_t bytes_length);
 
-/* The address at a place of the path of the PDU at the start of the bytes, the first at 0. Answers 0 past the last one and where there is no PDU;
-   an address can be 0 too, so ask mant_read for path_count. */
+/* The path address at a place, the first at 0; 0 past the last and without a PDU. An address can be 0 too: mant_read gives path_count. */
 uint16_t mant_path_address(const uint8_t *bytes, size_t bytes_length, size_t place);
 
-/* Whether an address is anywhere in the path of the PDU at the start of the bytes. Without a path none is, nor where there is no PDU. */
+/* Whether the path holds an address; false without a path or a PDU. */
 bool mant_path_has(const uint8_t *bytes, size_t bytes_length, uint16_t address);
 
-/* Writes the PDU at the start of the bytes again, from what reading shows of it under the edition: the same bytes under both. Answers 17 for an edition
-   that is none, 1 to 6 where there is no PDU, 14 where the output is too short. Leaves the output alone unless the number is 0. */
+/* Writes a PDU again from its fields: the same bytes. Refusals: 17, 1 to 6, 14. */
 MantWritten mant_write_again(uint64_t edition, const uint8_t *bytes, size_t bytes_length, uint8_t *output, size_t output_length);
 
 /* Example: a report of gauge 1000, heard from repeater 2000.
@@ -240,31 +211,28 @@ MantWritten mant_write_again(uint64_t edition, const uint8_t *bytes, size_t byte
 
 /* ---- Originating ----
  *
- * A fresh PDU, as a gauge or a base sends it: from settings and a payload.
  * Memory: none.
  * Numbers: 17, 10 to 13, 16, 14.
  * Stack: mant_originate 80.
  */
 
-/* What is asked of a fresh PDU. Edition, hop limit and port are wider than they need be, so that 263 arrives as 263 and is refused. An edition that
-   is not set is 0, and refused with 17. */
+/* Settings of a fresh PDU. Edition, hop limit and port are wide, so that 263 arrives as 263 and is refused. An edition not set is 0, and gets 17. */
 typedef struct MantFresh {
     uint64_t edition;         /* MANT_EDITION_1_1 or MANT_EDITION_1_2 */
     uint16_t source;
-    bool has_destination;     /* false: for everyone, and `destination` does not count */
+    bool has_destination;     /* false: for everyone, and `destination` is ignored */
     uint16_t destination;
-    uint64_t hop_limit;       /* 0 to 7; 7 sets no limit */
+    uint64_t hop_limit;       /* 0 to 7; 7 is never lowered */
     uint64_t port;            /* 0 to 15 */
     bool time_stamp_request;
-    bool with_path;           /* every node that repeats the PDU adds its address */
-    bool reliable;            /* needs a destination */
-    uint8_t pdu_id;           /* written for reliable service only */
-    bool encrypted;           /* the payload is encrypted already: sets the flag, which edition 1.1 lacks; ask for no time stamp then */
+    bool with_path;           /* each node that repeats it adds its address */
+    bool reliable;            /* protocol 1; needs a destination */
+    uint8_t pdu_id;           /* written if reliable */
+    bool encrypted;           /* the payload is encrypted already; ask for no time stamp then */
 } MantFresh;
 MANT_SIZE(MantFresh, 40);
 
-/* Writes a fresh PDU with this payload. Answers 17, 10 to 13, 16 or 14, the first in this order that applies, where it can't. Leaves the output alone
-   unless the number is 0. */
+/* Writes a fresh PDU with this payload. Refusals: 17, 10 to 13, 16, 14. */
 MantWritten mant_originate(MantFresh settings, const uint8_t *payload, size_t payload_length, uint8_t *output, size_t output_length);
 
 /* Example: a report for everyone, which may be repeated three times in a row.
@@ -280,63 +248,50 @@ MantWritten mant_originate(MantFresh settings, const uint8_t *payload, size_t pa
 
 /* ---- A node ----
  *
- * What is delivered and what is repeated at a box, for one PDU (mant_hear) or for PDUs that lie back to back (mant_step). A node is its settings, a MantNode,
- * and its address lists. No call remembers what was delivered: the same PDU heard by two ways is delivered twice, and repeated twice, unless its path shows
- * that this node had it. If that matters, the box remembers it.
- * Memory: a block of address lists that the caller keeps, or none. A node has eight lists, two of each kind, such as one for the dry season and one for
- *     floods (document 02, W-211). A block is one slice of uint16_t words: first the eight lengths in the order of enum MantListPlace, then the values of the
- *     eight lists in the same order, with nothing between them. There are three ways to give a node its lists:
- *     1. No block. Pass NULL and 0: all eight lists are empty.
- *     2. A block laid once, at set-up. Describe the lists in a MantLists. mant_lay_lists writes them to a MantListBlock, which is MANT_LIST_WORDS words or
- *        2,080 bytes. Lists of any length can be laid. One of more than MANT_LIST_LIMIT values has fault 22, and has it in the block too. That includes a
- *        list of 65,536 values, a length that no word holds.
- *     3. A constant block, written with the array designators of C99. C++ has none, so lay the lists there. A length that is not named is 0:
- *            static const uint16_t lists[] = {[MANT_SOURCE_PASS_FIRST] = 2, [MANT_LIST_VALUES] = 1001, 1999};
- *        A wrong length gives every later list the wrong values, and may give no fault. So lay the lists unless they must be a constant.
- *     Every slice is a block. A length that lies past the end of the slice is 0, and a list ends at the latest where the slice ends. A block of zeros holds
- *     eight empty lists. The calls that hear check all eight lists each time, whatever is chosen. Only laying changes a block.
- * Numbers: for delivery and repeating alike 17, 20 to 22, 1 to 6, 30, 42, 31 to 34 and 40; for delivery alone 35 and 39; for repeating alone 36 to 38 and
- *     41; for a batch above the size limit 54.
+ * No call remembers a PDU: one that arrives by two ways is delivered and repeated twice, unless its path shows that this node had it.
+ * Memory: a block of address lists, or none. A node has eight lists, two of each kind (W-211). A block is a slice of uint16_t: eight lengths in the order of
+ *     enum MantListPlace, then the values of the lists back to back. Pass NULL and 0 for empty lists, or lay a MantLists once with mant_lay_lists. C can also
+ *     write a constant, but a wrong length there shifts every later list, often without a fault:
+ *         static const uint16_t lists[] = {[MANT_SOURCE_PASS_FIRST] = 2, [MANT_LIST_VALUES] = 1001, 1999};
+ *     Every slice is a block: a length past its end is 0, and a list ends where it ends. The calls that hear check all eight lists each time.
+ * Numbers: both 17, 20 to 22, 1 to 6, 30, 42, 31 to 34, 40; delivery 35, 39; repeat 36 to 38, 41; a batch 54.
  * Stack: mant_change_over 8, mant_list_holds 8, mant_list_fault 64, mant_lay_lists 160, mant_hear 288, mant_step 352.
  */
 
-/* Values in a list, words in a block that lists are laid into, bytes in a batch. */
+/* Values in a list, words in a MantListBlock, bytes in a batch. */
 #define MANT_LIST_LIMIT 128
 #define MANT_LIST_WORDS 1040
 #define MANT_BATCH_LIMIT 16384
 
-/* Which of a kind's two lists a node reads. Any other number chooses none, as 0 does. The fields of MantNode have 8 bits, so C cuts a number above 255 that
-   is assigned to them: 257 arrives as 1 and chooses the first list. mant_change_over sees the whole number. */
+/* Which of a kind's two lists a node uses. Any other number chooses none. The fields of MantNode have 8 bits: 257 arrives as 1. */
 enum MantChoice {
     MANT_NO_LIST = 0,
     MANT_FIRST_LIST = 1,
     MANT_SECOND_LIST = 2
 };
 
-/* What a node is set to. Begin with MANT_NODE and change what differs. In a struct that is initialized otherwise, what is not set is 0 or off, and edition 0
-   is refused with 17. Each kind of list has a choice of its own. A pass list that is chosen and empty passes nothing. If no list of a kind is chosen, that
-   kind is off and stops nothing. */
+/* Settings of a node. Begin with MANT_NODE; an edition not set gets 17. If no list of a kind is chosen, that kind stops nothing. A pass list that is chosen and
+   empty passes nothing. */
 typedef struct MantNode {
-    uint64_t edition;         /* MANT_EDITION_1_1 or MANT_EDITION_1_2 */
-    uint16_t own;             /* its address */
-    bool echo;                /* drop a PDU whose path holds the own address, or whose source it is */
+    uint64_t edition;
+    uint16_t own;
+    bool echo;                /* drop a PDU whose path holds the own address (30) or whose source it is (42) */
     bool repeating;
-    uint8_t source_pass;      /* a MantChoice, as the three below */
+    uint8_t source_pass;      /* a MantChoice, as in the next three */
     uint8_t source_reject;
     uint8_t destination_pass;
     uint8_t destination_reject;
 } MantNode;
 MANT_SIZE(MantNode, 16);
 
-/* Initializes the node of an address: edition 1.2, echo and repeating on, no list chosen. In C++ the address is a constant or a uint16_t. */
+/* A node with echo and repeating on and no list chosen. In C++ the address is a constant or a uint16_t. */
 #define MANT_NODE(own) {MANT_EDITION_1_2, (own), true, true, MANT_NO_LIST, MANT_NO_LIST, MANT_NO_LIST, MANT_NO_LIST}
 
-/* Returns the same node with all four kinds set to one choice, to change over between the first lists and the second by one setting. A number other than 1
-   and 2 chooses no list, also one that would be 1 or 2 if it were cut to fewer bits, such as 257. A kind that was off is set too, and a pass list that is
-   then chosen and empty passes nothing. So give a pass list that is to stop nothing the range 0 to 65,535. */
+/* Sets all four kinds to one choice, also a kind that was off. Any number but 1 and 2, also 257, chooses none. Give a pass list that is to stop nothing the
+   range 0 to 65,535. */
 MantNode mant_change_over(MantNode node, uint64_t choice);
 
-/* The places of the eight lists, in the order in which they are checked and in which they lie in a block: kind by kind, first before second. */
+/* The eight lists, in the order in which they are checked and lie in a block. */
 enum MantListPlace {
     MANT_SOURCE_PASS_FIRST = 0,
     MANT_SOURCE_PASS_SECOND = 1,
@@ -346,10 +301,10 @@ enum MantListPlace {
     MANT_DESTINATION_PASS_SECOND = 5,
     MANT_DESTINATION_REJECT_FIRST = 6,
     MANT_DESTINATION_REJECT_SECOND = 7,
-    MANT_LIST_VALUES = 8      /* where the values begin in a block; in a MantListFault: no list */
+    MANT_LIST_VALUES = 8      /* where values begin in a block; in a MantListFault: no list */
 };
 
-/* A list: low, high, low, high and so on, both ends included, in any order; overlaps are allowed. The length counts values. */
+/* Low, high, low, high and so on, both ends included, in any order, overlaps allowed. The length counts values. */
 typedef struct MantList {
     const uint16_t *values;
     size_t length;
@@ -362,7 +317,7 @@ typedef struct MantTwoLists {
 } MantTwoLists;
 MANT_SIZE(MantTwoLists, 32);
 
-/* The lists of a node, two of each kind, as mant_lay_lists takes them. Those that are not set are empty. */
+/* The lists of a node. Those not set are empty. */
 typedef struct MantLists {
     MantTwoLists source_pass;
     MantTwoLists source_reject;
@@ -371,33 +326,33 @@ typedef struct MantLists {
 } MantLists;
 MANT_SIZE(MantLists, 128);
 
-/* Room for eight laid lists. Pass `words` and MANT_LIST_WORDS to the calls that hear. */
+/* Room for eight laid lists. The calls that hear take `words` and MANT_LIST_WORDS. */
 typedef struct MantListBlock {
     uint16_t words[MANT_LIST_WORDS];
 } MantListBlock;
 MANT_SIZE(MantListBlock, 2080);
 
-/* What is wrong with the lists of a block. */
+/* The first fault of a block's lists. */
 typedef struct MantListFault {
-    uint8_t number;           /* of the first list that has a fault: 22, 21 or 20, the first that applies; 0 if none has one */
-    uint8_t list;             /* which list that is, a MantListPlace, 0 to 7; MANT_LIST_VALUES, 8, if none has a fault */
+    uint8_t number;           /* 22, 21 or 20 of the first list with a fault; else 0 */
+    uint8_t list;             /* which list, a MantListPlace; MANT_LIST_VALUES if none */
 } MantListFault;
 MANT_SIZE(MantListFault, 2);
 
-/* What a node answers for one PDU. Places count from the PDU's first byte. */
+/* A node's decision on one PDU. Places count from the PDU's first byte. */
 typedef struct MantAnswer {
     uint8_t delivery;         /* 0: delivered; else why not */
     uint8_t repeat;           /* 0: repeated; else why not */
-    bool has_last_sender;     /* false: who sent it last is unknown: no path bit, or the PDU was not read */
-    uint16_t last_sender;     /* who the PDU was heard from: the last path address, or the source if the path is empty; 0 where it is unknown */
-    size_t delivered_place;   /* where the payload lies in the received bytes; 0 where nothing is delivered */
-    size_t delivered_length;  /* 0 where nothing is delivered, and for an empty payload */
-    size_t repeated_length;   /* how many bytes were written to the output; 0 where nothing is repeated */
-    size_t taken;             /* where the next PDU begins in the received bytes; 0 where this one was not read: with 17, 20 to 22 and 1 to 6 */
+    bool has_last_sender;     /* false: no path bit, or no PDU was read */
+    uint16_t last_sender;     /* who sent it last, as in MantHeader */
+    size_t delivered_place;   /* of the payload; 0 if not delivered */
+    size_t delivered_length;  /* 0 if not delivered */
+    size_t repeated_length;   /* bytes written to the output; 0 if not repeated */
+    size_t taken;             /* where the next PDU begins; 0 if none was read: with 17, 20 to 22, 1 to 6 */
 } MantAnswer;
 MANT_SIZE(MantAnswer, 40);
 
-/* Where a walk over a batch has come to. A walk begins with place 0 and not ended. */
+/* A place in a batch. A walk begins with {0, false}. */
 typedef struct MantCursor {
     size_t place;
     bool ended;
@@ -405,12 +360,12 @@ typedef struct MantCursor {
 MANT_SIZE(MantCursor, 16);
 
 enum MantKind {
-    MANT_ANSWERED = 0,        /* the answer for the PDU at the cursor, and the cursor of the next */
-    MANT_ENDED = 1,           /* no more PDU, and so no answer: its numbers are MANT_NO_NUMBER, the rest of it is 0 */
-    MANT_REFUSED = 2          /* the batch is above 16,384 bytes; both numbers are 54, the rest of the answer is 0 */
+    MANT_ANSWERED = 0,        /* the answer for the PDU at the cursor, and the next cursor */
+    MANT_ENDED = 1,           /* no PDU left; both numbers are MANT_NO_NUMBER */
+    MANT_REFUSED = 2          /* the batch is too long; both numbers are 54 */
 };
 
-/* What one step of a walk finds. With kinds 1 and 2 `next` is the cursor given, ended. */
+/* One step of a walk. With kinds 1 and 2 `next` is the given cursor, ended, and the rest of the answer is 0. */
 typedef struct MantStep {
     uint8_t kind;
     MantAnswer answer;
@@ -418,15 +373,13 @@ typedef struct MantStep {
 } MantStep;
 MANT_SIZE(MantStep, 64);
 
-/* Whether an address is in some range of one list. The slice is the list's values alone, not a block. An empty list holds none; a last value without a
-   partner is no range. */
+/* Whether a range of one list holds an address. `list` is its values, not a block. A last value without a partner is no range. */
 bool mant_list_holds(const uint16_t *list, size_t list_length, uint16_t address);
 
-/* What is wrong with the lists of a block: the number of the first of the eight that has a fault, and which list that is. */
+/* Checks the lists of a block. */
 MantListFault mant_list_fault(const uint16_t *lists, size_t lists_length);
 
-/* The library's own call for laying. It takes the block as a pointer to MANT_LIST_WORDS words, and each list as a pointer and a length. Call mant_lay_lists
-   instead. */
+/* Used by mant_lay_lists. Call that instead. */
 MantListFault mant_lay_eight(uint16_t block[MANT_LIST_WORDS], const uint16_t *source_pass_first, size_t source_pass_first_length,
                              const uint16_t *source_pass_second, size_t source_pass_second_length, const uint16_t *source_reject_first,
                              size_t source_reject_first_length, const uint16_t *source_reject_second, size_t source_reject_second_length,
@@ -434,10 +387,9 @@ MantListFault mant_lay_eight(uint16_t block[MANT_LIST_WORDS], const uint16_t *so
                              size_t destination_pass_second_length, const uint16_t *destination_reject_first, size_t destination_reject_first_length,
                              const uint16_t *destination_reject_second, size_t destination_reject_second_length);
 
-/* Lays lists of any length into a block, and returns what mant_list_fault returns for the block. If `lists` is NULL, it lays eight empty lists. With number 0
-   the block holds exactly these lists, and the originals are no longer needed. With another number the block is written too. The calls that hear then give
-   that number, unless 17, 54 or the end of a walk comes first. Of a list of more than MANT_LIST_LIMIT values the block holds the first MANT_LIST_LIMIT + 1,
-   so that it still has fault 22. Words behind the values are kept as they were. The block shares no memory with a list. */
+/* Lays lists of any length into a block, and returns what mant_list_fault returns for it. NULL stands for eight empty lists. With number 0 the block holds
+   exactly these lists, and the originals are no longer needed. With another number it is written too. Of a list above MANT_LIST_LIMIT one value more is laid,
+   so that it keeps fault 22. Words behind the values stay. */
 static inline MantListFault mant_lay_lists(MantListBlock *block, const MantLists *lists)
 {
     static const MantLists empty = {{{NULL, 0}, {NULL, 0}}, {{NULL, 0}, {NULL, 0}}, {{NULL, 0}, {NULL, 0}}, {{NULL, 0}, {NULL, 0}}};
@@ -449,34 +401,23 @@ static inline MantListFault mant_lay_lists(MantListBlock *block, const MantLists
                           l->destination_reject.first.length, l->destination_reject.second.values, l->destination_reject.second.length);
 }
 
-/* What a node answers for the PDU at the start of the received bytes: a number for delivery and one for repeating. 17, faults of the lists (20 to 22),
-   of reading (1 to 6), 30, 42, 31 to 34 and 40, the first of them in this order, are given as both, and nothing is delivered then. All eight lists are
-   checked, as by mant_list_fault; 31 to 34 are given by those that are chosen, 33 and 34 to no PDU without a destination. With echo on, 30 is given
-   where the path holds the own address, and 42 where the source is the own address, with the path bit or without (document 02, W-203); with echo off,
-   neither. 40 is given where the PDU would be repeated and the output is too short for that. Else delivery is 39, 35 or 0, and repeating 41, 36, 37, 38
-   or 0, the first in this order; so a PDU without a destination can be both delivered and repeated.
-
-   The delivered payload is the delivered_length bytes from received + delivered_place on. With length 0 there are none, and that place may be the end of
-   the received bytes. The repeated PDU is written to the output where the repeat number is 0; with any other the output is left alone. It is the received
-   one with a hop limit that is one lower, but 7 stays 7, and with the path bit the own address behind the others, which makes it 2 bytes longer: room
-   for received_length + 2 bytes is enough. The last sender is told with every number but 17 and those of the lists and of reading, so also where the PDU
-   is dropped (document 02, W-205). */
+/* Decides what a node does with a PDU: a number for delivery and one for repeating.
+   - Both are the first of these that applies: 17, 20 to 22, 1 to 6, 30, 42, 31 to 34, 40. With echo off there is no 30 and no 42 (W-203). The lists chosen give
+     31 to 34, and 33 and 34 only to a PDU with a destination. 40: the PDU would be repeated.
+   - Else delivery is 39, 35 or 0, and repeat is 41, 36, 37, 38 or 0. A PDU without a destination can be both delivered and repeated.
+   The output is written only if repeat is 0. It gets the PDU with the hop limit one lower, but 7 stays 7, and with the path bit the own address at the end of
+   the path. Room for received_length + 2 bytes is enough. The last sender is given for every PDU that was read, also if it is dropped (W-205). */
 MantAnswer mant_hear(MantNode node, const uint16_t *lists, size_t lists_length, const uint8_t *received, size_t received_length, uint8_t *output,
                      size_t output_length);
 
-/* One step of the walk over PDUs that lie back to back: what mant_hear answers for the PDU at the cursor, whose first byte is
-   batch[cursor.place], and the cursor of the next. After 17, a list fault or a PDU that can't be read the next cursor has ended, at the same
-   place. Any cursor may be given; one past the end, or one that has ended, gets MANT_ENDED. A batch over the size limit gets MANT_REFUSED at every
-   cursor, so go on only while the kind is MANT_ANSWERED. 17 comes before that: under an edition other than 11 and 12 a cursor
-   with a byte left gets 17, and the next one MANT_ENDED. The output is changed as by mant_hear, and left alone with kinds 1 and 2.
-
-   The PDU that a step s answered began at s.next.place - s.answer.taken, also where taken is 0. The places in the answer count from there: a delivered
-   payload begins at batch + (s.next.place - s.answer.taken) + s.answer.delivered_place. */
+/* One step over PDUs back to back: mant_hear for the PDU at batch[cursor.place], and the next cursor. Go on while the kind is MANT_ANSWERED. After 17, a list
+   fault or 1 to 6 the next cursor has ended, at the same place. A cursor that has ended or has no byte left gets MANT_ENDED. A batch above MANT_BATCH_LIMIT
+   gets MANT_REFUSED at every cursor, but with an unknown edition 17.
+   The PDU of a step s began at s.next.place - s.answer.taken, and the places in its answer count from there. */
 MantStep mant_step(MantNode node, const uint16_t *lists, size_t lists_length, const uint8_t *batch, size_t batch_length, MantCursor cursor,
                    uint8_t *output, size_t output_length);
 
-/* Example: gauges 1000 and 3000 report to node 2000. In the dry season its lists stop gauge 1000. In the flood season it walks over both reports, and its
-   lists pass that of gauge 1000 alone.
+/* Example: gauges 1000 and 3000 report to node 2000. Its lists stop gauge 1000 in the dry season, and pass it alone in the flood season.
 
        const uint16_t dry[] = {1001, 1999}, flood[] = {1000, 1999}, all[] = {0, 65535};
        const MantLists wanted = {.source_pass = {{dry, 2}, {flood, 2}}, .destination_pass = {{all, 2}, {all, 2}}};
@@ -506,87 +447,75 @@ MantStep mant_step(MantNode node, const uint16_t *lists, size_t lists_length, co
 
 /* ---- Stations heard ----
  *
- * Which stations a box hears (document 02, W-201): how many PDUs were read from each, how many of them echo dropped, its shortest path count.
- * Memory: a MantStations that the caller lends, for MANT_STATION_LIMIT stations. It is empty if its first word is 0, whatever stands behind it. The first
- *     word is how many are held; then come four words for each station, by rising address: its address, the PDUs read from it, those of them that echo
- *     dropped, and one more than its shortest path count, 0 while that is absent. A first word above 128 counts as 128. Where a call changes the table it
- *     writes the first word and the words of the stations then held, and keeps those behind them; where it does not, no word changes. In malformed memory
- *     stations are held and listed as they stand there. By address they are looked for as if the addresses rose, so where they do not, one that stands there
- *     may not be found.
+ * Memory: a MantStations (W-201). Its first word is how many stations are held. Four words for each follow, by rising address: the address, PDUs read, those
+ *     that echo dropped, and one more than the shortest path count, or 0. Words behind them stay. In malformed memory a first word above 128 counts as 128, and
+ *     if the addresses do not rise, one may not be found.
  * Numbers: 55, 56.
- * Stack: mant_stations_held 8, mant_station_at 8, mant_station_of 40, mant_remove_station 40, mant_count_heard 72,
- *     mant_count_answer 72, mant_hear_and_count 352.
+ * Stack: mant_stations_held 8, mant_station_at 8, mant_station_of 40, mant_remove_station 40, mant_count_heard 72, mant_count_answer 72,
+ *     mant_hear_and_count 352.
  */
 
 #define MANT_STATION_LIMIT 128
 
-/* A table's memory: how many stations are held, and four words for each. */
 typedef struct MantStations {
     uint16_t words[513];
 } MantStations;
 MANT_SIZE(MantStations, 1026);
 
-/* A station that was heard. The counts stop at 65,535, each by itself. */
+/* A station. Each count stops at 65,535 by itself. */
 typedef struct MantStation {
     uint16_t address;
-    uint16_t reads;           /* the PDUs read from it */
+    uint16_t reads;           /* PDUs read from it */
     uint16_t echoes;          /* those of them that echo dropped */
-    bool has_path;            /* false: none of them had the path bit, and so there is no shortest path count */
-    uint16_t shortest_path;   /* the least path count of those that had it; 0 where there is none */
+    bool has_path;            /* false: none of them had the path bit */
+    uint16_t shortest_path;   /* the least path count of those that had it */
 } MantStation;
 MANT_SIZE(MantStation, 10);
 
-/* What asking for a station answers: number 0 and the station, or 56 and a station that is all 0. */
+/* A station, or 56. */
 typedef struct MantFound {
     uint8_t number;
     MantStation station;
 } MantFound;
 MANT_SIZE(MantFound, 12);
 
-/* What a table counts of a PDU that was read. */
+/* What is counted of a PDU. */
 typedef struct MantHeard {
     uint16_t source;
-    bool echo;                /* the node dropped it by echo: it answered 30 or 42 */
-    bool path_bit;            /* false: it has no path, and `path_count` does not count */
+    bool echo;                /* the node returned 30 or 42 for it */
+    bool path_bit;            /* false: `path_count` is ignored */
     uint8_t path_count;
 } MantHeard;
 MANT_SIZE(MantHeard, 6);
 
-/* What hearing and counting answers: the node's answer, which does not depend on the table, and the table's number, 0 or 55. */
+/* The node's answer, whatever the table holds, and the table's number, 0 or 55. */
 typedef struct MantListened {
     MantAnswer answer;
     uint8_t table_number;
 } MantListened;
 MANT_SIZE(MantListened, 48);
 
-/* How many stations the table holds, 0 to MANT_STATION_LIMIT. */
+/* How many stations are held. */
 size_t mant_stations_held(const MantStations *table);
 
-/* The station at a place of the listing by rising address, the lowest at 0; 56 at every place from mant_stations_held on. */
+/* The station at a place by rising address, the first at 0; 56 from mant_stations_held on. */
 MantFound mant_station_at(const MantStations *table, size_t place);
 
-/* The station of an address, or 56 where it is not held. */
+/* The station with this address; 56 if it is not held. */
 MantFound mant_station_of(const MantStations *table, uint16_t address);
 
-/* Removes the station of an address. Answers 0, or 56 where it is not held, and leaves the table alone then. Heard again later, a station that was
-   removed starts anew. */
+/* Removes a station. Returns 0, or 56 if it is not held. Heard again, it starts anew. */
 uint8_t mant_remove_station(MantStations *table, uint16_t address);
 
-/* Counts a PDU that was read: one more read of its source, one more echo where it was one, and the smaller of the shortest path count and its own
-   where it has the path bit. A source that is not held is taken in. Answers 0, or 55 where it is to be taken in while MANT_STATION_LIMIT stations are
-   held, and leaves the table alone then; a station that is held is never refused. The shortest path count is still followed where a
-   count has come to 65,535. */
+/* Counts a PDU that was read, and takes in a new source. Returns 0, or 55 if the table is full. The shortest path count goes on after the others have
+   stopped. */
 uint8_t mant_count_heard(MantStations *table, MantHeard heard);
 
-/* Counts the PDU at the start of the received bytes by what a node answered for it, as mant_count_heard does: delivery number 30 or 42 is an echo.
-   Where the answer says that no PDU was read, `taken` is 0: it answers 0 and leaves the table alone. It is for a walk, after each step s that answered:
-   with received = batch + (s.next.place - s.answer.taken) and the bytes from there to the batch's end; a step without an answer counts nothing.
-   Hand on only what the node answered for these bytes: of another answer what they hold is counted, missing bytes as 0. */
+/* Counts a PDU by the node's answer for it. If none was read (`taken` is 0), it returns 0 and counts nothing. After a step s of kind 0 pass the bytes from
+   batch + (s.next.place - s.answer.taken) to the batch's end. Pass only the answer for these bytes: that is not checked. */
 uint8_t mant_count_answer(MantStations *table, const uint8_t *received, size_t received_length, MantAnswer answer);
 
-/* What mant_hear answers and writes to the output, and the PDU counted in the table as by mant_count_answer, so that no PDU is forgotten. Every PDU
-   that could be read is counted, also one that a list then stops and one for whose repeat the output is too short. With table number 55 the PDU is
-   delivered and repeated all the same. */
+/* mant_hear, then mant_count_answer. Every PDU that was read counts, also a dropped one. With 55 the PDU is delivered and repeated all the same. */
 MantListened mant_hear_and_count(MantNode node, const uint16_t *lists, size_t lists_length, const uint8_t *received, size_t received_length,
                                  uint8_t *output, size_t output_length, MantStations *table);
 
@@ -608,14 +537,11 @@ MantListened mant_hear_and_count(MantNode node, const uint16_t *lists, size_t li
 
 /* ---- The transmit queue ----
  *
- * PDUs wait there for the modem's next slot (document 02, W-206 and W-207), and come out whole and in order, as many as fit.
- * Memory: a MantQueue that the caller lends, for MANT_QUEUE_PDUS PDUs that have MANT_QUEUE_BYTES bytes together. It is empty if its first four bytes are 0,
- *     whatever stands behind them. Three numbers of two bytes come first, most significant byte first: how many PDUs are held, how many bytes they have
- *     together, and how many bytes behind these six the oldest begins. From there the PDUs lie back to back. Adding writes the new PDU behind the last one.
- *     Taking moves the third number on; once it is above 512, the PDUs left are moved to the front. No other byte changes, and with a refusal none does.
- *     Every call is defined for arbitrary bytes. A number above 32, 2,048 or 512 counts as that. Held are the PDUs that can be read one after the other, as
- *     many as the first number and within as many bytes as the second. mant_queue_level and mant_queue_add go by the numbers, which in a queue that began
- *     empty are at all times those of the PDUs held. So clear a MantQueue that was not zeroed.
+ * PDUs come out whole and in order (W-206, W-207).
+ * Memory: a MantQueue, for MANT_QUEUE_PDUS PDUs of MANT_QUEUE_BYTES bytes together. It begins with three numbers of two bytes, most significant first: PDUs
+ *     held, their bytes, and where behind byte 6 they lie, back to back. It is empty if the first two are 0. In malformed memory a number above 32, 2,048 or
+ *     512 counts as that, and PDUs are held as far as they can be read. mant_queue_level and mant_queue_add go by the numbers alone, so clear a MantQueue that
+ *     was not zeroed.
  * Numbers: 60 to 62.
  * Stack: mant_queue_add 24, mant_queue_level 8, mant_queue_take 80, mant_queue_clear 8.
  */
@@ -623,41 +549,36 @@ MantListened mant_hear_and_count(MantNode node, const uint16_t *lists, size_t li
 #define MANT_QUEUE_PDUS 32
 #define MANT_QUEUE_BYTES 2048
 
-/* A queue's memory: 6 bytes of numbers, 2,048 for PDUs and 512 to spare. */
 typedef struct MantQueue {
     uint8_t bytes[2566];
 } MantQueue;
 MANT_SIZE(MantQueue, 2566);
 
-/* How many PDUs a queue holds, and how many bytes they have together. */
 typedef struct MantLevel {
     size_t pdus;
     size_t bytes;
 } MantLevel;
 MANT_SIZE(MantLevel, 16);
 
-/* What taking from a queue answers: number 0, how many PDUs were taken and how many bytes they fill in the output. With 62 both are 0. */
+/* What was taken. An empty queue gives 0 PDUs and number 0. */
 typedef struct MantBatch {
-    uint8_t number;           /* 0 or 62 */
+    uint8_t number;
     size_t pdus;
     size_t bytes;
 } MantBatch;
 MANT_SIZE(MantBatch, 24);
 
-/* How many PDUs and bytes a queue holds: the two numbers that it keeps, without a look at its PDUs. */
+/* How many PDUs a queue holds, and their bytes. */
 MantLevel mant_queue_level(const MantQueue *queue);
 
-/* Adds a PDU to a queue, behind those that it holds. Answers 61 where the bytes are not one PDU and nothing else, whatever the queue holds; then 60 where
-   it holds MANT_QUEUE_PDUS PDUs, or where their bytes and the new ones exceed MANT_QUEUE_BYTES. With both it leaves the queue alone; else it answers 0.
-   A PDU of more than MANT_QUEUE_BYTES bytes, which a node may well repeat, gets 60 from an empty queue too, so to wait for room does not help it. */
+/* Adds one PDU; nothing may follow it in the bytes. Returns 61, 60 or 0. A PDU above MANT_QUEUE_BYTES, which a node may repeat, always gets 60. */
 uint8_t mant_queue_add(MantQueue *queue, const uint8_t *pdu, size_t pdu_length);
 
-/* Takes PDUs from a queue, from the oldest on, up to the first that the output has no room for: writes them to the output back to back, as one batch
-   for mant_step, and releases them. Answers 62 where there is no room for the oldest. Where the queue holds none, the number is 0 and nothing is taken.
-   In these two cases queue and output are left alone. A PDU that no slot has room for holds up all behind it, so do not add one (examples/box.c). */
+/* Moves the oldest PDUs to the output as one batch, up to the first that does not fit. 62: the oldest does not fit. A PDU that no slot has room for holds up
+   all behind it, so do not add one (examples/box.c). */
 MantBatch mant_queue_take(MantQueue *queue, uint8_t *output, size_t output_length);
 
-/* Drops all PDUs that a queue holds: its three numbers are 0 then, and every byte behind them is kept. */
+/* Drops all PDUs. Bytes behind the numbers stay. */
 void mant_queue_clear(MantQueue *queue);
 
 /* Example: two PDUs wait, and the slot has room for one.
@@ -674,63 +595,53 @@ void mant_queue_clear(MantQueue *queue);
 
 /* ---- The serial exchange ----
  *
- * What a decoder and an encoder that are two devices send each other (document 02, W-202; document 003, section 3, for the elements). An exchange is one
- * element of type 20 that is all of the bytes. It holds one element of type 1024, the PDU's header, and one of type 1025, its payload, in either order.
- * Elements of other types may stand beside them. A type or a length below 128 is one byte, or two that say the same. From 128 on it is two, with 128 added to
- * the first of them. Elements of types 10, 11 and 20 hold elements, four levels down at most, of which the exchange is the first.
- * What frames it on the line is the driver's. That is the prefix and the total length, and also the elements that a decoder sends before the one of type 20:
- * a version, an address and an agency (document 003, section 10.1). With these in front the bytes are no exchange, and mant_read_exchange returns 59. A
- * driver finds the element of type 20 with mant_element_at and reads that element alone, as the example does.
+ * An exchange (W-202; document 003, section 3) is one element of type 20. It holds one of type 1024, a PDU's header, and one of type 1025, its payload, in
+ * either order. Others may stand beside them. Types 10, 11 and 20 hold elements, at most four levels with the exchange.
+ * The driver removes prefix, total length, and the elements that a decoder sends before type 20 (003, section 10.1). With these in front mant_read_exchange
+ * returns 59. Find type 20 with mant_element_at and read it alone, as the example does.
  * Memory: none.
- * Numbers: in reading 57 to 59, 1 to 6 and 63; in writing 1 to 6 and 14; in mant_element_at 57.
+ * Numbers: in reading 57 to 59, 1 to 6, 63; in writing 1 to 6, 14; in mant_element_at 57.
  * Stack: mant_element_at 8, mant_read_exchange 496, mant_write_exchange 168.
  */
 
-/* The most bytes that mant_write_exchange writes. An exchange that is read may be longer, since other elements may stand beside the PDU's two: it has up to
-   32,771 bytes. */
+/* The most bytes that mant_write_exchange writes. An exchange that is read may have up to 32,771, with other elements in it. */
 #define MANT_EXCHANGE_LIMIT 4626
 
-/* The type of the element that is an exchange. */
+/* The type of an exchange. */
 #define MANT_EXCHANGE_TYPE 20
 
-/* The element that begins at a place of a run. Places count from the first byte of the run. With number 57 every field after it is 0. */
+/* An element. Places count from the run's first byte. */
 typedef struct MantElement {
-    uint8_t number;           /* 0, or 57 */
+    uint8_t number;
     uint16_t type_number;
-    size_t value_place;       /* with an empty value, where it would begin; that may be the end of the run */
+    size_t value_place;       /* at length 0 it may be the end of the run */
     size_t value_length;
     size_t end;               /* where the next element begins, or the run ends */
 } MantElement;
 MANT_SIZE(MantElement, 32);
 
-/* The element that begins at a place of the run that the bytes are. The number is 57 if the element does not end within them, and also at the end of the run
-   and behind it, where none begins. Otherwise end is at least place + 2, so that a walk from 0, from end to end, stops. What the element holds is not looked
-   at. Its value is a run of its own if its type is 10, 11 or 20. */
+/* The element that begins at a place of a run. 57: it does not end within the run, or none begins there. Otherwise end is at least place + 2, so a walk from
+   end to end stops. The value is not checked. */
 MantElement mant_element_at(const uint8_t *bytes, size_t bytes_length, size_t place);
 
-/* Where the parts of a PDU lie in an exchange that was read. Places count from its first byte. With a number other than 0 every field after it is 0. */
+/* Where a PDU lies in an exchange. */
 typedef struct MantExchange {
-    uint8_t number;           /* 0; else 57, 58, 59, 1 to 6 or 63 */
+    uint8_t number;
     size_t header_place;
     size_t header_length;
-    size_t payload_place;     /* with an empty payload, where it would begin; that may be the end of the bytes */
+    size_t payload_place;     /* at length 0 it may be the end of the bytes */
     size_t payload_length;
 } MantExchange;
 MANT_SIZE(MantExchange, 40);
 
-/* Where header and payload lie in the exchange that the bytes are, all of them. The whole of the bytes is judged first, also what is passed over: 57
-   where an element does not end within the run it stands in, 58 where one is at level 5, for the one that begins first, and 58 where it is both. Then 59
-   where the bytes are not one such exchange; 1 to 6 on header and payload joined; 63 where bytes follow the PDU, or where the header's part is not just
-   its header. To write what was read again, put the two together first, the header before the payload. */
+/* Finds header and payload in an exchange, which is all of the bytes. Refusals: 58 or 57 of the first element with a fault, 58 before 57; 59; 1 to 6 of the two
+   joined; 63. To write it again, join the two, header first. */
 MantExchange mant_read_exchange(const uint8_t *bytes, size_t bytes_length);
 
-/* Writes the exchange of the PDU at the start of the bytes: header first, nothing beside the two, every type and length in the shorter form. Answers
-   1 to 6 where there is no PDU, 14 where the output is shorter than the exchange, and leaves the output alone then. Bytes after the PDU are not looked
-   at. */
+/* Writes a PDU as an exchange: header first, nothing beside the two, the shorter form of types and lengths. Refusals: 1 to 6, 14. */
 MantWritten mant_write_exchange(const uint8_t *bytes, size_t bytes_length, uint8_t *output, size_t output_length);
 
-/* Example: what a decoder sends behind prefix and total length in document 003, section 10.1. The driver finds the exchange among the elements. Its PDU is
-   put together and written again.
+/* Example: what a decoder sends behind prefix and total length (003, section 10.1). The driver finds the exchange, joins its PDU and writes it again.
 
        const uint8_t run[] = {0x75, 0x01, 0x01, 0x18, 0x02, 0x1F, 0x40, 0x77, 0x05, 0x53, 0x41, 0x43, 0x43, 0x4F, 0x14, 0x24, 0x84, 0x00,
                               0x06, 0x00, 0x00, 0x70, 0x0D, 0x11, 0x33, 0x84, 0x01, 0x0D, 0xA4, 0x08, 0x3F, 0x03, 0xA3, 0x08, 0x3B, 0x03,
@@ -754,37 +665,31 @@ MantWritten mant_write_exchange(const uint8_t *bytes, size_t bytes_length, uint8
 
 /* ---- Reliable messages ----
  *
- * PDUs of protocol 1 that wait for their acknowledgement (document 02, W-210; document 000, section 3.3). A PDU is retained when it is sent, and sent again
- * if its acknowledgement is late. It is freed when that comes, and reported failed if it never does. What such a PDU asks of the box that it was sent to is
- * written here too. That box acknowledges and delivers each copy that reaches it, since no call remembers what was delivered. If a command must not be obeyed
- * twice, the box knows it by its source and ID, or it is sealed. So the sender gives each command the next ID, and keeps the count over a restart: with an ID
- * used before, a command would be taken for a copy.
- * Memory: a MantReliable that the caller lends: MANT_RECORDS records, and the last accepted time; 0 stands for no time accepted yet. The mant_reliable_ calls
- *     take one. Those without that word take the records as a slice and the time by itself, and return the time for the next call. Times are whole seconds of
- *     a clock that does not go back. If it was set back all the same (73), go on with 0 for the last time, and set sent_at of each record to the time now.
- *     Each is then late after a whole delay, and its count stays. A record is in use if its length is MANT_RETAINED_LIMIT at most and its PDU exactly one of
- *     protocol 1 with ACK clear and no path address. Every other is free, so a table of zeros is free. Whatever the records hold, each call is defined. The
- *     first is always the one at the lowest place. A call changes one record at most; with a refusal it changes none, nor the last time. With another number
- *     of records than MANT_RECORDS no record is read: sizeof table in place of MANT_RECORDS is refused with 74.
+ * A PDU of protocol 1 is retained when it is sent, and sent again if its acknowledgement is late (W-210; document 000, section 3.3). Its destination
+ * acknowledges and delivers every copy. If a command must not be carried out twice, know it by source and ID, or seal it. Give each command the next ID: a used
+ * one looks like a copy.
+ * Memory: a MantReliable: MANT_RECORDS records, and the last accepted time, 0 at first. The mant_reliable_ calls take it. The others take records and time
+ *     apart, and return the time for the next call. Times are seconds of a clock that does not go back. If it was set back (73), set `last` to 0 and each
+ *     sent_at to now. A record is in use if its length is at most MANT_RETAINED_LIMIT and its PDU could be retained. Every other is free. A call changes one
+ *     record at most; "first" means at the lowest place.
  * Numbers: 10, 11, 70 to 75, 77.
  * Stack: mant_retain 656, mant_retry 672, mant_hear_reliably 680, mant_acknowledge 632.
  */
 
-/* How many records a table of retained PDUs has, and how many bytes the longest PDU that it retains. */
+/* Records in a table, and bytes of the longest PDU retained. */
 #define MANT_RECORDS 16
 #define MANT_RETAINED_LIMIT 256
 
-/* A record of a retained PDU, which is the first `length` bytes of `pdu`; mant_retain puts zeros behind it. In a record of the caller's own making any bytes
-   may stand there: they stay as they are, and are not sent. A record that was freed or dropped is all zeros. */
+/* A retained PDU: the first `length` bytes of `pdu`. mant_retain puts zeros behind it. Other bytes there stay, and are not sent. A freed record is all
+   zeros. */
 typedef struct MantRetained {
     uint8_t pdu[MANT_RETAINED_LIMIT];
-    uint64_t length;          /* not a size_t, since the library reads the array itself: it is laid out alike on every processor */
-    uint64_t sent_at;         /* when it was last sent, or retained */
-    uint64_t count;           /* how often it was sent again */
+    uint64_t length;          /* not a size_t: records are laid out alike on every processor */
+    uint64_t sent_at;         /* when last sent, or retained */
+    uint64_t count;           /* times sent again */
 } MantRetained;
 MANT_SIZE(MantRetained, 280);
 
-/* The table of a box and its last accepted time. */
 typedef struct MantReliable {
     MantRetained records[MANT_RECORDS];
     uint64_t last;
@@ -801,25 +706,25 @@ MANT_SIZE(MantNames, 6);
 
 enum MantDeed {
     MANT_DEED_NONE = 0,
-    MANT_DEED_RETAINED = 1,     /* the PDU is in the record at `place` */
-    MANT_DEED_SENT_AGAIN = 2,   /* the PDU of the record at `place` is in the output, to be sent */
-    MANT_DEED_FAILED = 3,       /* the record at `place` was dropped: its PDU was not acknowledged */
-    MANT_DEED_FREED = 4,        /* the record at `place` was freed: its PDU was acknowledged */
-    MANT_DEED_ACKNOWLEDGED = 5  /* the acknowledgement of the PDU received is in the output, to be sent */
+    MANT_DEED_RETAINED = 1,     /* in the record at `place` */
+    MANT_DEED_SENT_AGAIN = 2,   /* the PDU of that record is in the output */
+    MANT_DEED_FAILED = 3,       /* that record was dropped: no acknowledgement came */
+    MANT_DEED_FREED = 4,        /* that record was freed: its acknowledgement came */
+    MANT_DEED_ACKNOWLEDGED = 5  /* the acknowledgement of the received PDU is in the output */
 };
 
-/* What the calls with a table of retained PDUs answer. With a number other than 0 the deed is 0 and `last` the one given; what a deed has not is 0. */
+/* What was done. What a deed does not name is 0. */
 typedef struct MantOutcome {
     uint8_t number;
     uint8_t deed;
-    uint64_t last;            /* the last accepted time, to be given to the next call */
-    size_t place;             /* with deeds 1 to 4: the record's, the first at 0 */
-    MantNames names;          /* with deeds 1 to 4: the retained PDU's; with 5: the received PDU's */
-    size_t length;            /* with deeds 2 and 5: how many bytes were written to the output */
+    uint64_t last;            /* for the next call; with a number the one given */
+    size_t place;             /* deeds 1 to 4: the record's */
+    MantNames names;          /* deeds 1 to 4: the retained PDU's; 5: the received PDU's */
+    size_t length;            /* deeds 2 and 5: bytes written to the output */
 } MantOutcome;
 MANT_SIZE(MantOutcome, 40);
 
-/* What an acknowledgement is sent with, as in MantFresh; hop limit and port count only where one is due. */
+/* How an acknowledgement is sent, as in MantFresh. */
 typedef struct MantSending {
     uint64_t hop_limit;       /* 0 to 7 */
     uint64_t port;            /* 0 to 15 */
@@ -828,46 +733,37 @@ typedef struct MantSending {
 } MantSending;
 MANT_SIZE(MantSending, 24);
 
-/* Retains a PDU that is sent at this time, in the first free record, with count 0. Nothing is written. Refusals, the first that applies: 74 if there are not
-   MANT_RECORDS records. 73 if the time is earlier than the last accepted one. 75 if the bytes are not exactly one PDU of protocol 1 with ACK clear and no
-   path address. 72 if it has more than MANT_RETAINED_LIMIT bytes. 71 if one of the same source, destination and ID is retained. 70 if no record is free. */
+/* Retains a PDU sent at this time, in the first free record; nothing may follow it in the bytes. Refusals: 74, 73, 75, 72, 71, 70. */
 MantOutcome mant_retain(MantRetained *table, size_t records, uint64_t last, uint64_t time, const uint8_t *pdu, size_t pdu_length);
 
-/* One step: takes the first record in use whose time lies the delay or more before this time. One whose time lies after it is not taken. If its PDU was sent
-   again as often as `tries` says, or more often, it is dropped and reported failed, and no room is asked for. Otherwise its PDU is written to the output,
-   its time is set and its count one higher. Refusals: 74, 73, and then 77 if the PDU to be sent has no room in the output, also if a later one would fit. If
-   none is due, the time is accepted all the same. Go on at each moment while the deed is not 0. With room for MANT_RETAINED_LIMIT bytes that ends after at
-   most MANT_RECORDS steps, with delay 0 after at most MANT_RECORDS * (tries + 1). */
+/* One step over the first record that is due: in use, and sent `delay` or more before this time. If its count is `tries` or more, it is dropped as failed.
+   Otherwise its PDU is written to the output, its time set and its count one higher. Refusals: 74, 73, 77, the last also if a later PDU would fit. If none is
+   due, the time is accepted. Step while the deed is not 0: with MANT_RETAINED_LIMIT bytes of output at most MANT_RECORDS times, at delay 0 MANT_RECORDS *
+   (tries + 1). */
 MantOutcome mant_retry(MantRetained *table, size_t records, uint64_t last, uint64_t time, uint64_t delay, uint64_t tries, uint8_t *output,
                        size_t output_length);
 
-/* What mant_hear_reliably returns: the node's answer, and what was done with the table and in the output. */
 typedef struct MantHeardReliably {
     MantAnswer answer;
     MantOutcome outcome;
 } MantHeardReliably;
 MANT_SIZE(MantHeardReliably, 80);
 
-/* A node hears the PDU at the start of the received bytes, as by mant_hear, and the table with it. The answer is the one of mant_hear, whatever the table
-   holds, so a payload is delivered beside every outcome. A PDU of protocol 1 that the node delivers does more. With ACK set it frees the first record with
-   its ID and its addresses exchanged, or nothing if there is none. With ACK clear its acknowledgement is written to the output. No other PDU is acknowledged
-   or frees a record. The output has the repeated PDU (answer.repeated_length) or the acknowledgement (outcome.length), never both: a PDU that is
-   acknowledged is for this node, and is not repeated. If an acknowledgement is due, the outcome is 10 if the hop limit is above 7, then 11 if the port is
-   above 15. For any PDU it is then 74 if there are not MANT_RECORDS records. Last it is 77 if the acknowledgement, 9 bytes or with a path 10, has no room.
-   With each of them the table stays, and what the node repeats is still in the output. The call takes no time, and `last` comes back as it was. Over a
-   batch, call it with the bytes from each PDU to the batch's end. The next PDU begins answer.taken bytes on, and 0 ends the walk. */
+/* mant_hear, and what the PDU does to the table. The answer is that of mant_hear in every case. A PDU of protocol 1 that the node delivers does more. With ACK
+   set it frees the first record with its ID and its addresses exchanged. With ACK clear its acknowledgement, 9 bytes or with a path 10, is written to the
+   output. Such a PDU is not repeated, so the output has one PDU at most. Refusals in the outcome: 10 and 11 if an acknowledgement is due, 74, 77. A repeated
+   PDU is written all the same, and `last` comes back as it was. For a batch pass the bytes from each PDU to the end: the next begins answer.taken bytes on, and
+   0 ends the walk. */
 MantHeardReliably mant_hear_reliably(MantNode node, const uint16_t *lists, size_t lists_length, MantRetained *table, size_t records, uint64_t last,
                                      const uint8_t *received, size_t received_length, MantSending sending, uint8_t *output, size_t output_length);
 
-/* The second half of mant_hear_reliably, for a PDU that another call heard (mant_hear_and_count, mant_step) with this answer, at the node with this own
-   address. It goes by the number for delivery in the answer and by the bytes. If they cannot be read, are for another address, or have the added header set,
-   it acknowledges and frees nothing, whatever the answer says. So no acknowledgement is ever written in another node's name. The bytes do not show what
-   lists and echo said: hand on only what the node answered for these bytes. */
+/* The second half of mant_hear_reliably, for a PDU that another call heard at node `own` with this answer. A PDU for another address or with an added header
+   does nothing, whatever the answer, so no acknowledgement goes out in another node's name. Pass only the answer for these bytes: they do not show what lists
+   and echo said. */
 MantOutcome mant_acknowledge(MantRetained *table, size_t records, uint64_t last, uint16_t own, const uint8_t *received, size_t received_length,
                              MantAnswer answer, MantSending sending, uint8_t *output, size_t output_length);
 
-/* mant_retain, mant_retry, mant_hear_reliably and mant_acknowledge with the records and the time of a MantReliable, which keeps the time that comes back.
-   They never return 74. */
+/* The four calls above with a MantReliable. They never return 74. */
 static inline MantOutcome mant_reliable_retain(MantReliable *reliable, uint64_t time, const uint8_t *pdu, size_t pdu_length)
 {
     MantOutcome outcome = mant_retain(reliable->records, MANT_RECORDS, reliable->last, time, pdu, pdu_length);
@@ -897,7 +793,7 @@ static inline MantOutcome mant_reliable_acknowledge(MantReliable *reliable, uint
     return mant_acknowledge(reliable->records, MANT_RECORDS, reliable->last, own, received, received_length, answer, sending, output, output_length);
 }
 
-/* Example: base 1000 commands gate 1600, is not answered for 30 seconds, sends again, and hears the acknowledgement.
+/* Example: base 1000 commands gate 1600, hears nothing for 30 seconds, sends again, and hears the acknowledgement.
 
        static MantReliable at_base, at_gate;
        const MantFresh command = {.edition = MANT_EDITION_1_2, .source = 1000, .has_destination = true, .destination = 1600, .reliable = true, .pdu_id = 7};
@@ -917,43 +813,32 @@ static inline MantOutcome mant_reliable_acknowledge(MantReliable *reliable, uint
 
 /* ---- Sealing and opening ----
  *
- * Payloads enciphered under a key (document 02, W-212; document 000, section 3.5). Sealing enciphers the payload of a PDU, and with it a hash of header,
- * message number and payload. Opening returns the payload once: a PDU whose number is not greater than the last accepted from its source is refused with 82.
- * One whose hash differs is refused with 83. Repeaters need no key. The message number lies in clear. Once a later number is accepted from a source, an
- * earlier one never opens. So a sender has one sealed message under way to a box, or seals what was lost anew under a new number. 82 is found before the hash
- * is looked at. It proves nothing about who sent the PDU, nor that it was opened before. Acknowledge then only the very message that was carried out last
- * (examples/box.c).
+ * mant_seal encrypts a payload and a hash of it, the header and the message number (W-212; document 000, section 3.5). mant_open returns the payload once: a
+ * number not greater than the last accepted from the source gets 82, a wrong hash 83. After a later number an earlier one never opens, so have one sealed
+ * message under way to a box, or seal a lost one anew. 82 comes before the hash and proves nothing about the sender. Acknowledge then only the very message
+ * that was carried out last (examples/box.c).
  * What sealing does not protect (docs/SEALING.md):
- *     - Known plain text. The hash has no key of its own. Whoever knows the payload of one sealed PDU can make others with its source and number, up to its
- *       length, for any destination and port. They open wherever neither that number nor a later one was accepted. Do not seal what can be guessed, or use a
- *       key for each gate.
- *     - The hash has 32 bits: of random PDUs one in 4,294,967,296 opens.
- *     - Hop limit, path and so the last sender can be changed by anyone; the whole header and the message number can be read by anyone.
- *     - A PDU that was kept back opens later, unless a later number was accepted. A source that the record does not hold opens with any number.
- *     - Acknowledgements are not sealed: anyone can make one.
- *     - Whoever holds the key can seal for every source. Use a key for each gate.
- *     - The time of a table look-up depends on the key, on a processor with a cache.
- *     - Both calls leave round keys, from which the key follows, in the stack that they used. If others can read that memory, overwrite 2,048 bytes of stack
- *       after each call (clear_stack in examples/sealed.c).
- * Memory: to open, a MantSources that the caller lends, and keeps over a restart too, for MANT_SOURCE_LIMIT sources. It is empty if its first word is 0. The
- *     first word is how many sources are held; then come two words for each, its address and the last message number accepted from it. A first word above 64
- *     counts as 64. Where a PDU is opened (number 0) the number of its source's entry is written, or a new source is put behind the others and counted; every
- *     other word is kept, but that a first word above 64 becomes 64. mant_remove_source changes it too, and no other call does. In malformed memory the first
- *     entry of a source counts, and an address above 65,535 is no source's. If a source gets another key, remove it from the record (mant_remove_source):
- *     under a new key its numbers may begin at 0 again. To seal, none, but the caller counts the message numbers.
- * Numbers: in sealing 1 to 6, 88, 85, 86 and 87; in opening 1 to 6, 80 to 84 and 87; mant_message_number 1 to 6, 80 and 81.
+ * - Who knows the payload of a sealed PDU can forge others of its source and number, for any destination. They open where neither that number nor a later one
+ *   was accepted. Seal nothing that can be guessed, or use a key for each gate.
+ * - Who holds the key can seal for every source. Anyone can make acknowledgements, change hop limit and path, and read the header.
+ * - A PDU held back opens later, unless a later number was accepted. A source that the record does not hold opens with any number.
+ * - The hash has 32 bits. On a processor with a cache the time of a call depends on the key.
+ * - Both calls leave the key on the stack. If others can read it, overwrite 2,048 bytes of stack after each call (clear_stack in examples/sealed.c).
+ * Memory: to open, a MantSources. Its first word is how many sources are held. Two words for each follow: its address and the last number accepted. Opening
+ *     writes the first word and the source's two. In malformed memory a first word above 64 counts as 64, and the first entry of a source counts. To seal,
+ *     none: the caller counts message numbers.
+ * Numbers: in sealing 1 to 6, 88, 85, 86, 87; in opening 1 to 6, 80 to 84, 87; in mant_message_number 1 to 6, 80, 81.
  * Stack: mant_seal 1,480, mant_open 1,496, mant_message_number 184, mant_remove_source 8.
  */
 
 #define MANT_SOURCE_LIMIT 64
 
-/* A record's memory: how many sources are held, and two words for each. */
 typedef struct MantSources {
     uint32_t words[129];
 } MantSources;
 MANT_SIZE(MantSources, 516);
 
-/* How many bytes longer a sealed PDU is: its message number and its hash. The greatest message number. */
+/* Bytes that sealing adds, and the greatest message number. */
 #define MANT_SEAL_LENGTH 7
 #define MANT_NUMBER_LIMIT 16777215
 
@@ -963,36 +848,27 @@ typedef struct MantKey {
 } MantKey;
 MANT_SIZE(MantKey, 16);
 
-/* The message number of a sealed PDU. Number 0; or 1 to 6, 80 or 81, and the message number is 0 then. */
+/* A message number, or why there is none. */
 typedef struct MantNumbered {
     uint8_t number;
     uint32_t message;
 } MantNumbered;
 MANT_SIZE(MantNumbered, 8);
 
-/* Seals the PDU at the start of the bytes: writes it with its payload enciphered under the key, its encrypted bit set, its time stamp request clear and
-   its payload MANT_SEAL_LENGTH bytes longer; hop limit, path and all else are as they were. Answers 1 to 6 where there is no PDU, 88 where its encrypted
-   bit is set already, 85 where the payload would have more than MANT_PAYLOAD_LIMIT bytes, 86 where the number is above MANT_NUMBER_LIMIT, 87 where the
-   output is shorter than the sealed PDU, the first that applies, and leaves the output alone then. Bytes after the PDU are not looked at. Under one key
-   no source may use a number twice, or who listens learns of both payloads: the caller counts them up, and keeps the count, before the PDU goes out, over
-   a restart. */
+/* Seals a PDU: writes it with its payload encrypted and MANT_SEAL_LENGTH bytes longer, the encrypted bit set and the time stamp request clear. Refusals: 1 to
+   6, 88, 85, 86, 87. Under one key no source may use a number twice, or a listener learns how the payloads differ. Keep the next number, over a restart too,
+   before the PDU goes out. */
 MantWritten mant_seal(MantKey key, uint64_t number, const uint8_t *pdu, size_t pdu_length, uint8_t *output, size_t output_length);
 
-/* Opens the sealed PDU at the start of the bytes: writes its plain payload, and notes its number in the record. Answers 1 to 6 where there is no PDU, 80
-   where its encrypted bit is clear, 81 where its payload is shorter than MANT_SEAL_LENGTH, 82 where the record holds its source with this number or a greater
-   one, 83 where its hash is another, 84 where its source is new and MANT_SOURCE_LIMIT are held, 87 where the output is shorter than the plain payload, the
-   first that applies, and leaves output and record alone then. Against the same record it opens the same after any repeats as before them; once opened, a
-   repeat of it is 82. Of a source that the record does not hold any number is taken, so an empty record takes what it has taken before: keep the record
-   before a command is carried out. */
+/* Opens a sealed PDU, repeated or not: writes the plain payload, and its number to the record. Refusals: 1 to 6, 80 to 84, 87. From a source that the record
+   does not hold any number opens, so keep the record before a command is carried out. */
 MantWritten mant_open(MantKey key, MantSources *record, const uint8_t *pdu, size_t pdu_length, uint8_t *output, size_t output_length);
 
-/* The message number of the sealed PDU at the start of the bytes, 0 to MANT_NUMBER_LIMIT. Returns 1 to 6 where there is no PDU, 80 where its encrypted bit
-   is clear, 81 where its payload is shorter than MANT_SEAL_LENGTH, the first that applies. Neither key nor hash is used: anyone can send any number. */
+/* The message number of a sealed PDU. Refusals: 1 to 6, 80, 81. Neither key nor hash is used: anyone can send any number. */
 MantNumbered mant_message_number(const uint8_t *pdu, size_t pdu_length);
 
-/* Removes a source from the record, and returns whether it was held; if it was not, no word changes. The entries behind it move up, and the words behind the
-   entries left stay. The next number from that source may be any, also one that was accepted before: remove a source only when its key changes, or when it is
-   gone for good. */
+/* Removes a source, and returns whether it was held. Later entries move up. Its next number may be any, also a used one, so remove a source only when its key
+   changes or it is gone for good. */
 bool mant_remove_source(MantSources *record, uint16_t source);
 
 /* Example: a command under message number 850 opens once.
@@ -1012,34 +888,28 @@ bool mant_remove_source(MantSources *record, uint16_t source);
 
 /* ---- Planning ----
  *
- * Whom a report reaches on a network, over how many hearings, and how often it goes out there, in all and from each node. How often one report, or one
- * command with its acknowledgements, can go out at most on any network. The sizes, for a program in another language. These calls are for a planner's
- * computer: a box needs none of them.
- * A network. `marks` has a byte for each node, at most MANT_NODE_LIMIT, and a node is its place there. A node whose byte is not 0 does not repeat the report:
- * its repeating is off, its lists stop it, or the report is for that node. The originator's byte says nothing. `pairs` says who hears whom: a sender's
- * place, then the place of a node that hears it, and so on. What is said twice counts once. A place that no node has says nothing, nor does a node that
- * hears itself, nor a last byte without a partner. A hearing more never takes a chain or a transmission away. So tell one that is not certain to bound the
- * transmissions, and leave it out to see who is delivered the report for certain.
- * Memory: for the two counts of a network a table of 256 bytes a node, MANT_AIRTIME_TABLE for every network, lent for the call alone. What it holds before is
- * of no matter; afterwards it is all zeros.
+ * For a planner's computer. `marks` has a byte for each node, and a node is its place there. A byte other than 0 says that the node does not repeat the report:
+ * repeating is off, its lists stop it, or the report is for it. The originator's byte is ignored. `pairs` says who hears whom: a sender's place, then that of a
+ * node that hears it, and so on. Duplicates, unknown places, a node that hears itself and an odd last byte are ignored. If a hearing is uncertain, include it
+ * to bound transmissions, and leave it out to see who is reached for certain.
+ * Memory: for the two counts of a network a table of 256 bytes a node, with any contents. If the network is served, it is all zeros afterwards.
  * Numbers: 10.
  * Stack: mant_chain_lengths 104, mant_least_hop_limit 8, mant_network_transmissions 45,152, mant_network_bytes 45,208, mant_most_transmissions 8,
- *     mant_most_bytes 8, mant_most_for_command 32, mant_limits 8. The two counts of a network go down once for each node of a path, 176 bytes each: at
- *     hop limits 0 to 6 they take 1,512 bytes at most.
+ *     mant_most_bytes 8, mant_most_for_command 32, mant_limits 8. The two counts of a network take 176 bytes for each node of a path: at hop limits 0 to 6 at
+ *     most 1,512 bytes.
  */
 
-/* The most nodes of a network, and the bytes of a table for so many. */
+/* The most nodes of a network, and a table for every network. */
 #define MANT_NODE_LIMIT 255
 #define MANT_AIRTIME_TABLE 65280
 
-/* The length of a node that no chain leads to; the place of no node; what stands for a hop limit where none reaches all. */
+/* No chain leads to the node; the place of no node; no hop limit reaches all. */
 #define MANT_NO_CHAIN 255
 #define MANT_NO_NODE 255
 #define MANT_NO_HOP_LIMIT 8
 
-/* How often a report goes out on a network, or how many bytes that is. Served: there are at most MANT_NODE_LIMIT nodes, the originator is one of them, counts
-   and table have the room, and the size is at most 65,535. Enough: the value is not below what the caller said is enough. Number 10: the hop limit is above
-   7, and then served is false. The value is 0 unless the number is 0, the network served and the value not enough. */
+/* A count on a network. `served` is false with more than MANT_NODE_LIMIT nodes, an originator that is none of them, not one count for each node, too short a
+   table, or a size above 65,535. `enough`: the count reached the parameter `enough`. The value is 0 unless it is served and not enough. */
 typedef struct MantAirtime {
     uint8_t number;
     bool served;
@@ -1048,7 +918,7 @@ typedef struct MantAirtime {
 } MantAirtime;
 MANT_SIZE(MantAirtime, 16);
 
-/* A bound. Number 10: the hop limit is above 7. Too large: 64 bits do not hold the value. In both the value is 0. */
+/* A bound. `too_large`: 64 bits do not hold the value, which is 0 then. */
 typedef struct MantBound {
     uint8_t number;
     bool too_large;
@@ -1068,54 +938,44 @@ typedef struct MantLimits {
 } MantLimits;
 MANT_SIZE(MantLimits, 56);
 
-/* Writes for each node how many hearings its shortest chain from the originator has, the node at place `from`: 0 for the originator, MANT_NO_CHAIN where no
-   chain leads to it. A chain goes from the originator through nodes that repeat the report, and not by the node at place `failed`, which neither sends nor
-   hears; MANT_NO_NODE says that none has failed. A node of length k, from 1 on, is delivered the report at hop limit h if k is at most h + 1, or at 7 if it
-   has a chain. The smallest path count is then k - 1. A node whose lists stop the report is not delivered it. A report with a destination is delivered to that
-   node alone. A node that has a chain, and none where another has failed, is cut off by that failure. Returns false, and writes nothing, if there are more than
-   MANT_NODE_LIMIT nodes, none is at `from`, or there is not one length for each node. */
+/* Writes for each node how many hearings its shortest chain from the node at `from` has: 0 for that node, MANT_NO_CHAIN if there is none. A chain goes through
+   nodes that repeat and avoids the node at `failed` (MANT_NO_NODE: none). At hop limit h a node is delivered the report if its length k is 1 to h + 1, or at 7
+   if it has a chain. Its smallest path count is then k - 1. A node whose lists stop the report is not delivered it, and a report with a destination goes to
+   that node alone. Returns false, and writes nothing, with more than MANT_NODE_LIMIT nodes, none at `from`, or not one length for each node. */
 bool mant_chain_lengths(const uint8_t *pairs, size_t pairs_length, const uint8_t *marks, size_t marks_length, size_t from, size_t failed,
                         uint8_t *lengths, size_t lengths_length);
 
-/* The least hop limit, 0 to 7, at which a chain reaches every node but the originator, by their lengths; MANT_NO_HOP_LIMIT if one has no chain. A failed node
-   has no chain and counts as missed, so set the failed node's length to 0 first. */
+/* The least hop limit, 0 to 7, that reaches every node but the originator, by their lengths; MANT_NO_HOP_LIMIT if one has no chain. Set the length of a failed
+   node to 0 first. */
 uint8_t mant_least_hop_limit(const uint8_t *lengths, size_t lengths_length);
 
-/* How often one report with a path goes out on the network, its first sending counted. Every node takes what it hears once, and repeats it unless it has a
-   mark. `counts` gets how often each node sends it. It goes out no more often where transmissions are lost. Echo is on at each node, no two have the same
-   address, and none takes a transmission twice, or one that it does not hear by `pairs`. The count stops at `enough`, which bounds the time: counts are then
-   all 0. On a desk computer 10,000,000 take a tenth of a second in most networks, and four seconds in the worst. With number 10, or if the network is not
-   served, nothing is written. `marks` is as before afterwards; it changes during the call. */
+/* How often one report with a path goes out on the network, its first sending included. `counts` gets how often each node sends it. Each node takes what it
+   hears by `pairs` once, and nothing else; echo is on; no two nodes have the same address. If transmissions are lost, it goes out no more often. The count
+   stops at `enough`, which bounds the time (docs/PERFORMANCE.md), and `counts` is all 0 then. `marks` is as before after the call, but changes during it. */
 MantAirtime mant_network_transmissions(const uint8_t *pairs, size_t pairs_length, size_t from, uint64_t hop_limit, uint64_t enough, uint8_t *marks,
                                        size_t marks_length, uint64_t *counts, size_t counts_length, uint8_t *table, size_t table_length);
 
-/* How many bytes these transmissions have together, and each node's own in `counts`, if the fresh report has this size: each address of a path adds 2. A
-   size above 65,535 is not served. */
+/* The bytes of these transmissions, and each node's own in `counts`. `size` is that of the fresh report, and each path address adds 2. */
 MantAirtime mant_network_bytes(const uint8_t *pairs, size_t pairs_length, size_t from, uint64_t hop_limit, uint64_t size, uint64_t enough, uint8_t *marks,
                                size_t marks_length, uint64_t *counts, size_t counts_length, uint8_t *table, size_t table_length);
 
-/* The most transmissions that one fresh PDU with a path and this hop limit can cause among so many repeating nodes, its first sending counted. Echo is
-   on at each node, no two have the same address, and none takes a transmission twice. A radio hears each transmission once. A decoder that hands a frame
-   over twice breaks that: with one repeater and hop limit 1, three can then go out instead of two. The node at the PDU's source address hears
-   too, with echo on, and does not count among these nodes, since it drops what it hears of its own (42). So a gauge that also repeats counts for the
-   reports of others, and not for its own. The PDU's destination does not count either, since it does not repeat what is for itself (41). */
+/* The most transmissions that one fresh PDU with a path can cause, its first sending included. `nodes` counts the nodes that repeat, without the originator
+   (42) and the destination (41). A gauge that repeats counts for the reports of others. Echo is on at every node, the originator too, no two have the same
+   address, and none takes a transmission twice. A decoder that hands a frame over twice breaks that: with one repeater and hop limit 1, three can go out
+   instead of two. */
 MantBound mant_most_transmissions(uint64_t nodes, uint64_t hop_limit);
 
-/* The most bytes that those transmissions have together, where the fresh PDU has this size. Any size is answered, also one that no PDU has. */
+/* The most bytes of those transmissions, if the fresh PDU has this size, also one that no PDU has. */
 MantBound mant_most_bytes(uint64_t nodes, uint64_t hop_limit, uint64_t size);
 
-/* The most transmissions that one command can cause, its acknowledgements counted. It is sent once, and again at most `tries` times, as mant_retry does. Its
-   destination acknowledges every copy that arrives, and each acknowledgement is a fresh PDU: with B and A the most transmissions of one command and of one
-   acknowledgement, there are at most (tries + 1) * B * (1 + A). `nodes` and `hop_limit` are the command's, `answer_nodes` and `answer_hop_limit` the
-   acknowledgement's. Both have a path, and what mant_most_transmissions asks holds for both. Neither the originator nor the destination counts among the
-   nodes. Number 10: one of the hop limits is above 7. */
+/* The most transmissions of one command, sent again at most `tries` times, and of its acknowledgements: the destination acknowledges every copy. If B and A
+   bound one command and one acknowledgement, it is (tries + 1) * B * (1 + A). `answer_nodes` and `answer_hop_limit` are the acknowledgement's. What
+   mant_most_transmissions asks holds for both, and neither originator nor destination is counted. */
 MantBound mant_most_for_command(uint64_t tries, uint64_t nodes, uint64_t hop_limit, uint64_t answer_nodes, uint64_t answer_hop_limit);
 
-/* The sizes above, as the library has them. */
 MantLimits mant_limits(void);
 
-/* Example: gauge 0 is heard by the repeaters 1 and 2. These hear each other, and base station 3, which does not repeat, hears both. Then the worst network of
-   as many repeaters, and that of five, for a report and for a command.
+/* Example: repeaters 1 and 2 hear gauge 0 and each other; base station 3 hears both and does not repeat. Then the worst network of two and of five repeaters.
 
        static uint8_t table[MANT_AIRTIME_TABLE];
        const uint8_t pairs[] = {0, 1, 0, 2, 1, 2, 2, 1, 1, 3, 2, 3};
@@ -1136,7 +996,7 @@ MantLimits mant_limits(void);
        assert(bound.number == MANT_HOP_LIMIT_ABOVE_7 && bound.value == 0);
        assert(mant_limits().pdu == MANT_PDU_LIMIT); */
 
-/* What a number means, in words; "no such number" for any other. */
+/* The words of a number; "no such number" for any other. */
 static inline const char *mant_meaning(uint8_t number)
 {
     switch (number) {
