@@ -1,7 +1,7 @@
-"""The MANT layer of ALERT2 for Python: the library libmant, called through ctypes. For Python 3.9 or newer, without dependencies.
+"""The MANT layer of ALERT2 for Python: the library libmant, called through ctypes. It needs Python 3.9 or newer, and no packages.
 
-Make the library once, with `tools/build python shared mant` at the top of the clone, then set PYTHONPATH to the clone's folder `python`; or name the library
-in MANT_LIB. Bytes go in as anything like bytes, and come out as bytes.
+Make the library once with `tools/build python shared mant` at the top of the clone, and set PYTHONPATH to the clone's folder `python`. MANT_LIB names a
+library elsewhere. Arguments are anything like bytes; results are bytes.
 
 >>> report = bytes.fromhex('0300100B03E80640007001081212032413220276')
 >>> header = read(report)
@@ -11,9 +11,17 @@ in MANT_LIB. Bytes go in as anything like bytes, and come out as bytes.
 >>> answer.delivery, answer.repeat, answer.repeated.hex()
 (<Number.FOR_ANOTHER: 39>, <Number.DONE: 0>, '0300000b03e806400107d07001081212032413220276')
 
-It can read a PDU (`read`, `path`), make one (`originate`), be a node (`hear`, `walk`, `change_over`, `list_fault`, `list_holds`), plan (`reach`, `Network`,
-`most_transmissions`, `most_bytes`, `most_for_command`), exchange with a decoder (`elements`, `read_exchange`, `write_exchange`), seal a payload (`seal`) and
-open it once, against a `Record` (`mant.open`, not below, since `from mant import *` leaves Python's own `open` in its place; see `help(mant.open)`).
+What there is:
+
+reading      `read`, `path`
+originating  `originate`
+a node       `hear`, `walk`, `change_over`, `list_fault`, `list_holds`; `Stations` counts who was heard, `Queue` holds PDUs for the next slot
+planning     `reach`, `Network`, `most_transmissions`, `most_bytes`, `most_for_command`
+a decoder    `elements`, `read_exchange`, `write_exchange`
+sealing      `seal`, `message_number`, `remove_source`, and `mant.open`, which opens a sealed PDU once, against a `Record`
+
+`from mant import *` does not import `mant.open`, which would hide Python's own; see `help(mant.open)`. PDUs that wait for their acknowledgement are for C and
+Rust only.
 
 >>> import mant
 >>> key, record = b'sixteen  letters', mant.Record()
@@ -21,10 +29,15 @@ open it once, against a `Record` (`mant.open`, not below, since `from mant impor
 >>> mant.open(sealed, key, record)
 b'open gate 3'
 
-What is refused raises Refused, with its `number` and its `meaning`. A setting reaches the library as it is, or is no number that C can hold, and then raises
-ValueError; none is trimmed. So does what is no network, and a choice of list that is not 0, 1 or 2. A bound above 18,446,744,073,709,551,615 and
-a count that stops raise OverflowError, and what is no number, no bytes or no Node where one is asked for TypeError. There is always room for what is written,
-so that the numbers for want of room are never returned. LibraryMissing says that there is no library, and how to make it.
+Errors:
+
+Refused         the library refused the input; it has a `number` and a `meaning`
+ValueError      a setting that C cannot hold (none is cut), a choice of list other than 0, 1 and 2, or a malformed network
+OverflowError   a bound above 18,446,744,073,709,551,615, or a count that reached its limit
+TypeError       a value of another type
+LibraryMissing  there is no library; the message says how to make it
+
+There is always room for what is written, so the numbers for a short output do not occur.
 
 >>> originate(b'rain', source=1000, hop_limit=263)
 Traceback (most recent call last):
@@ -34,9 +47,7 @@ mant.Refused: 10: the hop limit asked for is above 7
 Traceback (most recent call last):
     ...
 ValueError: source is 70000; it can be 0 to 65535
-
-A `Queue` holds the PDUs that wait for the modem's next slot, and `Stations` counts who was heard. What else a box keeps from call to call, the PDUs that wait
-for their acknowledgement, is for C and Rust."""
+"""
 import ctypes
 import dataclasses
 from typing import Iterator
@@ -74,7 +85,7 @@ def limits():
 
 
 def read(pdu, edition=EDITION_1_2):
-    """The header of the PDU at the start of the bytes as an edition shows it. Bytes after the PDU are not looked at.
+    """The header of the PDU at the start of the bytes, as the edition shows it. Bytes behind the PDU are ignored.
 
     >>> read(bytes.fromhex('0100300203E80640AABB')).payload.hex()
     'aabb'
@@ -101,7 +112,7 @@ def _path(pdu, found):
 
 
 def path(pdu):
-    """The addresses of the path of the PDU at the start of the bytes, in order; None without the path bit.
+    """The path of the PDU at the start of the bytes, in order; None without the path bit.
 
     >>> path(bytes.fromhex('0200000003E80207D00BB8'))
     (2000, 3000)
@@ -111,7 +122,7 @@ def path(pdu):
 
 def originate(payload, *, source, hop_limit, destination=None, port=0, time_stamp_request=False, with_path=False, reliable=False, pdu_id=0,
               encrypted=False, edition=EDITION_1_2):
-    """A fresh PDU with this payload. Without a destination it is for everyone; `encrypted` says that the payload is encrypted already.
+    """A fresh PDU with this payload. Without a destination it is for everyone. `encrypted` says that the payload is encrypted already.
 
     >>> originate(b'rain', source=1000, hop_limit=3, with_path=True).hex()
     '0200300403e8007261696e'
@@ -126,7 +137,7 @@ def originate(payload, *, source, hop_limit, destination=None, port=0, time_stam
 
 
 def list_fault(lists):
-    """What is wrong with a node's lists: the number of the first fault, and the list that has it.
+    """The first fault of a node's lists: its number, and the list that has it.
 
     >>> list_fault(Lists(source_pass=[1000, 1999]))
     ListFault(number=<Number.DONE: 0>, list=None)
@@ -138,8 +149,8 @@ def list_fault(lists):
 
 
 def change_over(node, choice):
-    """Returns the same node with this choice for all four kinds of list: FIRST_LIST, SECOND_LIST or NO_LIST. A kind that was off is set too, and a pass
-    list that is then chosen and empty passes nothing.
+    """Returns the node with all four kinds of list set to FIRST_LIST, SECOND_LIST or NO_LIST. A kind that was off is set too, and a pass list that is
+    chosen and empty passes nothing.
 
     >>> change_over(Node(own=2000, source_pass=FIRST_LIST), SECOND_LIST).source_pass
     2
@@ -149,7 +160,7 @@ def change_over(node, choice):
 
 
 def list_holds(values, address):
-    """Whether an address is in some range of a list.
+    """Whether a range of a list holds an address.
 
     >>> list_holds([1000, 1999, 3000, 3000], 3000)
     True
@@ -166,7 +177,7 @@ def _answer(found, received, output):
 
 
 def hear(received, node, lists=Lists()):
-    """What a node answers for the PDU at the start of the received bytes. An answer has two numbers, so that nothing is raised by one.
+    """What a node does with the PDU at the start of the received bytes. The answer has its two numbers; neither of them raises Refused.
 
     >>> answer = hear(originate(b'rain', source=1000, hop_limit=3), Node(own=2000, repeating=False))
     >>> answer.payload, answer.repeat.meaning
@@ -180,8 +191,8 @@ def hear(received, node, lists=Lists()):
 
 
 def walk(batch, node, lists=Lists()) -> Iterator[Step]:
-    """A node's answer for each PDU of a batch, in order. The walk ends after the first whose `taken` is 0: one that cannot be read, or the first of all
-    where a list has a fault or there is no such edition. A batch of more than 16,384 bytes is refused with 54 before the first.
+    """A node's answer for each PDU of a batch, in order. The walk ends after the first with `taken` 0: a PDU that cannot be read, a fault of the lists, or an
+    unknown edition. A batch of more than 16,384 bytes is refused with 54 before the first.
 
     >>> batch = originate(b'rain', source=1000, hop_limit=3) + originate(b'wind', source=1001, hop_limit=0) + b'noise'
     >>> for step in walk(batch, Node(own=2000)):
@@ -213,10 +224,9 @@ def _bound(found):
 
 
 def most_transmissions(nodes, hop_limit):
-    """The most times that one report goes out on the air, its first sending counted, for so many repeating nodes besides the originator and the
-    destination. It holds if the report has a path, every node has echo suppression on and an address of its own, and none takes a transmission twice. A
-    radio hears each one once. A decoder that hands a frame over twice breaks that. Raises OverflowError where it is above 18,446,744,073,709,551,615. It
-    takes any number of nodes; `./plan` refuses more than 65,535, since there are no more addresses besides the originator's.
+    """The most transmissions that one report can cause, its first sending included. `nodes` counts the nodes that repeat, without the originator and the
+    destination. It holds if the report has a path, echo is on at every node, no two have the same address, and none takes a transmission twice. A decoder
+    that hands a frame over twice breaks that. `./plan` refuses more than 65,535 nodes, since there are no more addresses; this takes any number.
 
     >>> most_transmissions(8, 3)
     401
@@ -225,8 +235,8 @@ def most_transmissions(nodes, hop_limit):
 
 
 def most_bytes(nodes, hop_limit, size):
-    """The most bytes that those transmissions have together, where the fresh PDU has this size, header included. It takes any size;
-    a fresh PDU with a path has 7 to 4,105 bytes, and `./plan` refuses others.
+    """The most bytes of those transmissions, if the fresh PDU has this size, header included. A fresh PDU with a path has 7 to 4,105 bytes, and `./plan`
+    refuses other sizes; this takes any.
 
     >>> most_bytes(8, 3, 20)
     10276
@@ -235,9 +245,9 @@ def most_bytes(nodes, hop_limit, size):
 
 
 def most_for_command(tries, nodes, hop_limit, answer_nodes=None, answer_hop_limit=None):
-    """The most transmissions that one command can cause, its acknowledgements counted. It is sent once, and again at most so many times. Its destination
-    acknowledges every copy that arrives, each time by a fresh PDU. `answer_nodes` and `answer_hop_limit` are the acknowledgement's; where they are left out
-    they are the command's. Neither the originator nor the destination counts among the nodes. It holds where `most_transmissions` does for both.
+    """The most transmissions of one command, sent again at most `tries` times, and of its acknowledgements: its destination acknowledges every copy that
+    arrives. `answer_nodes` and `answer_hop_limit` are the acknowledgement's, by default the command's. Neither the originator nor the destination counts
+    among the nodes. It holds if what `most_transmissions` asks holds for both.
 
     >>> most_for_command(0, 3, 3)
     272
@@ -250,7 +260,7 @@ def most_for_command(tries, nodes, hop_limit, answer_nodes=None, answer_hop_limi
 
 
 def elements(run) -> Iterator[Element]:
-    """Each element of the run that the bytes are, in order. A decoder sends others before the exchange. An element that does not end within the bytes raises
+    """Each element of a run, in order, to find the exchange: a decoder sends other elements before it. An element that does not end within the bytes raises
     Refused with 57.
 
     >>> run = bytes.fromhex('750101') + write_exchange(bytes.fromhex('0000000203E8AABB'))
@@ -266,7 +276,7 @@ def elements(run) -> Iterator[Element]:
 
 
 def read_exchange(exchange):
-    """Header and payload of the exchange that the bytes are, all of them.
+    """Header and payload of an exchange, which is all of the bytes.
 
     >>> read_exchange(write_exchange(bytes.fromhex('0000000203E8AABB')))
     Exchange(header=b'\\x00\\x00\\x00\\x02\\x03\\xe8', payload=b'\\xaa\\xbb', header_place=5, payload_place=14)
@@ -280,7 +290,7 @@ def read_exchange(exchange):
 
 
 def write_exchange(pdu):
-    """The exchange of the PDU at the start of the bytes.
+    """The PDU at the start of the bytes as an exchange.
 
     >>> write_exchange(bytes.fromhex('0000000203E8AABB')).hex()
     '140e8400060000000203e8840102aabb'
@@ -290,7 +300,8 @@ def write_exchange(pdu):
 
 
 def seal(pdu, key, number):
-    """The PDU at the start of the bytes with its payload enciphered under a key of 16 bytes. Under one key no source may use a number twice.
+    """The PDU at the start of the bytes with its payload encrypted under a key of 16 bytes. Under one key no source may use a number twice, so save the next
+    number before the PDU goes out. docs/SEALING.md says what sealing does not protect.
 
     >>> sealed = seal(originate(b'open gate 3', source=1000, hop_limit=3), b'sixteen  letters', 1)
     >>> read(sealed).encrypted, len(read(sealed).payload)
@@ -301,7 +312,7 @@ def seal(pdu, key, number):
 
 
 def message_number(pdu):
-    """The message number of the sealed PDU at the start of the bytes. It lies in clear, and anyone can send any.
+    """The message number of the sealed PDU at the start of the bytes. It is not checked: anyone can send any number.
 
     >>> message_number(seal(originate(b'open gate 3', source=1000, hop_limit=3), b'sixteen  letters', 850))
     850
@@ -312,7 +323,7 @@ def message_number(pdu):
 
 
 def remove_source(record, source):
-    """Removes a source from a record, for when its key changes, and returns whether it was held. Its next number may then be any.
+    """Removes a source from a record, and returns whether it was held. Its next number may be any, also a used one: remove a source only when its key changes.
 
     >>> record = Record((1, 1000, 850) + (0,) * 126)
     >>> remove_source(record, 1000), remove_source(record, 1000), record.words[0]
@@ -323,7 +334,8 @@ def remove_source(record, source):
 
 
 def open(pdu, key, record):
-    """The plain payload of the sealed PDU at the start of the bytes; its number is noted in the record, which keeps it from being opened again.
+    """The plain payload of the sealed PDU at the start of the bytes. The record notes its number, so that it does not open again. Save the record before a
+    command is carried out.
 
     >>> record = Record()
     >>> sealed = seal(originate(b'open gate 3', source=1000, hop_limit=3), b'sixteen  letters', 1)

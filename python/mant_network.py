@@ -49,10 +49,12 @@ class Airtime:
 
 class Network:
     """A network of which it is known who hears whom. `heard_by` has for each node the nodes that hear it, as a dict or as pairs; the first is the originator.
-    `not_repeating` has the nodes that do not repeat the report: repeating is off, their lists stop it, or it is for them. What is told holds if the report is
-    fresh, with a path, each transmission is taken once by every node that hears its sender and by no other, and every node has echo on and an address of its
-    own. A node whose lists stop the report is not delivered it. A report with a destination is delivered to that node alone. Lists have no fault, and outputs
-    have room. Where transmissions are lost it goes out no more often. Tell an uncertain hearing for the counts, and leave it out for chains and failures.
+    `not_repeating` has the nodes that do not repeat the report: repeating is off, their lists stop it, or it is for them.
+
+    The results hold if the report is fresh and has a path; every node takes each transmission that it hears once, and no other; echo is on at every node, and
+    no two have the same address; lists have no fault, and outputs have room. If transmissions are lost, the report goes out no more often. A node whose lists
+    stop the report is not delivered it, and a report with a destination is delivered to that node alone. Include an uncertain hearing for the counts, and
+    leave it out for chains and failures.
 
     >>> network = Network({1200: [2001, 2002], 2001: [2002, 3000], 2002: [2001, 3000]}, not_repeating=[3000])
     >>> network.reach(1).least_hop_limit, network.cut_off()
@@ -77,8 +79,8 @@ class Network:
         self._marks = bytes(address in silent for address in self.addresses)
 
     def lengths(self, failed=None):
-        """The shortest chain of each node, in order, where the node at the address `failed` neither sends nor hears: its hearings, None where there is none.
-        The failed node itself has none."""
+        """The hearings of each node's shortest chain, in order; None if it has no chain. The node at the address `failed` neither sends nor hears, and has no
+        chain itself."""
         place = NO_NODE if failed is None else self.addresses.index(failed)
         nodes = len(self.addresses)
         found = (ctypes.c_uint8 * nodes)()
@@ -94,18 +96,18 @@ class Network:
         return Reach(tuple(nodes), None if least == NO_HOP_LIMIT else least)
 
     def transmissions(self, hop_limit, enough=ENOUGH) -> Airtime:
-        """How often a report with this hop limit goes out, its first sending counted, and how often each node sends it. The count stops at `enough`, which
-        bounds the time, and then raises OverflowError."""
+        """How often a report with this hop limit goes out, its first sending included, and how often each node sends it. A count that reaches `enough`, which
+        bounds the time, raises OverflowError."""
         enough = whole('enough', enough, WORD_64)
         return self._counted(hop_limit, 'mant_network_transmissions', enough, f'the report goes out {enough:,} times or more, and the count stops there')
 
     def bytes(self, hop_limit, size, enough=4615 * ENOUGH) -> Airtime:
-        """How many bytes those transmissions have, where the fresh report has this size, header included."""
+        """The bytes of those transmissions, if the fresh report has this size, header included."""
         enough, size = whole('enough', enough, WORD_64), whole('size', size, WORD_16)
         return self._counted(hop_limit, 'mant_network_bytes', size, enough, f'{enough:,} bytes or more go out, and the count stops there')
 
     def cut_off(self) -> Dict[int, Tuple[int, ...]]:
-        """For each node but the originator whose failure cuts others off those others: they have a chain, and none without it."""
+        """The nodes that each failure cuts off, by the address of the failed node: they have a chain, and none without it. The originator does not fail."""
         whole_lengths, cut = self.lengths(), {}
         for failed in self.addresses[1:]:
             each = zip(self.addresses, whole_lengths, self.lengths(failed))
@@ -126,7 +128,7 @@ class Network:
 
 
 def reach(hop_limit, heard_by, not_repeating=()) -> Reach:
-    """Who is delivered a report with this hop limit, 0 to 7, on the network of these hearings (`Network`). What is no network raises ValueError.
+    """Who is delivered a report with this hop limit, 0 to 7, on the network of these hearings (`Network`).
 
     >>> found = reach(1, {1200: [2001, 2002], 2001: [2003], 2003: [2004]})
     >>> found.out_of_reach, found.least_hop_limit
