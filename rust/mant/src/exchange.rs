@@ -13,9 +13,10 @@ pub struct Exchange<'a> {
 }
 
 impl Exchange<'_> {
-    /// An exchange that is written has so many bytes at most.
+    /// The most bytes of an exchange that is written. One that is read may be
+    /// longer, with other elements in it.
     pub const LIMIT: usize = EXCHANGE_LIMIT;
-    /// The type of the element that is an exchange.
+    /// The type of an exchange.
     pub const TYPE: u16 = EXCHANGE_TYPE;
 }
 
@@ -37,11 +38,11 @@ pub struct Elements<'a> {
     place: usize,
 }
 
-/// The elements of the run that the bytes are, one after the other. If one does
-/// not end within the bytes, 57 comes in its place and the walk ends.
+/// The elements of a run, in order. If one does not end within the bytes, 57
+/// comes in its place and the walk ends.
 ///
 /// A decoder sends other elements before the exchange (document 003, section
-/// 10.1), and so the exchange is found first:
+/// 10.1), so find the exchange first:
 ///
 /// ```
 /// use mant::{elements, read_exchange, Exchange};
@@ -84,9 +85,8 @@ impl<'a> Iterator for Elements<'a> {
 
 impl std::iter::FusedIterator for Elements<'_> {}
 
-/// The header and the payload in the exchange that the bytes are, all of them.
-/// Refusals: 57 to 59, 1 to 6 on header and payload joined, and 63 where bytes
-/// follow the PDU or the two parts do not meet at the header's end.
+/// The header and the payload of an exchange, which is all of the bytes.
+/// Refusals: 57 or 58, 59, 1 to 6 of the two joined, 63.
 ///
 /// ```
 /// use mant::{read_exchange, write_exchange, Exchange};
@@ -107,8 +107,8 @@ pub fn read_exchange(bytes: &[u8]) -> Result<Exchange<'_>, Refusal> {
     })
 }
 
-/// Writes the exchange of the PDU at the start of the bytes and gives its
-/// length. Refusals: 1 to 6, and 14 where the output is shorter than that.
+/// Writes the PDU at the start of the bytes as an exchange and returns its
+/// length. Refusals: 1 to 6, 14.
 pub fn write_exchange(bytes: &[u8], output: &mut [u8]) -> Result<usize, Refusal> {
     length(raw::write_exchange(bytes, output))
 }

@@ -1,49 +1,44 @@
 //! The MANT layer of ALERT2: the C library libmant.a with Rust types.
 //!
-//! Every function answers for every input and allocates nothing. An output is
-//! changed only where a PDU, its plain payload or an exchange is written to it,
-//! and keeps its bytes past the end of that. An edition is [`EDITION_1_1`] or
-//! [`EDITION_1_2`], and any other number is refused before all else; what takes
-//! none is the same under both, or, as sealing, is of 1.2 alone. A [`Node`]
-//! holds the settings of a box, edition included, and [`Lists`] its address lists.
-//! [`Stations`] holds the stations that a box has heard, [`Queue`] the PDUs that
-//! wait to be sent, [`Reliable`] those that wait for their acknowledgement,
-//! [`Record`] the last message numbers of encrypted PDUs. A [`Network`] says
-//! whom a report reaches and how often it goes out. [`raw`] gives the library's
-//! structs as they are.
+//! Every function is defined for every input and allocates nothing. What is
+//! refused is a [`Refusal`], with its number and its meaning. A function names
+//! its refusals in the order in which they are checked. With each of them
+//! output, table, queue and record stay as they were. Output is written from
+//! its first byte on, and bytes behind that stay. [`PDU_LIMIT`] bytes are room
+//! for every PDU, [`PAYLOAD_LIMIT`] for every plain payload, and
+//! [`Exchange::LIMIT`] for every exchange that is written.
 //!
-//! What is refused is a [`Refusal`], with its number and its meaning; the
-//! functions below name the numbers in the order in which they are looked for,
-//! and with each of them output, table, queue and record stay as they were.
-//! [`PDU_LIMIT`] bytes are room for every PDU, [`PAYLOAD_LIMIT`] for every plain
-//! payload, and [`Exchange::LIMIT`] for every exchange.
+//! A [`Node`] holds the settings of a box, and [`Lists`] its address lists.
+//! [`Stations`] counts the stations that a box has heard. [`Queue`] holds the
+//! PDUs that wait to be sent, and [`Reliable`] those that wait for their
+//! acknowledgement. [`Record`] holds the last message numbers of sealed PDUs. A
+//! [`Network`] says whom a report reaches and how often it goes out. [`raw`]
+//! has the library's structs as they are.
 //!
-//! No function remembers what was delivered: the same PDU heard by two ways is
-//! delivered twice, and so is a command that is sent again. Where that matters
-//! the program remembers it.
+//! An edition is [`EDITION_1_1`] or [`EDITION_1_2`]. Any other number is
+//! refused with 17, before all else. Sealing is of 1.2 alone.
 //!
-//! The names are those of `include/mant.h` without `mant_`, but for what belongs
-//! to a type here: `mant_lay_lists` is [`Lists::lay`], whose error is what
-//! `mant_list_fault` returns, `mant_change_over` [`Node::change_over`],
-//! `mant_hear_and_count` [`Stations::hear`], `mant_hear_reliably`
-//! [`Reliable::hear`], `mant_station_of` [`Stations::get`],
-//! `mant_stations_held` [`Stations::len`], `mant_count_heard`
-//! [`Stations::count`], `mant_queue_add` [`Queue::add`], `mant_retain`
-//! [`Reliable::retain`], which keeps the last time itself, `mant_open`
-//! [`Record::open`], `mant_chain_lengths` [`Network::chains`],
+//! No function remembers what was delivered: a PDU that arrives by two ways is
+//! delivered twice, and so is a command that is sent again. If that matters,
+//! the program remembers it. Over a restart a box must keep the [`Record`], the
+//! last message number and the last PDU ID. The rest may begin empty.
+//!
+//! The names are those of `include/mant.h` without `mant_`, except for methods:
+//! `mant_lay_lists` is [`Lists::lay`], whose error is what `mant_list_fault`
+//! returns, `mant_change_over` [`Node::change_over`], `mant_hear_and_count`
+//! [`Stations::hear`], `mant_hear_reliably` [`Reliable::hear`],
+//! `mant_station_of` [`Stations::get`], `mant_stations_held` [`Stations::len`],
+//! `mant_count_heard` [`Stations::count`], `mant_queue_add` [`Queue::add`],
+//! `mant_retain` [`Reliable::retain`], which keeps the last time itself,
+//! `mant_open` [`Record::open`], `mant_chain_lengths` [`Network::chains`],
 //! `mant_network_transmissions` [`Network::transmissions`], `mant_meaning`
-//! [`Refusal::meaning`]. What C says with a
-//! flag beside a value is an [`Option`] here.
+//! [`Refusal::meaning`]. A flag beside a value in C is an [`Option`] here.
 //!
-//! Over a restart a box must keep the [`Record`], and beside it what it counts
-//! itself, the message number and the PDU ID that it used last; the rest may
-//! begin empty again.
-//!
-//! To link, `libmant.a` must be there: `rt staticlib mant` makes it for x86-64
-//! Linux in the repository's `target/staticlib`, which is looked for first. On
-//! another processor `tools/build rust staticlib mant` makes one to try it
-//! with, and `MANT_LIB_DIR=../target/native` names its folder; a path that is
-//! not absolute counts from the repository's folder `rust`.
+//! Linking needs `libmant.a`. `rt staticlib mant` makes it for x86-64 Linux in
+//! the repository's `target/staticlib`, where it is looked for first. On
+//! another processor `tools/build rust staticlib mant` makes one to try, and
+//! `MANT_LIB_DIR=../target/native` names its folder. A relative path counts
+//! from the repository's folder `rust`.
 //!
 //! A report goes out, and repeater 2000 hears it:
 //!

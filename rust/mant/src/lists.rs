@@ -108,9 +108,8 @@ impl Lists {
         }
     }
 
-    /// Lays eight lists. Refuses the first that has a fault, whether a node
-    /// chooses it or not: kind by kind, first before second, and in each list 22,
-    /// 21, then 20.
+    /// Lays eight lists. Returns the first fault, chosen or not: kind by kind,
+    /// first before second, and in each list 22, 21, then 20.
     pub fn lay(lists: &EightLists) -> Result<Lists, ListFault> {
         let mut laid = Lists::none();
         let fault = raw::lay_eight(&mut laid.block, lists.in_order());
@@ -203,8 +202,8 @@ impl From<ListFault> for Refusal {
     }
 }
 
-/// Whether an address is in some range of a list. An empty list holds none; a
-/// last value without a partner is no range.
+/// Whether a range of a list holds an address. A last value without a partner
+/// is no range.
 pub fn list_holds(list: &[u16], address: u16) -> bool {
     raw::list_holds(list, address)
 }

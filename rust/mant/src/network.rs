@@ -4,14 +4,15 @@ use crate::raw::{self, Lent};
 use crate::Refusal;
 
 /// A network of which it is known who hears whom, for the reports of one node,
-/// the originator. A node is its place, from 0 on. What is told holds if the
-/// report is fresh, with a path, each transmission is taken once by every node
-/// that hears its sender and by no other, and every node has echo on and an
-/// address of its own. A node whose lists stop the report is not delivered it.
-/// A report with a destination is delivered to that node alone. Lists have no
-/// fault, and outputs have room. Where transmissions are lost the report goes
-/// out no more often. Tell an uncertain hearing for the counts, and leave it
-/// out for chains and failures.
+/// the originator. A node is its place, from 0 on.
+///
+/// The results hold if the report is fresh and has a path; every node takes
+/// each transmission that it hears once, and no other; echo is on at every
+/// node, and no two have the same address; lists have no fault, and outputs
+/// have room. If transmissions are lost, the report goes out no more often. A
+/// node whose lists stop the report is not delivered it, and a report with a
+/// destination is delivered to that node alone. Include an uncertain hearing
+/// for the counts, and leave it out for chains and failures.
 ///
 /// Gauge 0 is heard by the repeaters 1 and 2, which hear each other. Base
 /// station 3 hears both and does not repeat:
@@ -67,10 +68,10 @@ impl<'a> Network<'a> {
     pub const TABLE: usize = raw::AIRTIME_TABLE;
 
     /// The network of these hearings, each a sender's place and the place of a
-    /// node that hears it, and marks, one for each node: not 0 for a node that
-    /// does not repeat the report, since its repeating is off, its lists stop
-    /// it, or it is for that node. The originator's says nothing. None: there
-    /// are more than 255 nodes, or the originator is none of them.
+    /// node that hears it. `marks` has one byte for each node, not 0 if it does
+    /// not repeat the report: repeating is off, its lists stop it, or the
+    /// report is for it. The originator's is ignored. None: there are more than
+    /// 255 nodes, or the originator is none of them.
     pub fn new(hearings: &'a [[u8; 2]], marks: &'a [u8], originator: usize) -> Option<Self> {
         let served = marks.len() <= Self::LIMIT && originator < marks.len();
         served.then_some(Self {
@@ -80,9 +81,9 @@ impl<'a> Network<'a> {
         })
     }
 
-    /// The shortest chains from the originator, through nodes that repeat the
-    /// report, where this node has failed, if one has. A node that has a chain,
-    /// and none where another has failed, is cut off by that failure.
+    /// The shortest chains from the originator through nodes that repeat the
+    /// report, avoiding the node that has failed, if any. A node that loses its
+    /// chain when another fails is cut off by that failure.
     pub fn chains(&self, failed: Option<usize>) -> Chains {
         let mut chains = Chains {
             lengths: [raw::NO_CHAIN; Self::LIMIT],
@@ -95,10 +96,9 @@ impl<'a> Network<'a> {
         chains
     }
 
-    /// How often the report goes out, its first sending counted, and how often
-    /// each node sends it. None: at least as often as is enough, where the
-    /// count stops, which bounds the time. Refusal: 10 where the hop limit is
-    /// above 7.
+    /// How often the report goes out, its first sending included, and how often
+    /// each node sends it. None: the count reached `enough`, which bounds the
+    /// time. Refusal: 10.
     pub fn transmissions(
         &self,
         hop_limit: u64,
@@ -111,8 +111,8 @@ impl<'a> Network<'a> {
         })
     }
 
-    /// How many bytes those transmissions have, where the fresh report has this
-    /// size. None and the refusal as there.
+    /// The bytes of those transmissions, if the fresh report has this size.
+    /// None and the refusal as there.
     pub fn bytes(
         &self,
         hop_limit: u64,
@@ -153,16 +153,15 @@ impl Chains {
         length.filter(|length| *length != raw::NO_CHAIN)
     }
 
-    /// The smallest path count with which a node is delivered a report of this
-    /// hop limit. None: it is not, as the originator never is.
+    /// The smallest path count with which a report of this hop limit is
+    /// delivered to a node. None: it is not, nor ever to the originator.
     pub fn path_count(&self, node: usize, hop_limit: u8) -> Option<u8> {
         let count = self.length(node)?.checked_sub(1)?;
         (hop_limit == 7 || count <= hop_limit).then_some(count)
     }
 
-    /// The least hop limit at which a chain reaches every node but the
-    /// originator. None: no chain leads to one of them. A node that has failed
-    /// does not count.
+    /// The least hop limit that reaches every node but the originator and the
+    /// failed one. None: one of them has no chain.
     pub fn least_hop_limit(&self) -> Option<u8> {
         let mut lengths = self.lengths;
         let lengths = &mut lengths[..self.nodes];

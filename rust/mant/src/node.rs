@@ -4,8 +4,8 @@ use crate::raw::{self, EDITION_1_2};
 use crate::{Choice, Cursor, Lists, Refusal};
 use std::ops::Range;
 
-/// What a node is set to. Begin with [`Node::new`] and set what differs. A pass
-/// list that is chosen and empty passes nothing.
+/// The settings of a node. Begin with [`Node::new`]. A pass list that is chosen
+/// and empty passes nothing.
 #[derive(Clone, Copy, Debug, PartialEq, Eq)]
 pub struct Node {
     /// [`EDITION_1_1`](crate::EDITION_1_1) or [`EDITION_1_2`]; any other number
@@ -43,9 +43,8 @@ impl Node {
         }
     }
 
-    /// Returns the same node with this choice for all four kinds of list, as
-    /// when the season changes. A kind that was off is set too, and a pass
-    /// list that is then chosen and empty passes nothing.
+    /// Returns the node with this choice for all four kinds of list, as when
+    /// the season changes. A kind that was off is set too.
     ///
     /// ```
     /// use mant::{Choice, Node};
@@ -85,18 +84,18 @@ impl Node {
     }
 }
 
-/// What a node answers for one PDU.
+/// What a node does with one PDU.
 #[derive(Clone, Debug, PartialEq, Eq)]
 pub struct Answer {
     /// Where the delivered payload lies, counted from the PDU's first byte.
     pub delivery: Result<Range<usize>, Refusal>,
     /// How many bytes of the repeated PDU were written to the output.
     pub repeat: Result<usize, Refusal>,
-    /// Where the next PDU begins, counted from this one's first byte; 0 where
-    /// this one was not read: the edition is unknown, or there is no PDU.
+    /// Where the next PDU begins, counted from this one's first byte; 0 if none
+    /// was read: with 17 and 1 to 6.
     pub taken: usize,
-    /// Who the PDU was heard from, whenever it was read: the last path
-    /// address, or the source if the path is empty. None where it is unknown.
+    /// Who sent the PDU last: the last path address, or the source if the path
+    /// is empty. None if that is unknown.
     pub last_sender: Option<u16>,
 }
 
@@ -140,25 +139,24 @@ pub enum Step {
     Refused(Refusal),
 }
 
-/// What a node answers for the PDU at the start of the received bytes.
+/// Decides what a node does with the PDU at the start of the received bytes.
 ///
-/// Refusals of delivery and repeat alike, the first that applies: 17, 1 to 6
-/// where there is no PDU, 30 and 42 with echo on, 31 to 34 by the lists that are
-/// chosen, and 40 where the output is too short for the repeated PDU, which then
-/// is not delivered either. 33 and 34 are given to no PDU without a destination.
-/// Of delivery alone: 39, then 35; of repeat alone: 41, then 36 to 38.
+/// Delivery and repeat are refused alike with the first of these that applies:
+/// 17, 1 to 6, 30, 42, 31 to 34, 40. With echo off there is no 30 and no 42.
+/// The lists chosen give 31 to 34, and 33 and 34 only to a PDU with a
+/// destination. 40: the PDU would be repeated, and the output is too short.
+/// Otherwise delivery alone is refused with 39, then 35, and repeat alone with
+/// 41, then 36 to 38.
 ///
-/// The repeated PDU is the received one with a hop limit that is one lower, but 7
-/// stays 7, and with a path the own address behind the others, 2 bytes more. The
-/// output is written to only where repeat is `Ok`; it may be empty where nothing
-/// is to be repeated.
+/// The output is written only if repeat is `Ok`. It gets the PDU with the hop
+/// limit one lower, but 7 stays 7, and with a path the own address at its end,
+/// 2 bytes more.
 pub fn hear(node: &Node, lists: &Lists, received: &[u8], output: &mut [u8]) -> Answer {
     Answer::of(raw::hear(node.raw(), lists.words(), received, output))
 }
 
-/// One step of the walk over PDUs that lie back to back: what [`hear`] answers
-/// for the PDU at the cursor, with the same refusals and the same output. A walk
-/// begins with `Cursor::default()`.
+/// One step over PDUs back to back: what [`hear`] returns and writes for the
+/// PDU at the cursor. A walk begins with `Cursor::default()`.
 ///
 /// After 17 and 1 to 6 the next cursor has ended. If the step returned `answer`
 /// and `next`, the PDU began at `next.place - answer.taken`, and the ranges of

@@ -3,9 +3,9 @@
 use crate::raw::{self, EDITION_1_2};
 use crate::{length, Refusal};
 
-/// What is asked of a fresh PDU. Edition, hop limit and port are wider than they
-/// need be, so that 263 arrives as 263 and is refused. The default is edition
-/// 1.2 and 0, none or false in all else.
+/// Settings of a fresh PDU. Edition, hop limit and port are wide, so that 263
+/// arrives as 263 and is refused. The default is edition 1.2, and 0, none or
+/// false in all else.
 #[derive(Clone, Copy, Debug, PartialEq, Eq)]
 pub struct Fresh {
     /// [`EDITION_1_1`](crate::EDITION_1_1) or [`EDITION_1_2`].
@@ -14,7 +14,7 @@ pub struct Fresh {
     pub source: u16,
     /// Destination address; without one the PDU is for everyone.
     pub destination: Option<u16>,
-    /// 0 to 7; 7 sets no limit.
+    /// 0 to 7; 7 is never lowered.
     pub hop_limit: u64,
     /// 0 to 15.
     pub port: u64,
@@ -26,8 +26,7 @@ pub struct Fresh {
     pub reliable: bool,
     /// Written for reliable service only.
     pub pdu_id: u8,
-    /// The payload is encrypted already: sets the flag, which edition 1.1 does
-    /// not have.
+    /// The payload is encrypted already. Edition 1.1 has no such flag.
     pub encrypted: bool,
 }
 
@@ -48,8 +47,8 @@ impl Default for Fresh {
     }
 }
 
-/// Writes a fresh PDU with this payload and gives its length. Refusals: 17, 10
-/// to 13, 16, and 14 where the output is shorter than the PDU.
+/// Writes a fresh PDU with this payload and returns its length. Refusals: 17,
+/// 10 to 13, 16, 14.
 pub fn originate(fresh: &Fresh, payload: &[u8], output: &mut [u8]) -> Result<usize, Refusal> {
     let settings = raw::Fresh {
         edition: fresh.edition,

@@ -4,13 +4,12 @@
 use crate::raw;
 use crate::{Limits, Refusal};
 
-/// The most transmissions that one fresh PDU with a path and this hop limit
-/// can cause among so many repeating nodes, its first sending counted. All have
-/// echo on and an address of their own, the node at the PDU's source address
-/// too, which is not one of them, nor is the destination. No node takes a transmission twice: a radio
-/// hears each one once, and a decoder that hands a frame over twice breaks
-/// that. None: 64 bits do not hold it. Refusal: 10 where
-/// the hop limit is above 7.
+/// The most transmissions that one fresh PDU with a path can cause, its first
+/// sending included. `nodes` counts the nodes that repeat, without the
+/// originator and the destination. Echo is on at every node, the originator
+/// too, no two have the same address, and none takes a transmission twice. A
+/// decoder that hands a frame over twice breaks that. None: 64 bits do not hold
+/// it. Refusal: 10.
 ///
 /// ```
 /// assert_eq!(mant::most_transmissions(5, 3), Ok(Some(86)));
@@ -21,20 +20,17 @@ pub fn most_transmissions(nodes: u64, hop_limit: u64) -> Result<Option<u64>, Ref
     bound(raw::most_transmissions(nodes, hop_limit))
 }
 
-/// The most bytes that those transmissions have together, where the fresh PDU
-/// has this size. None: 64 bits do not hold it. Refusal: 10 where the hop limit
-/// is above 7.
+/// The most bytes of those transmissions, if the fresh PDU has this size. None:
+/// 64 bits do not hold it. Refusal: 10.
 pub fn most_bytes(nodes: u64, hop_limit: u64, size: u64) -> Result<Option<u64>, Refusal> {
     bound(raw::most_bytes(nodes, hop_limit, size))
 }
 
-/// The most transmissions that one command can cause, its acknowledgements
-/// counted. It is sent once, and again at most `tries` times. Its destination
-/// acknowledges every copy that arrives, each time by a fresh PDU.
-/// `answer_nodes` and `answer_hop_limit` are the acknowledgement's. Neither the
-/// originator nor the destination counts among the nodes. It holds where
-/// [`most_transmissions`] does for both. None: 64 bits do not hold it. Refusal:
-/// 10 where a hop limit is above 7.
+/// The most transmissions of one command, sent again at most `tries` times, and
+/// of its acknowledgements: its destination acknowledges every copy that
+/// arrives. `answer_nodes` and `answer_hop_limit` are the acknowledgement's.
+/// What [`most_transmissions`] asks holds for both, and neither the originator
+/// nor the destination is counted. None: 64 bits do not hold it. Refusal: 10.
 ///
 /// ```
 /// assert_eq!(mant::most_for_command(0, 3, 3, 3, 3), Ok(Some(272)));

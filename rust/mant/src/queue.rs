@@ -19,8 +19,8 @@ pub struct Taken {
     pub bytes: usize,
 }
 
-/// The PDUs that wait for the modem's next slot, 32 of them at most and 2,048
-/// bytes. It begins empty. Two queues are equal where they hold the same PDUs
+/// The PDUs that wait for the modem's next slot, at most 32, and 2,048 bytes
+/// together. It begins empty. Two queues are equal if they hold the same PDUs
 /// in the same order.
 #[derive(Clone)]
 pub struct Queue {
@@ -41,8 +41,8 @@ impl Queue {
     }
 
     /// The queue in this memory, which `include/mant.h` describes. Any bytes
-    /// hold one; if the numbers before its PDUs are not theirs, its level is
-    /// what they say.
+    /// are a queue. In malformed memory the level may not be that of the PDUs
+    /// held.
     pub const fn from_memory(memory: [u8; QUEUE_LENGTH]) -> Queue {
         Queue { memory }
     }
@@ -52,8 +52,7 @@ impl Queue {
         &self.memory
     }
 
-    /// How many PDUs and bytes are held, as the queue keeps it: none is looked
-    /// at.
+    /// How many PDUs and bytes are held, by the queue's own numbers.
     pub fn level(&self) -> Level {
         raw::queue_level(&self.memory)
     }
@@ -77,16 +76,15 @@ impl Queue {
         pdus.take(level.pdus)
     }
 
-    /// Adds a PDU, or answers 61 where the bytes are not exactly one, and then
-    /// 60 where there is no room for it. For one of more than [`Queue::BYTES`]
-    /// bytes there never is.
+    /// Adds a PDU; nothing may follow it in the bytes. Refusals: 61, 60. A PDU
+    /// of more than [`Queue::BYTES`] bytes always gets 60.
     pub fn add(&mut self, pdu: &[u8]) -> Result<(), Refusal> {
         Refusal::check(raw::queue_add(&mut self.memory, pdu))
     }
 
-    /// Moves as many of the oldest PDUs to the output as fit there, or answers
-    /// 62 where the oldest doesn't. An empty queue gives none. A PDU that no slot
-    /// has room for holds up all behind it, so do not add one.
+    /// Moves the oldest PDUs to the output, up to the first that does not fit.
+    /// Refusal: 62, if the oldest does not fit. An empty queue gives none. A
+    /// PDU that no slot has room for holds up all behind it, so do not add one.
     ///
     /// ```
     /// let (mut queue, mut slot) = (mant::Queue::new(), [0; 12]);

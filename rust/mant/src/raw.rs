@@ -1,7 +1,7 @@
-//! The C library as `include/mant.h` declares it, its structs passed through
-//! as they are. Slices go in as a pointer and a length, which is all that the
-//! library asks of a caller, so these functions are safe. What each answers the
-//! header tells under the name in C.
+//! The C library as `include/mant.h` declares it, its structs passed through as
+//! they are. Slices go in as a pointer and a length, which is all that the
+//! library asks of a caller, so these functions are safe. The header says what
+//! each returns, under its name in C.
 
 mod exchange;
 mod lists;

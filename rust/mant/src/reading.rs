@@ -37,8 +37,7 @@ pub struct Header {
 }
 
 /// The header of the PDU at the start of the bytes, as the edition shows it.
-/// Bytes after the PDU are not looked at. Refusals: 17, and 1 to 6 where there
-/// is no PDU.
+/// Bytes behind the PDU are ignored. Refusals: 17, then 1 to 6.
 pub fn read(edition: u64, bytes: &[u8]) -> Result<Header, Refusal> {
     let header = raw::read(edition, bytes);
     Refusal::check(header.number)?;
@@ -59,22 +58,20 @@ pub fn read(edition: u64, bytes: &[u8]) -> Result<Header, Refusal> {
     })
 }
 
-/// The address at a place of the path of the PDU at the start of the bytes,
-/// the first at 0. None past the last one and where there is no PDU.
+/// The path address at a place, the first at 0, of the PDU at the start of the
+/// bytes. None past the last one and if there is no PDU.
 pub fn path_address(bytes: &[u8], place: usize) -> Option<u16> {
     let count = usize::from(raw::read(EDITION_1_2, bytes).path_count);
     (place < count).then(|| raw::path_address(bytes, place))
 }
 
-/// Whether an address is anywhere in the path of the PDU at the start of the
-/// bytes.
+/// Whether the path of the PDU at the start of the bytes holds an address.
 pub fn path_has(bytes: &[u8], address: u16) -> bool {
     raw::path_has(bytes, address)
 }
 
-/// Writes the PDU at the start of the bytes again, from what the edition shows
-/// of it, and gives its length. Refusals: 17, 1 to 6, and 14 where the output
-/// is shorter than the PDU.
+/// Writes the PDU at the start of the bytes again from its fields, the same
+/// bytes, and returns its length. Refusals: 17, 1 to 6, 14.
 pub fn write_again(edition: u64, bytes: &[u8], output: &mut [u8]) -> Result<usize, Refusal> {
     length(raw::write_again(edition, bytes, output))
 }

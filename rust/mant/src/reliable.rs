@@ -22,19 +22,19 @@ pub enum Deed {
     Acknowledged(Names, usize),
 }
 
-/// What a node answers for one PDU, and what was done with its table.
+/// What a node does with one PDU, and what was done with its table.
 #[derive(Clone, Debug, PartialEq, Eq)]
 pub struct HeardReliably {
-    /// The node's answer, which does not depend on the table.
+    /// The node's answer, whatever the table holds.
     pub answer: Answer,
     /// What was done: the PDU freed a record, or is acknowledged, or neither.
     pub deed: Result<Deed, Refusal>,
 }
 
-/// The reliable PDUs that wait for their acknowledgement, 16 of them at most,
-/// and the last accepted time, in seconds. It begins free. After a clock was set
-/// back, 73, go on with [`Reliable::from_records`]: the same records with their
-/// `sent_at` set to the time now, and 0 for the last time.
+/// The reliable PDUs that wait for their acknowledgement, at most 16, and the
+/// last accepted time, in seconds. It begins empty. If the clock was set back
+/// (73), go on with [`Reliable::from_records`]: the same records with `sent_at`
+/// set to the time now, and 0 for the last time.
 #[derive(Clone, Debug, PartialEq, Eq)]
 pub struct Reliable {
     records: [Retained; RECORDS],
@@ -68,22 +68,19 @@ impl Reliable {
         self.last
     }
 
-    /// Retains a PDU that is sent at this time. Refusals: 73 where the time is
-    /// earlier than the last, 75 where it is not one fresh reliable PDU, 72
-    /// where it has more than 256 bytes, 71 where one of the same source,
-    /// destination and ID is retained, 70 where no record is free. Send it only
-    /// once it is retained. Give each command the next ID, over a restart too: a
-    /// box that knows copies by source and ID takes one used before for a copy.
+    /// Retains a PDU that is sent at this time; nothing may follow it in the
+    /// bytes. Refusals: 73, 75, 72, 71, 70. Send it only once it is retained.
+    /// Give each command the next ID, over a restart too: a used ID looks like
+    /// a copy.
     pub fn retain(&mut self, time: u64, pdu: &[u8]) -> Result<Deed, Refusal> {
         let outcome = raw::retain(&mut self.records, self.last, time, pdu);
         self.after(outcome)
     }
 
-    /// One step: the first PDU that was last sent the delay ago, or longer, is
-    /// sent again, or, where it was sent again so many times, reported failed.
-    /// At each moment, go on while something is done. Refusals: 73, and 77 where
-    /// the output is shorter than the PDU to be sent, which then stays as it
-    /// was.
+    /// One step over the first PDU that was last sent `delay` or more before
+    /// this time. If it was sent again `tries` times or more, it is dropped as
+    /// failed. Otherwise it is written to the output. Step while something is
+    /// done. Refusals: 73, 77.
     ///
     /// ```
     /// use mant::{originate, Deed, Fresh, Reliable};
@@ -108,12 +105,11 @@ impl Reliable {
         self.after(outcome)
     }
 
-    /// A node hears the PDU at the start of the received bytes, as by
-    /// [`hear`](crate::hear), and the table with it. A reliable PDU that the
-    /// node delivers frees a record or is acknowledged; no other does anything.
-    /// The output has the repeated PDU or the acknowledgement: one PDU never
-    /// calls for both. Refusals: 10 and 11 where an acknowledgement is due, and
-    /// 77 where the output has no room for it, 9 bytes or with a path 10.
+    /// [`hear`](crate::hear), and what the PDU does to the table. A reliable
+    /// PDU that the node delivers frees a record, if ACK is set. Otherwise its
+    /// acknowledgement is written to the output, 9 bytes or with a path 10.
+    /// Such a PDU is not repeated, so the output has one PDU at most. Refusals:
+    /// 10 and 11 if an acknowledgement is due, 77.
     ///
     /// ```
     /// use mant::{Deed, Lists, Node, Reliable, Sending};
@@ -144,11 +140,10 @@ impl Reliable {
         }
     }
 
-    /// The second half of [`Reliable::hear`] alone, for a PDU that was heard by
-    /// another call with this answer, at the node with this own address. It goes
-    /// by the number for delivery and by the bytes: if they cannot be read, are
-    /// for another address or have the added header set, nothing is done,
-    /// whatever the answer says.
+    /// The second half of [`Reliable::hear`], for a PDU that another call heard
+    /// at node `own` with this answer. A PDU for another address or with an
+    /// added header does nothing, whatever the answer. Pass only the answer for
+    /// these bytes.
     pub fn acknowledge(
         &mut self,
         own: u16,

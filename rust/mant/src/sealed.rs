@@ -4,9 +4,9 @@ use crate::raw::{self, SOURCE_LIMIT, SOURCE_WORDS};
 use crate::{length, Key, Refusal};
 use std::fmt;
 
-/// The last message number that was accepted from each source, 64 of them at
-/// most. It begins empty, and is to be kept over a restart: an empty one takes
-/// what another has taken before.
+/// The last message number that was accepted from each source, at most 64. It
+/// begins empty. Keep it over a restart, and before a command is carried out:
+/// an empty record opens what was opened before.
 #[derive(Clone, PartialEq, Eq)]
 pub struct Record {
     words: [u32; SOURCE_WORDS],
@@ -48,18 +48,13 @@ impl Record {
         Some(pair.1)
     }
 
-    /// Opens the sealed PDU at the start of the bytes: writes its plain payload,
-    /// gives its length, and notes its message number.
+    /// Opens the sealed PDU at the start of the bytes: writes its plain
+    /// payload, returns its length, and notes its message number.
     ///
-    /// Refusals, the first that applies: 1 to 6 where there is no PDU, 80 where
-    /// its encrypted bit is clear, 81 where its payload has fewer than 7 bytes,
-    /// 82 where its number is not greater than the last accepted from its
-    /// source, 83 where its hash differs, 84 where its source is new and the
-    /// record full, 87 where the output is shorter than the plain payload. With
-    /// each of them output and record stay as they were, so that after 87 the
-    /// PDU can be opened with more room. 82 is found before the hash is looked
-    /// at: it proves nothing about who sent the PDU, nor that it was opened
-    /// before. Once a later number is accepted an earlier one never opens.
+    /// Refusals: 1 to 6, 80 to 84, 87. After 87 the PDU can be opened with more
+    /// room. 82 is found before the hash is checked, and proves nothing about
+    /// the sender. Once a later number is accepted, an earlier one never opens.
+    /// `docs/SEALING.md` says what sealing does not protect.
     ///
     /// ```
     /// use mant::{seal, Key, Record, Refusal};
@@ -79,7 +74,7 @@ impl Record {
     }
 
     /// Removes a source, and returns whether it was held. Its next number may
-    /// then be any, also one that was accepted before: for when its key changes.
+    /// be any, also a used one, so remove a source only when its key changes.
     ///
     /// ```
     /// let mut words = [0; mant::Record::WORDS];
@@ -105,22 +100,17 @@ impl fmt::Debug for Record {
     }
 }
 
-/// The message number of the sealed PDU at the start of the bytes. It lies in
-/// clear, and anyone can send any. Refusals: 1 to 6 where there is no PDU, 80
-/// where its encrypted bit is clear, 81 where its payload has fewer than 7 bytes.
+/// The message number of the sealed PDU at the start of the bytes. It is not
+/// checked: anyone can send any number. Refusals: 1 to 6, 80, 81.
 pub fn message_number(pdu: &[u8]) -> Result<u32, Refusal> {
     let numbered = raw::message_number(pdu);
     Refusal::check(numbered.number).map(|()| numbered.message)
 }
 
-/// Seals the PDU at the start of the bytes under a message number, 16,777,215
-/// at most, and gives its length, 7 bytes more than the PDU's. Under one key no
-/// source may use a number twice, or who listens learns of both payloads: the
-/// caller counts them up, and keeps the count, before the PDU goes out, over a
-/// restart. The number lies in clear in the first three bytes of the sealed
-/// payload. Refusals: 1 to 6, 88 where the encrypted bit is set already, 85 where the
-/// payload would have more than 4,095 bytes, 86 for a greater number, and 87
-/// where the output is shorter than the sealed PDU.
+/// Seals the PDU at the start of the bytes and returns its length, 7 bytes
+/// more. Under one key no source may use a number twice, or a listener learns
+/// how the payloads differ. Keep the next number, over a restart too, before
+/// the PDU goes out. Refusals: 1 to 6, 88, 85, 86, 87.
 pub fn seal(key: &Key, number: u64, pdu: &[u8], output: &mut [u8]) -> Result<usize, Refusal> {
     length(raw::seal(*key, number, pdu, output))
 }

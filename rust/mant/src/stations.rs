@@ -23,24 +23,23 @@ pub struct Station {
 pub struct Heard {
     /// Source address.
     pub source: u16,
-    /// The node dropped it by echo: it answered 30 or 42.
+    /// The node returned 30 or 42 for it.
     pub echo: bool,
     /// How many addresses its path has, if there is a path.
     pub path_count: Option<u8>,
 }
 
-/// What a node answers for one PDU, and what its table does.
+/// What a node does with one PDU, and what its table does.
 #[derive(Clone, Debug, PartialEq, Eq)]
 pub struct Listened {
-    /// The node's answer, which does not depend on the table.
+    /// The node's answer, whatever the table holds.
     pub answer: Answer,
-    /// 55 where the source is new and 128 stations are held.
+    /// 55, if the source is new and the table full.
     pub table: Result<(), Refusal>,
 }
 
-/// The table of the stations that a box has heard, 128 of them at most, by
-/// rising address. It begins empty. Two tables are equal where they list the
-/// same stations.
+/// The stations that a box has heard, at most 128, by rising address. It begins
+/// empty. Two tables are equal if they list the same stations.
 #[derive(Clone)]
 pub struct Stations {
     words: [u16; STATION_WORDS],
@@ -58,8 +57,8 @@ impl Stations {
     }
 
     /// The table in these words, which `include/mant.h` describes. Any words
-    /// hold one; where their addresses do not rise, a station may not be found
-    /// by its address.
+    /// are a table. If the addresses do not rise, a station may not be found by
+    /// its address.
     pub const fn from_words(words: [u16; STATION_WORDS]) -> Stations {
         Stations { words }
     }
@@ -79,13 +78,13 @@ impl Stations {
         self.len() == 0
     }
 
-    /// The station of an address, or 56 where it is not held.
+    /// The station with this address. Refusal: 56, if it is not held.
     pub fn get(&self, address: u16) -> Result<Station, Refusal> {
         Station::found(raw::station_of(&self.words, address))
     }
 
-    /// The station at a place of the listing by rising address, the lowest at
-    /// 0. None past the last one.
+    /// The station at a place by rising address, the first at 0. None past the
+    /// last one.
     pub fn at(&self, place: usize) -> Option<Station> {
         Station::found(raw::station_at(&self.words, place)).ok()
     }
@@ -95,31 +94,30 @@ impl Stations {
         (0..self.len()).filter_map(|place| self.at(place))
     }
 
-    /// Removes the station of an address, or answers 56 where it is not held.
-    /// Heard again later, it starts anew.
+    /// Removes a station. Refusal: 56, if it is not held. Heard again, it
+    /// starts anew.
     pub fn remove(&mut self, address: u16) -> Result<(), Refusal> {
         Refusal::check(raw::remove_station(&mut self.words, address))
     }
 
-    /// Counts a PDU that was read, or answers 55 where its source is new and
-    /// [`Stations::LIMIT`] stations are held.
+    /// Counts a PDU that was read. Refusal: 55, if its source is new and the
+    /// table full.
     pub fn count(&mut self, heard: &Heard) -> Result<(), Refusal> {
         Refusal::check(raw::count_heard(&mut self.words, heard.raw()))
     }
 
-    /// Counts the PDU at the start of the received bytes by what a node
-    /// answered for it, as after a step of a walk. Where no PDU was read
-    /// nothing is counted. Hand on only what the node answered for these bytes.
-    /// Refusal: 55 where the source is new and [`Stations::LIMIT`] stations are
-    /// held.
+    /// Counts the PDU at the start of the received bytes by the node's answer
+    /// for it, as after a step of a walk. If none was read, it counts nothing.
+    /// Pass only the answer for these bytes: that is not checked. Refusal: 55,
+    /// if its source is new and the table full.
     pub fn count_answer(&mut self, received: &[u8], answer: &Answer) -> Result<(), Refusal> {
         let answer = answer.raw();
         Refusal::check(raw::count_answer(&mut self.words, received, answer))
     }
 
-    /// What [`crate::hear`] answers and writes, and the PDU counted if it could
-    /// be read, also where a list then stops it. A full table, 55, changes
-    /// nothing in the node's answer.
+    /// [`crate::hear`], then [`Stations::count_answer`]. Every PDU that was
+    /// read counts, also a dropped one. A full table changes nothing in the
+    /// node's answer.
     ///
     /// ```
     /// use mant::{Lists, Node, Refusal, Stations};
