@@ -1,5 +1,5 @@
-//! What the reference takes and answers, in the structs of the library's C
-//! boundary.
+//! What the reference model takes and returns, in the structs of the library's
+//! C boundary.
 
 use mant::raw;
 use reference::{

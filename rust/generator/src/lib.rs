@@ -1,11 +1,10 @@
-//! Seeded inputs for everything that document 01 describes, and 02 as far as
-//! it is built: PDUs, damaged and cut ones, editions, settings, lists, outputs, batches,
-//! jobs, histories of a table of stations, exchanges, transmit queues,
-//! tables of retained PDUs, encrypted payloads, and networks.
+//! Seeded inputs for documents 01 and 02: PDUs, also damaged and cut ones,
+//! editions, settings, lists, outputs, batches, jobs, histories of a table of
+//! stations, exchanges, transmit queues, tables of retained PDUs, encrypted
+//! payloads, and networks.
 //!
 //! Everything is drawn from one [`Random`], so the same seed gives the same
-//! inputs. PDUs are laid out here by arithmetic of their own, not by the
-//! reference's writing.
+//! inputs. PDUs are laid out by arithmetic here, not by the reference model.
 
 mod batch;
 mod block;

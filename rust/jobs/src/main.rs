@@ -1,14 +1,13 @@
-//! The reference model of document 01 beside the built programs, and asked for
-//! its results.
+//! Compares the built programs with the reference model.
 //!
-//! `jobs print` prints what `relay` must print for the job on standard input.
-//! `jobs compare PROGRAM [seed [count [first]]]` relays generated jobs by the
-//! program and compares its whole text with the model's: the seed of the
-//! jobs (1), how many (1,000), and the first (0), so that one can be run alone.
-//! `jobs reach PROGRAM [seed [count [first]]]` asks the program `reach` about
-//! generated networks and compares in the same way.
-//! `jobs lines SEED COUNT` prints so many generated inputs of the library's
-//! functions, with what the model returns.
+//! - `jobs print` prints what `relay` must print for the job on standard input.
+//! - `jobs compare PROGRAM [seed [count [first]]]` relays generated jobs by the
+//!   program and compares its whole text with the model's. The defaults are seed
+//!   1, 1,000 jobs, and 0 for the first, so that one job can be run alone.
+//! - `jobs reach PROGRAM [seed [count [first]]]` does the same with the program
+//!   `reach` and generated networks.
+//! - `jobs lines SEED COUNT` prints generated inputs of the library's functions,
+//!   with what the model returns.
 
 mod compare;
 mod lines;
@@ -43,7 +42,7 @@ fn main() -> ExitCode {
     }
 }
 
-/// Prints the model's text for the job on standard input.
+/// Prints the reading's text for the job on standard input.
 fn print() -> io::Result<()> {
     let mut job = vec![];
     io::stdin().read_to_end(&mut job)?;

@@ -1,9 +1,8 @@
-//! The reference model: document 01, and document 02 as far as it is built,
-//! written from their text alone.
+//! The reference model: documents 01 and 02, written from their text alone.
 //!
-//! Nothing here is fast or clever. Each module cites the section that it reads,
-//! and uses the names of 01. It shares nothing with the library it is compared
-//! with but the words of the numbers, in docs/NUMBERS.md.
+//! Nothing here is fast or clever. Each module cites the section that it
+//! follows, and uses the names of 01. It shares nothing with the library that
+//! it is compared with, except the words of the numbers, in docs/NUMBERS.md.
 
 mod aes;
 mod airtime;
