@@ -1,6 +1,6 @@
 """The MANT layer of ALERT2 for Python: the library libmant, called through ctypes. It needs Python 3.9 or newer, and no packages.
 
-Make the library once with `tools/build python shared mant` at the top of the clone, and set PYTHONPATH to the clone's folder `python`. MANT_LIB names a
+Make the library once with `tools/build shared mant` at the top of the clone, and set PYTHONPATH to the clone's folder `python`. MANT_LIB names a
 library elsewhere. Arguments are anything like bytes; results are bytes.
 
 >>> report = bytes.fromhex('0300100B03E80640007001081212032413220276')

@@ -8,7 +8,7 @@ from ctypes import c_bool, c_size_t, c_uint8, c_uint16, c_uint32, c_uint64, c_vo
 
 TOP = pathlib.Path(__file__).resolve().parent.parent
 LIBRARY = TOP / 'target/python/libmant.so'
-COMMAND = 'tools/build python shared mant'
+COMMAND = 'tools/build shared mant'
 
 
 class LibraryMissing(ImportError):

@@ -1,4 +1,5 @@
 """What ./relay, ./reach, ./plan and ./show share: the ways in which a command ends, what it is given, its text written, and a program that it asks."""
+import argparse
 import os
 import pathlib
 import stat
@@ -77,17 +78,25 @@ def asked(name, words, given=b''):
     return printed.decode()
 
 
-def run(name, about, do, unproved):
-    """The exit status of a command that does what its words say, or prints with --help what it is about."""
-    words = sys.argv[1:]
+class Parser(argparse.ArgumentParser):
+    """Writes --help as a command writes its text, so that a full disk or a reader that has gone ends it in the same way."""
+
+    def _print_message(self, message, file=None):
+        if file is sys.stdout:
+            write_out(message)
+        else:
+            building.say(message, end='')
+
+
+def run(name, about, do, unproved, declare):
+    """The exit status of a command. `declare` adds its arguments to a parser, and `do` gets them parsed."""
     building.stop_by_signals()
     try:
         if sys.stdout is None:
             raise End(5, 'the text could not be written: standard output is closed')
-        if '--help' in words or '-h' in words:
-            write_out(f'{about}\n')
-        else:
-            do(words)
+        parser = Parser(prog=f'./{name}' if '/' not in name else name, description=about, formatter_class=argparse.RawDescriptionHelpFormatter, allow_abbrev=False)
+        declare(parser)
+        do(parser.parse_args())
     except End as end:
         if end.args[1]:
             building.say(f'{name}: {end.args[1]}')

@@ -7,7 +7,7 @@ use std::env;
 use std::path::{Path, PathBuf};
 
 const ELSEWHERE: &str = "libmant.a is for x86-64 Linux. On another processor: \
-    `tools/build rust staticlib mant` in the repository, and MANT_LIB_DIR=../target/native, \
+    `tools/build staticlib mant` in the repository, and MANT_LIB_DIR=../target/native, \
     which counts from its folder rust";
 
 fn main() {

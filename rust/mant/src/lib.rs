@@ -36,7 +36,7 @@
 //!
 //! Linking needs `libmant.a`. `rt staticlib mant` makes it for x86-64 Linux in
 //! the repository's `target/staticlib`, where it is looked for first. On
-//! another processor `tools/build rust staticlib mant` makes one to try, and
+//! another processor `tools/build staticlib mant` makes one to try, and
 //! `MANT_LIB_DIR=../target/native` names its folder. A relative path counts
 //! from the repository's folder `rust`.
 //!
