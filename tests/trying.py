@@ -5,9 +5,11 @@ import shutil
 import signal
 import subprocess
 import sys
+import time
 
 TOP = pathlib.Path(__file__).resolve().parent.parent
 sys.path[:0] = [str(TOP / 'tools'), str(TOP / 'python')]
+SEEDS = ('1', time.strftime('%Y%m%d', time.gmtime()))  # of generated inputs: a fixed one, and a new one each day
 
 
 class Tally:
