@@ -10,8 +10,8 @@ bool openssl_counter_mode(const uint8_t key[16], const uint8_t first[16], const 
 {
     EVP_CIPHER_CTX *context = EVP_CIPHER_CTX_new();
     int written = 0;
-    bool done = context != NULL && EVP_EncryptInit_ex(context, EVP_aes_128_ctr(), NULL, key, first) == 1
-                && EVP_EncryptUpdate(context, to, &written, from, (int)length) == 1;
+    bool done = context != NULL && EVP_EncryptInit_ex(context, EVP_aes_128_ctr(), NULL, key, first) == 1 &&
+                EVP_EncryptUpdate(context, to, &written, from, (int)length) == 1;
 
     EVP_CIPHER_CTX_free(context);
     return done && (size_t)written == length;

@@ -33,7 +33,12 @@ static uint8_t output[MANT_PDU_LIMIT], plain[MANT_PAYLOAD_LIMIT], slot[SLOT_BYTE
 
 /* What the modem hears, and at which second. */
 #define COMMAND(last) 0x0B, 8, 0x30, 11, 0x06, 0x40, 0x07, 0xD0, 9, 0, 0, 0x03, 0x52, 0x5C, 0x1B, 0xA0, 0x3B, 0x2D, 0x59, 0x77, last
-static const struct { uint64_t time; const char *what; size_t length; uint8_t bytes[40]; } frames[] = {
+static const struct {
+    uint64_t time;
+    const char *what;
+    size_t length;
+    uint8_t bytes[40];
+} frames[] = {
     {3, "reports of gauges 1000 and 1300", 17, {2, 0, 0x20, 2, 0x03, 0xE8, 0, 0x12, 0x34, 2, 0, 0x20, 1, 0x05, 0x14, 0, 0x55}},
     {6, "a long report of gauge 1001", 37, {2, 0, 0x20, 30, 0x03, 0xE9, 0, 0x56}},
     {12, "the first again, by way of this box and of 2001", 13, {2, 0, 0, 2, 0x03, 0xE8, 2, 0x07, 0xD0, 0x07, 0xD1, 0x12, 0x34}},
@@ -73,7 +78,7 @@ static void enqueue(const char *name, const uint8_t *pdu, size_t length)
 }
 
 /* Keeps record and alarm_id without power, all or nothing: else old commands would open again, and the base take a new alarm for a copy of an old one. */
-static void save(void) { }
+static void save(void) {}
 
 /* A sealed payload, a command only where the base sends it to this box; whether to acknowledge it: only what was carried out. Of 82 that is known of the very
    last; any other came too late, or is forged. The record is kept before a command is carried out, so that no restart carries it out twice. */
@@ -142,8 +147,14 @@ static void hear_frame(const uint8_t *bytes, size_t length)
 /* Begins the slot with the alarms that were raised, and gives their bytes. What is not retained is not sent, and waits for the next slot. */
 static size_t begin_with_alarms(uint64_t now)
 {
-    const MantFresh fresh = {.edition = node.edition, .source = node.own, .has_destination = true, .destination = BASE, .hop_limit = HOP_LIMIT,
-                             .with_path = true, .reliable = true, .pdu_id = alarm_id};
+    const MantFresh fresh = {.edition = node.edition,
+                             .source = node.own,
+                             .has_destination = true,
+                             .destination = BASE,
+                             .hop_limit = HOP_LIMIT,
+                             .with_path = true,
+                             .reliable = true,
+                             .pdu_id = alarm_id};
     MantWritten written = mant_originate(fresh, &raised, 1, slot, sizeof slot);
     if (!done("alarm", written.number) || !note(mant_reliable_retain(&alarms, now, slot, written.length))) {
         return 0;

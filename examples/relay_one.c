@@ -70,8 +70,7 @@ int main(void)
     print_hex("repeated", repeated, answer.repeated_length);
 
     MantHeader header = mant_read(MANT_EDITION_1_2, repeated, answer.repeated_length);
-    printf("its hop limit is %u, its path has %u address: %u\n", header.hop_limit, header.path_count,
-           mant_path_address(repeated, answer.repeated_length, 0));
+    printf("its hop limit is %u, its path has %u address: %u\n", header.hop_limit, header.path_count, mant_path_address(repeated, answer.repeated_length, 0));
     print_sender("the repeat is heard", header.has_last_sender, header.last_sender);
 
     /* The node hears its own repeat. */

@@ -25,7 +25,9 @@
 #endif
 #define EDITION MANT_EDITION_1_2
 #define NO_LISTS NULL, 0
+/* clang-format off */
 #define TWO {{list, MANT_LIST_LIMIT}, {list, MANT_LIST_LIMIT}}
+/* clang-format on */
 #define LISTS lists.words, MANT_LIST_WORDS
 #define LENT pdu, sizeof pdu, output, sizeof output
 #define PDU_LENGTH 4613
@@ -37,8 +39,8 @@
 static const MantNode node = MANT_NODE(2000);
 static const MantNode gate = MANT_NODE(1600);
 static const MantNode listing = {EDITION, 2000, true, true, MANT_FIRST_LIST, MANT_NO_LIST, MANT_SECOND_LIST, MANT_NO_LIST};
-static const MantFresh fresh = {.edition = EDITION, .source = 1000, .has_destination = true, .destination = 1600, .hop_limit = 1, .with_path = true,
-                                .reliable = true};
+static const MantFresh fresh = {
+    .edition = EDITION, .source = 1000, .has_destination = true, .destination = 1600, .hop_limit = 1, .with_path = true, .reliable = true};
 static const uint8_t shortest[6] = {0, 0, 0, 0, 0, 5};
 static const uint8_t deep[12] = {20, 8, 10, 6, 11, 4, 20, 2, 0, 9, 0, 9};
 static const uint8_t acknowledgement[9] = {0x09, 0x01, 0x30, 0, 0x06, 0x40, 0x03, 0xE8, 100};
@@ -65,11 +67,11 @@ static volatile uintptr_t top;
 static bool meant = true;
 
 /* A call that keeps the stack pointer from which it is made, and whether the answer is the one meant, so that the long way was gone. */
-#define CALL(name, fact)                               \
-    static void name(void)                             \
-    {                                                  \
-        STACK_POINTER(top);                            \
-        meant = (fact) && meant;                       \
+#define CALL(name, fact) \
+    static void name(void) \
+    { \
+        STACK_POINTER(top); \
+        meant = (fact) && meant; \
     }
 
 CALL(read_call, mant_read(EDITION, pdu, sizeof pdu).path_count == 254)
@@ -188,8 +190,15 @@ static const struct {
     const char *name;
     size_t bytes;
 } limits[] = {
-    {"mant_hear", 416}, {"mant_retain", 768}, {"mant_retry", 768}, {"mant_hear_reliably", 768}, {"mant_acknowledge", 768},
-    {"mant_seal", 1536}, {"mant_open", 1536}, {"mant_network_transmissions", 49152}, {"mant_network_bytes", 49152},
+    {"mant_hear", 416},
+    {"mant_retain", 768},
+    {"mant_retry", 768},
+    {"mant_hear_reliably", 768},
+    {"mant_acknowledge", 768},
+    {"mant_seal", 1536},
+    {"mant_open", 1536},
+    {"mant_network_transmissions", 49152},
+    {"mant_network_bytes", 49152},
 };
 
 static size_t limit_of(const char *name)

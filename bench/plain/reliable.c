@@ -25,7 +25,9 @@ typedef struct {
     bool time_stamp_request, with_path;
 } Sending;
 
-enum { RECORDS = 16 };
+enum {
+    RECORDS = 16
+};
 
 static bool in_use(const Retained *record)
 {
@@ -149,8 +151,8 @@ static Outcome acknowledged(Names names, uint64_t last, Sending sending, uint8_t
     return (Outcome){.deed = 5, .last = last, .names = names, .length = length};
 }
 
-Outcome plain_acknowledge(Retained *table, size_t records, uint64_t last, uint16_t own, const uint8_t *received, size_t length, Answer answer,
-                          Sending sending, uint8_t *output, size_t output_length)
+Outcome plain_acknowledge(Retained *table, size_t records, uint64_t last, uint16_t own, const uint8_t *received, size_t length, Answer answer, Sending sending,
+                          uint8_t *output, size_t output_length)
 {
     Header header = plain_read(12, received, length);
     bool counts = answer.delivery == 0 && header.number == 0 && header.protocol == 1 && header.destination == own && !header.added_header;

@@ -34,7 +34,7 @@ void reset(void)
 static void fault(void)
 {
     register uint32_t what __asm__("r0") = 0x18, why __asm__("r1") = 0x20023; /* QEMU */
-    __asm__ volatile("bkpt 0xAB" : : "r"(what), "r"(why)); /* QEMU */
+    __asm__ volatile("bkpt 0xAB" : : "r"(what), "r"(why));                    /* QEMU */
     for (;;) {
     }
 }

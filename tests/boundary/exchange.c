@@ -6,8 +6,8 @@ static const uint8_t exchange[38] = {0x14, 0x24, 0x84, 0x00, 0x06, 0x00, 0x00, 0
 
 static bool is_exchange(MantExchange found, size_t header_place, size_t header_length, size_t payload_place, size_t payload_length)
 {
-    return found.number == 0 && found.header_place == header_place && found.header_length == header_length && found.payload_place == payload_place
-           && found.payload_length == payload_length;
+    return found.number == 0 && found.header_place == header_place && found.header_length == header_length && found.payload_place == payload_place &&
+           found.payload_length == payload_length;
 }
 
 static bool is_refused(MantExchange found, uint8_t number)
@@ -37,8 +37,7 @@ static void reading_exchanges(void)
 
 static bool is_element(MantElement found, uint16_t type_number, size_t value_place, size_t value_length, size_t end)
 {
-    return found.number == 0 && found.type_number == type_number && found.value_place == value_place && found.value_length == value_length
-           && found.end == end;
+    return found.number == 0 && found.type_number == type_number && found.value_place == value_place && found.value_length == value_length && found.end == end;
 }
 
 static bool is_cut(MantElement found)

@@ -27,10 +27,10 @@ static bool is_fault(const MantLists *lists, uint8_t number, size_t list)
     uint8_t output[22];
     bool laid = is(mant_lay_lists(&block, lists), number, list) && is(mant_list_fault(BLOCK), number, list);
     MantStep s = mant_step(choosing, BLOCK, example, 20, (MantCursor){0, false}, output, sizeof output);
-    return laid && mant_hear(node, BLOCK, example, 20, output, sizeof output).delivery == number
-           && mant_hear(choosing, BLOCK, example, 20, output, sizeof output).repeat == number
-           && mant_hear_and_count(choosing, BLOCK, example, 20, output, sizeof output, &table).answer.repeat == number && table.words[0] == 0
-           && s.kind == MANT_ANSWERED && s.answer.delivery == number && s.answer.taken == 0 && s.next.place == 0 && s.next.ended;
+    return laid && mant_hear(node, BLOCK, example, 20, output, sizeof output).delivery == number &&
+           mant_hear(choosing, BLOCK, example, 20, output, sizeof output).repeat == number &&
+           mant_hear_and_count(choosing, BLOCK, example, 20, output, sizeof output, &table).answer.repeat == number && table.words[0] == 0 &&
+           s.kind == MANT_ANSWERED && s.answer.delivery == number && s.answer.taken == 0 && s.next.place == 0 && s.next.ended;
 }
 
 /* All eight lists are checked, kind by kind, first before second, whatever is chosen. At each place a list with 20 stands before lists with 21, so that a
@@ -107,7 +107,11 @@ static void long_lists(void)
 /* What is laid: eight lengths and the values behind them. Words behind these, and those beside the block, are kept. */
 static void words_laid(void)
 {
-    struct { uint16_t before; MantListBlock block; uint16_t after; } room;
+    struct {
+        uint16_t before;
+        MantListBlock block;
+        uint16_t after;
+    } room;
     const uint16_t one[2] = {11, 12}, three[3] = {21, 22, 23};
     const MantLists lists = {.source_pass.second = {one, 2}, .destination_reject.first = {three, 3}};
     const uint16_t wanted[13] = {0, 2, 0, 0, 0, 0, 3, 0, 11, 12, 21, 22, 23};
@@ -145,12 +149,11 @@ static MantListFault fault_in(const uint16_t *words, size_t size)
 /* A block of any length gets a result, and nothing behind it is read. */
 static void short_blocks(void)
 {
-    static const uint16_t blocks[5][20] = {
-        {2, 2, 2, 2, 2, 2, 2, 2, 1, 9, 2, 9, 3, 9, 4, 9, 5, 9, 6, 9},
-        {0, 0, 4, 0, 0, 8, 0, 0, 1, 9, 2, 9, 3, 9, 4, 9, 9, 5, 6, 9},
-        {0, 0, 0, 0, 0, 0, 0, 65535, 1, 9, 2, 9, 3, 9, 4, 9, 5, 9, 9, 6},
-        {65535, 65535, 65535, 65535, 65535, 65535, 65535, 65535, 1, 9, 2, 9, 3, 9, 4, 9, 5, 9, 6, 9},
-        {0}};
+    static const uint16_t blocks[5][20] = {{2, 2, 2, 2, 2, 2, 2, 2, 1, 9, 2, 9, 3, 9, 4, 9, 5, 9, 6, 9},
+                                           {0, 0, 4, 0, 0, 8, 0, 0, 1, 9, 2, 9, 3, 9, 4, 9, 9, 5, 6, 9},
+                                           {0, 0, 0, 0, 0, 0, 0, 65535, 1, 9, 2, 9, 3, 9, 4, 9, 5, 9, 9, 6},
+                                           {65535, 65535, 65535, 65535, 65535, 65535, 65535, 65535, 1, 9, 2, 9, 3, 9, 4, 9, 5, 9, 6, 9},
+                                           {0}};
     for (size_t i = 0; i < 5; i++) {
         for (size_t size = 0; size <= 20; size++) {
             uint16_t *words = malloc(size * sizeof *words);
@@ -168,10 +171,20 @@ static void short_blocks(void)
 static void seasons(void)
 {
     static const uint16_t lists[] = {
-        [MANT_SOURCE_PASS_FIRST] = 2, [MANT_SOURCE_PASS_SECOND] = 4, [MANT_DESTINATION_PASS_FIRST] = 2, [MANT_DESTINATION_PASS_SECOND] = 2,
-        [MANT_LIST_VALUES] = 1001, 1999, /* dry */
-        1000, 1000, 3000, 3999,          /* flood */
-        0, 65535, 0, 65535,              /* every destination, in both */
+        [MANT_SOURCE_PASS_FIRST] = 2,
+        [MANT_SOURCE_PASS_SECOND] = 4,
+        [MANT_DESTINATION_PASS_FIRST] = 2,
+        [MANT_DESTINATION_PASS_SECOND] = 2,
+        [MANT_LIST_VALUES] = 1001,
+        1999, /* dry */
+        1000,
+        1000,
+        3000,
+        3999, /* flood */
+        0,
+        65535,
+        0,
+        65535, /* every destination, in both */
     };
     const size_t words = sizeof lists / sizeof lists[0];
     uint8_t output[22];

@@ -52,8 +52,8 @@ static void answers_tell_senders(void)
 
 static bool is_17(MantAnswer a)
 {
-    return a.delivery == MANT_UNKNOWN_EDITION && a.repeat == 17 && !a.has_last_sender && a.last_sender == 0 && a.delivered_place == 0
-           && a.delivered_length == 0 && a.repeated_length == 0 && a.taken == 0;
+    return a.delivery == MANT_UNKNOWN_EDITION && a.repeat == 17 && !a.has_last_sender && a.last_sender == 0 && a.delivered_place == 0 &&
+           a.delivered_length == 0 && a.repeated_length == 0 && a.taken == 0;
 }
 
 /* Numbers that are no edition are refused with 17 before all else, also those that look like one in 32 bits. */
@@ -113,8 +113,8 @@ static void a_walk(void)
 static bool is_changed_over(MantNode before, uint64_t number, uint8_t choice)
 {
     MantNode n = mant_change_over(before, number);
-    return n.edition == before.edition && n.own == before.own && n.echo == before.echo && n.repeating == before.repeating && n.source_pass == choice
-           && n.source_reject == choice && n.destination_pass == choice && n.destination_reject == choice;
+    return n.edition == before.edition && n.own == before.own && n.echo == before.echo && n.repeating == before.repeating && n.source_pass == choice &&
+           n.source_reject == choice && n.destination_pass == choice && n.destination_reject == choice;
 }
 
 /* All four kinds get the choice and nothing else changes. A number other than 1 and 2 is no choice, also one that is 1 or 2 in fewer bits. */

@@ -3,8 +3,7 @@
 static bool is_station(MantFound found, uint16_t address, uint16_t reads, uint16_t echoes, bool has_path, uint16_t shortest_path)
 {
     MantStation s = found.station;
-    return found.number == 0 && s.address == address && s.reads == reads && s.echoes == echoes && s.has_path == has_path
-           && s.shortest_path == shortest_path;
+    return found.number == 0 && s.address == address && s.reads == reads && s.echoes == echoes && s.has_path == has_path && s.shortest_path == shortest_path;
 }
 
 static void none_held(void)
