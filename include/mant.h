@@ -43,6 +43,9 @@
 #ifndef MANT_H
 #define MANT_H
 
+/* The version of library and header. */
+#define MANT_VERSION "1.0.0"
+
 /* Tested processors; docs/firmware.md says how to link on each. */
 #if defined(__BYTE_ORDER__) && __BYTE_ORDER__ != __ORDER_LITTLE_ENDIAN__
 #error "libmant is tested on little-endian processors only"

@@ -4,10 +4,12 @@ import ctypes
 import functools
 import os
 import pathlib
+import platform
 from ctypes import c_bool, c_size_t, c_uint8, c_uint16, c_uint32, c_uint64, c_void_p
 
 TOP = pathlib.Path(__file__).resolve().parent.parent
-LIBRARY = TOP / 'target/python/libmant.so'
+RELEASED = TOP / 'lib' / f'{platform.machine()}-linux' / 'libmant.so'  # in an unpacked release
+LIBRARY = RELEASED if RELEASED.exists() else TOP / 'target/python/libmant.so'
 COMMAND = 'tools/build shared mant'
 
 

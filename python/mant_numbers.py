@@ -1,5 +1,7 @@
-"""The numbers that are answered, with their names and words; made from docs/NUMBERS.md by `tools/numbers --write`."""
+"""The numbers that are answered, with their names and words, and the version; made from docs/NUMBERS.md and include/mant.h by `tools/numbers --write`."""
 import enum
+
+VERSION = '1.0.0'
 
 
 class Number(enum.IntEnum):

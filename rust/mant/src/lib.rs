@@ -71,6 +71,9 @@ mod reliable;
 mod sealed;
 mod stations;
 
+/// The version of the library, `MANT_VERSION` in C.
+pub const VERSION: &str = env!("CARGO_PKG_VERSION");
+
 pub use edition::Bits;
 pub use exchange::{elements, read_exchange, write_exchange, Element, Elements, Exchange};
 pub use lists::{list_holds, Choice, EightLists, List, ListFault, Lists, TwoLists};
