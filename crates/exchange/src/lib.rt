@@ -6,7 +6,6 @@ use pdu::Written;
 ghost use mathlib.Core.Path.{_≡_};
 ghost use Prim.Native.Nat.{_≤_};
 ghost use lib.ListN.{length};
-ghost use Rattle.octets.specs.Octets.{IsPart};
 ghost use Rattle.elements.specs.Elements.{valueAt};
 ghost use Rattle.joined.specs.Joined.{joinedNumber};
 ghost use Rattle.exchange.specs.Exchange.{refusedBy, exchangeAnswer, exchangeOf};
@@ -87,24 +86,6 @@ fn show(bytes: &[u8], header: usize, payload: usize) -> Exchange
         payload_place,
         payload_length,
     }
-}
-
-// The header of an exchange that was read, as that part of its bytes; empty with a refusal. Document 02, W-202, "shown as parts of the input".
-pub fn header_part(bytes: &[u8], exchange: Exchange) -> &[u8]
-    ensures { λ r. ⌜ IsPart (bytes .entry) (exchange .«header_place») (exchange .«header_length») r ⌝ }
-{
-    let place = exchange.header_place;
-    let length = exchange.header_length;
-    octets::part(bytes, place, length)
-}
-
-// The payload of an exchange that was read, as that part of its bytes; empty with a refusal. Document 02, W-202, "shown as parts of the input".
-pub fn payload_part(bytes: &[u8], exchange: Exchange) -> &[u8]
-    ensures { λ r. ⌜ IsPart (bytes .entry) (exchange .«payload_place») (exchange .«payload_length») r ⌝ }
-{
-    let place = exchange.payload_place;
-    let length = exchange.payload_length;
-    octets::part(bytes, place, length)
 }
 
 // Writes the PDU at the start of `bytes` as an exchange at the start of the output: 1 to 6, then 14, both with length 0 and the output as it was, or 0

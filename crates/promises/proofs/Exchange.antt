@@ -1,25 +1,14 @@
 -- Every public function of `exchange`: its promise asks nothing of the caller and determines what the caller sees.
 use mathlib.Core.Path.{sym, _∙_}
 use denote.Ref.{now}
-use Rattle.octets.proofs.Parting.{one-part}
-use Rattle.promises.specs.Promise.{slice, Promised, PromisedWithOutput}
+use Rattle.promises.specs.Promise.{Promised, PromisedWithOutput}
 use Rattle.exchange.proofs.read_exchange.Reads as read-exchange-reads
 use Rattle.exchange.proofs.read_exchange.Kinds as read-exchange-kinds
-use Rattle.exchange.proofs.header_part.Reads as header-part-reads
-use Rattle.exchange.proofs.header_part.Kinds as header-part-kinds
-use Rattle.exchange.proofs.payload_part.Reads as payload-part-reads
-use Rattle.exchange.proofs.payload_part.Kinds as payload-part-kinds
 use Rattle.exchange.proofs.write_exchange.Reads as write-exchange-reads
 use Rattle.exchange.proofs.write_exchange.Kinds as write-exchange-kinds
 
 pub read-exchange : Promised 1 read-exchange-kinds.ps read-exchange-kinds.r read-exchange-reads.Asked read-exchange-reads.Post (λ κs x. x)
 read-exchange = (λ κs a. tt, λ κs a x y s t p q. p ∙ sym q)
-
-pub header-part : Promised 1 header-part-kinds.ps header-part-kinds.r header-part-reads.Asked header-part-reads.Post (λ κs x. slice x)
-header-part = (λ κs a. tt, λ κs a x y s t p q. one-part _ _ _ x y p q)
-
-pub payload-part : Promised 1 payload-part-kinds.ps payload-part-kinds.r payload-part-reads.Asked payload-part-reads.Post (λ κs x. slice x)
-payload-part = (λ κs a. tt, λ κs a x y s t p q. one-part _ _ _ x y p q)
 
 pub write-exchange : PromisedWithOutput 2 write-exchange-kinds.ps write-exchange-kinds.r write-exchange-reads.Asked
     write-exchange-reads.Post (λ κs s. now (s .1 .0))
