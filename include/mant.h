@@ -51,8 +51,8 @@
 #error "libmant is tested on little-endian processors only"
 #elif defined(__linux__) && ((defined(__x86_64__) && defined(__LP64__)) || (defined(__aarch64__) && defined(__LP64__)) || \
                              (defined(__ARM_EABI__) && __ARM_ARCH >= 7) || (defined(__riscv) && __riscv_xlen == 64))
-#elif !defined(__linux__) && (defined(__ARM_ARCH_6M__) || defined(__ARM_ARCH_7M__) || defined(__ARM_ARCH_7EM__) || (defined(__riscv) && __riscv_xlen == 32) || \
-                              defined(__wasm32__))
+#elif !defined(__linux__) && \
+    (defined(__ARM_ARCH_6M__) || defined(__ARM_ARCH_7M__) || defined(__ARM_ARCH_7EM__) || (defined(__riscv) && __riscv_xlen == 32) || defined(__wasm32__))
 #else
 #error "libmant is tested on Linux (x86-64, AArch64, Armv7-A, RV64), bare Cortex-M0+, M3 and M4, bare RV32, and WebAssembly only"
 #endif
@@ -166,14 +166,14 @@ MANT_SIZE(MantWritten, 16);
 /* A header. A destination, PDU ID or path count that the PDU lacks is 0. */
 typedef struct MantHeader {
     uint8_t number;
-    uint8_t protocol;         /* 0 best efforts, 1 reliable */
+    uint8_t protocol; /* 0 best efforts, 1 reliable */
     bool time_stamp_request;
     bool path_bit;
-    bool has_destination;     /* false: for everyone */
+    bool has_destination; /* false: for everyone */
     uint8_t port;
-    bool has_encrypted;       /* false under edition 1.1; `encrypted` is false then */
+    bool has_encrypted; /* false under edition 1.1; `encrypted` is false then */
     bool encrypted;
-    uint8_t reserved;         /* 0 to 3; under edition 1.1 all three bits, 0 to 7 */
+    uint8_t reserved; /* 0 to 3; under edition 1.1 all three bits, 0 to 7 */
     bool ack;
     bool added_header;
     uint8_t hop_limit;
@@ -182,10 +182,10 @@ typedef struct MantHeader {
     uint16_t destination;
     uint8_t pdu_id;
     uint8_t path_count;
-    bool has_last_sender;     /* false: no path bit, so the last sender is unknown */
-    uint16_t last_sender;     /* the last path address, or the source if the path is empty; 0 if unknown */
-    size_t header_length;     /* where the payload begins */
-    size_t pdu_length;        /* where the next PDU of a batch begins */
+    bool has_last_sender; /* false: no path bit, so the last sender is unknown */
+    uint16_t last_sender; /* the last path address, or the source if the path is empty; 0 if unknown */
+    size_t header_length; /* where the payload begins */
+    size_t pdu_length;    /* where the next PDU of a batch begins */
 } MantHeader;
 MANT_SIZE(MantHeader, 40);
 
@@ -221,17 +221,17 @@ MantWritten mant_write_again(uint64_t edition, const uint8_t *bytes, size_t byte
 
 /* Settings of a fresh PDU. Edition, hop limit and port are wide, so that 263 arrives as 263 and is refused. An edition not set is 0, and gets 17. */
 typedef struct MantFresh {
-    uint64_t edition;         /* MANT_EDITION_1_1 or MANT_EDITION_1_2 */
+    uint64_t edition; /* MANT_EDITION_1_1 or MANT_EDITION_1_2 */
     uint16_t source;
-    bool has_destination;     /* false: for everyone, and `destination` is ignored */
+    bool has_destination; /* false: for everyone, and `destination` is ignored */
     uint16_t destination;
-    uint64_t hop_limit;       /* 0 to 7; 7 is never lowered */
-    uint64_t port;            /* 0 to 15 */
+    uint64_t hop_limit; /* 0 to 7; 7 is never lowered */
+    uint64_t port;      /* 0 to 15 */
     bool time_stamp_request;
-    bool with_path;           /* each node that repeats it adds its address */
-    bool reliable;            /* protocol 1; needs a destination */
-    uint8_t pdu_id;           /* written if reliable */
-    bool encrypted;           /* the payload is encrypted already; ask for no time stamp then */
+    bool with_path; /* each node that repeats it adds its address */
+    bool reliable;  /* protocol 1; needs a destination */
+    uint8_t pdu_id; /* written if reliable */
+    bool encrypted; /* the payload is encrypted already; ask for no time stamp then */
 } MantFresh;
 MANT_SIZE(MantFresh, 40);
 
@@ -278,9 +278,9 @@ enum MantChoice {
 typedef struct MantNode {
     uint64_t edition;
     uint16_t own;
-    bool echo;                /* drop a PDU whose path holds the own address (30) or whose source it is (42) */
+    bool echo; /* drop a PDU whose path holds the own address (30) or whose source it is (42) */
     bool repeating;
-    uint8_t source_pass;      /* a MantChoice, as in the next three */
+    uint8_t source_pass; /* a MantChoice, as in the next three */
     uint8_t source_reject;
     uint8_t destination_pass;
     uint8_t destination_reject;
@@ -288,7 +288,9 @@ typedef struct MantNode {
 MANT_SIZE(MantNode, 16);
 
 /* A node with echo and repeating on and no list chosen. In C++ the address is a constant or a uint16_t. */
+/* clang-format off */
 #define MANT_NODE(own) {MANT_EDITION_1_2, (own), true, true, MANT_NO_LIST, MANT_NO_LIST, MANT_NO_LIST, MANT_NO_LIST}
+/* clang-format on */
 
 /* Sets all four kinds to one choice, also a kind that was off. Any number but 1 and 2, also 257, chooses none. Give a pass list that is to stop nothing the
    range 0 to 65,535. */
@@ -304,7 +306,7 @@ enum MantListPlace {
     MANT_DESTINATION_PASS_SECOND = 5,
     MANT_DESTINATION_REJECT_FIRST = 6,
     MANT_DESTINATION_REJECT_SECOND = 7,
-    MANT_LIST_VALUES = 8      /* where values begin in a block; in a MantListFault: no list */
+    MANT_LIST_VALUES = 8 /* where values begin in a block; in a MantListFault: no list */
 };
 
 /* Low, high, low, high and so on, both ends included, in any order, overlaps allowed. The length counts values. */
@@ -337,21 +339,21 @@ MANT_SIZE(MantListBlock, 2080);
 
 /* The first fault of a block's lists. */
 typedef struct MantListFault {
-    uint8_t number;           /* 22, 21 or 20 of the first list with a fault; else 0 */
-    uint8_t list;             /* which list, a MantListPlace; MANT_LIST_VALUES if none */
+    uint8_t number; /* 22, 21 or 20 of the first list with a fault; else 0 */
+    uint8_t list;   /* which list, a MantListPlace; MANT_LIST_VALUES if none */
 } MantListFault;
 MANT_SIZE(MantListFault, 2);
 
 /* A node's decision on one PDU. Places count from the PDU's first byte. */
 typedef struct MantAnswer {
-    uint8_t delivery;         /* 0: delivered; else why not */
-    uint8_t repeat;           /* 0: repeated; else why not */
-    bool has_last_sender;     /* false: no path bit, or no PDU was read */
-    uint16_t last_sender;     /* who sent it last, as in MantHeader */
-    size_t delivered_place;   /* of the payload; 0 if not delivered */
-    size_t delivered_length;  /* 0 if not delivered */
-    size_t repeated_length;   /* bytes written to the output; 0 if not repeated */
-    size_t taken;             /* where the next PDU begins; 0 if none was read: with 17, 20 to 22, 1 to 6 */
+    uint8_t delivery;        /* 0: delivered; else why not */
+    uint8_t repeat;          /* 0: repeated; else why not */
+    bool has_last_sender;    /* false: no path bit, or no PDU was read */
+    uint16_t last_sender;    /* who sent it last, as in MantHeader */
+    size_t delivered_place;  /* of the payload; 0 if not delivered */
+    size_t delivered_length; /* 0 if not delivered */
+    size_t repeated_length;  /* bytes written to the output; 0 if not repeated */
+    size_t taken;            /* where the next PDU begins; 0 if none was read: with 17, 20 to 22, 1 to 6 */
 } MantAnswer;
 MANT_SIZE(MantAnswer, 40);
 
@@ -363,9 +365,9 @@ typedef struct MantCursor {
 MANT_SIZE(MantCursor, 16);
 
 enum MantKind {
-    MANT_ANSWERED = 0,        /* the answer for the PDU at the cursor, and the next cursor */
-    MANT_ENDED = 1,           /* no PDU left; both numbers are MANT_NO_NUMBER */
-    MANT_REFUSED = 2          /* the batch is too long; both numbers are 54 */
+    MANT_ANSWERED = 0, /* the answer for the PDU at the cursor, and the next cursor */
+    MANT_ENDED = 1,    /* no PDU left; both numbers are MANT_NO_NUMBER */
+    MANT_REFUSED = 2   /* the batch is too long; both numbers are 54 */
 };
 
 /* One step of a walk. With kinds 1 and 2 `next` is the given cursor, ended, and the rest of the answer is 0. */
@@ -397,11 +399,11 @@ static inline MantListFault mant_lay_lists(MantListBlock *block, const MantLists
 {
     static const MantLists empty = {{{NULL, 0}, {NULL, 0}}, {{NULL, 0}, {NULL, 0}}, {{NULL, 0}, {NULL, 0}}, {{NULL, 0}, {NULL, 0}}};
     const MantLists *l = lists != NULL ? lists : &empty;
-    return mant_lay_eight(block->words, l->source_pass.first.values, l->source_pass.first.length, l->source_pass.second.values,
-                          l->source_pass.second.length, l->source_reject.first.values, l->source_reject.first.length, l->source_reject.second.values,
-                          l->source_reject.second.length, l->destination_pass.first.values, l->destination_pass.first.length,
-                          l->destination_pass.second.values, l->destination_pass.second.length, l->destination_reject.first.values,
-                          l->destination_reject.first.length, l->destination_reject.second.values, l->destination_reject.second.length);
+    return mant_lay_eight(block->words, l->source_pass.first.values, l->source_pass.first.length, l->source_pass.second.values, l->source_pass.second.length,
+                          l->source_reject.first.values, l->source_reject.first.length, l->source_reject.second.values, l->source_reject.second.length,
+                          l->destination_pass.first.values, l->destination_pass.first.length, l->destination_pass.second.values,
+                          l->destination_pass.second.length, l->destination_reject.first.values, l->destination_reject.first.length,
+                          l->destination_reject.second.values, l->destination_reject.second.length);
 }
 
 /* Decides what a node does with a PDU: a number for delivery and one for repeating.
@@ -417,8 +419,8 @@ MantAnswer mant_hear(MantNode node, const uint16_t *lists, size_t lists_length, 
    fault or 1 to 6 the next cursor has ended, at the same place. A cursor that has ended or has no byte left gets MANT_ENDED. A batch above MANT_BATCH_LIMIT
    gets MANT_REFUSED at every cursor, but with an unknown edition 17.
    The PDU of a step s began at s.next.place - s.answer.taken, and the places in its answer count from there. */
-MantStep mant_step(MantNode node, const uint16_t *lists, size_t lists_length, const uint8_t *batch, size_t batch_length, MantCursor cursor,
-                   uint8_t *output, size_t output_length);
+MantStep mant_step(MantNode node, const uint16_t *lists, size_t lists_length, const uint8_t *batch, size_t batch_length, MantCursor cursor, uint8_t *output,
+                   size_t output_length);
 
 /* Example: gauges 1000 and 3000 report to node 2000. Its lists stop gauge 1000 in the dry season, and pass it alone in the flood season.
 
@@ -468,10 +470,10 @@ MANT_SIZE(MantStations, 1026);
 /* A station. Each count stops at 65,535 by itself. */
 typedef struct MantStation {
     uint16_t address;
-    uint16_t reads;           /* PDUs read from it */
-    uint16_t echoes;          /* those of them that echo dropped */
-    bool has_path;            /* false: none of them had the path bit */
-    uint16_t shortest_path;   /* the least path count of those that had it */
+    uint16_t reads;         /* PDUs read from it */
+    uint16_t echoes;        /* those of them that echo dropped */
+    bool has_path;          /* false: none of them had the path bit */
+    uint16_t shortest_path; /* the least path count of those that had it */
 } MantStation;
 MANT_SIZE(MantStation, 10);
 
@@ -485,8 +487,8 @@ MANT_SIZE(MantFound, 12);
 /* What is counted of a PDU. */
 typedef struct MantHeard {
     uint16_t source;
-    bool echo;                /* the node returned 30 or 42 for it */
-    bool path_bit;            /* false: `path_count` is ignored */
+    bool echo;     /* the node returned 30 or 42 for it */
+    bool path_bit; /* false: `path_count` is ignored */
     uint8_t path_count;
 } MantHeard;
 MANT_SIZE(MantHeard, 6);
@@ -519,8 +521,8 @@ uint8_t mant_count_heard(MantStations *table, MantHeard heard);
 uint8_t mant_count_answer(MantStations *table, const uint8_t *received, size_t received_length, MantAnswer answer);
 
 /* mant_hear, then mant_count_answer. Every PDU that was read counts, also a dropped one. With 55 the PDU is delivered and repeated all the same. */
-MantListened mant_hear_and_count(MantNode node, const uint16_t *lists, size_t lists_length, const uint8_t *received, size_t received_length,
-                                 uint8_t *output, size_t output_length, MantStations *table);
+MantListened mant_hear_and_count(MantNode node, const uint16_t *lists, size_t lists_length, const uint8_t *received, size_t received_length, uint8_t *output,
+                                 size_t output_length, MantStations *table);
 
 /* Example: node 2000 hears gauge 1000 twice, the second time as an echo of its own repeat.
 
@@ -617,9 +619,9 @@ void mant_queue_clear(MantQueue *queue);
 typedef struct MantElement {
     uint8_t number;
     uint16_t type_number;
-    size_t value_place;       /* at length 0 it may be the end of the run */
+    size_t value_place; /* at length 0 it may be the end of the run */
     size_t value_length;
-    size_t end;               /* where the next element begins, or the run ends */
+    size_t end; /* where the next element begins, or the run ends */
 } MantElement;
 MANT_SIZE(MantElement, 32);
 
@@ -632,7 +634,7 @@ typedef struct MantExchange {
     uint8_t number;
     size_t header_place;
     size_t header_length;
-    size_t payload_place;     /* at length 0 it may be the end of the bytes */
+    size_t payload_place; /* at length 0 it may be the end of the bytes */
     size_t payload_length;
 } MantExchange;
 MANT_SIZE(MantExchange, 40);
@@ -687,9 +689,9 @@ MantWritten mant_write_exchange(const uint8_t *bytes, size_t bytes_length, uint8
    zeros. */
 typedef struct MantRetained {
     uint8_t pdu[MANT_RETAINED_LIMIT];
-    uint64_t length;          /* not a size_t: records are laid out alike on every processor */
-    uint64_t sent_at;         /* when last sent, or retained */
-    uint64_t count;           /* times sent again */
+    uint64_t length;  /* not a size_t: records are laid out alike on every processor */
+    uint64_t sent_at; /* when last sent, or retained */
+    uint64_t count;   /* times sent again */
 } MantRetained;
 MANT_SIZE(MantRetained, 280);
 
@@ -709,28 +711,28 @@ MANT_SIZE(MantNames, 6);
 
 enum MantDeed {
     MANT_DEED_NONE = 0,
-    MANT_DEED_RETAINED = 1,     /* in the record at `place` */
-    MANT_DEED_SENT_AGAIN = 2,   /* the PDU of that record is in the output */
-    MANT_DEED_FAILED = 3,       /* that record was dropped: no acknowledgement came */
-    MANT_DEED_FREED = 4,        /* that record was freed: its acknowledgement came */
-    MANT_DEED_ACKNOWLEDGED = 5  /* the acknowledgement of the received PDU is in the output */
+    MANT_DEED_RETAINED = 1,    /* in the record at `place` */
+    MANT_DEED_SENT_AGAIN = 2,  /* the PDU of that record is in the output */
+    MANT_DEED_FAILED = 3,      /* that record was dropped: no acknowledgement came */
+    MANT_DEED_FREED = 4,       /* that record was freed: its acknowledgement came */
+    MANT_DEED_ACKNOWLEDGED = 5 /* the acknowledgement of the received PDU is in the output */
 };
 
 /* What was done. What a deed does not name is 0. */
 typedef struct MantOutcome {
     uint8_t number;
     uint8_t deed;
-    uint64_t last;            /* for the next call; with a number the one given */
-    size_t place;             /* deeds 1 to 4: the record's */
-    MantNames names;          /* deeds 1 to 4: the retained PDU's; 5: the received PDU's */
-    size_t length;            /* deeds 2 and 5: bytes written to the output */
+    uint64_t last;   /* for the next call; with a number the one given */
+    size_t place;    /* deeds 1 to 4: the record's */
+    MantNames names; /* deeds 1 to 4: the retained PDU's; 5: the received PDU's */
+    size_t length;   /* deeds 2 and 5: bytes written to the output */
 } MantOutcome;
 MANT_SIZE(MantOutcome, 40);
 
 /* How an acknowledgement is sent, as in MantFresh. */
 typedef struct MantSending {
-    uint64_t hop_limit;       /* 0 to 7 */
-    uint64_t port;            /* 0 to 15 */
+    uint64_t hop_limit; /* 0 to 7 */
+    uint64_t port;      /* 0 to 15 */
     bool time_stamp_request;
     bool with_path;
 } MantSending;
@@ -774,24 +776,22 @@ static inline MantOutcome mant_reliable_retain(MantReliable *reliable, uint64_t 
     return outcome;
 }
 
-static inline MantOutcome mant_reliable_retry(MantReliable *reliable, uint64_t time, uint64_t delay, uint64_t tries, uint8_t *output,
-                                              size_t output_length)
+static inline MantOutcome mant_reliable_retry(MantReliable *reliable, uint64_t time, uint64_t delay, uint64_t tries, uint8_t *output, size_t output_length)
 {
     MantOutcome outcome = mant_retry(reliable->records, MANT_RECORDS, reliable->last, time, delay, tries, output, output_length);
     reliable->last = outcome.last;
     return outcome;
 }
 
-static inline MantHeardReliably mant_reliable_hear(MantNode node, const uint16_t *lists, size_t lists_length, MantReliable *reliable,
-                                                   const uint8_t *received, size_t received_length, MantSending sending, uint8_t *output,
-                                                   size_t output_length)
+static inline MantHeardReliably mant_reliable_hear(MantNode node, const uint16_t *lists, size_t lists_length, MantReliable *reliable, const uint8_t *received,
+                                                   size_t received_length, MantSending sending, uint8_t *output, size_t output_length)
 {
     return mant_hear_reliably(node, lists, lists_length, reliable->records, MANT_RECORDS, reliable->last, received, received_length, sending, output,
                               output_length);
 }
 
-static inline MantOutcome mant_reliable_acknowledge(MantReliable *reliable, uint16_t own, const uint8_t *received, size_t received_length,
-                                                    MantAnswer answer, MantSending sending, uint8_t *output, size_t output_length)
+static inline MantOutcome mant_reliable_acknowledge(MantReliable *reliable, uint16_t own, const uint8_t *received, size_t received_length, MantAnswer answer,
+                                                    MantSending sending, uint8_t *output, size_t output_length)
 {
     return mant_acknowledge(reliable->records, MANT_RECORDS, reliable->last, own, received, received_length, answer, sending, output, output_length);
 }
@@ -945,8 +945,8 @@ MANT_SIZE(MantLimits, 56);
    nodes that repeat and avoids the node at `failed` (MANT_NO_NODE: none). At hop limit h a node is delivered the report if its length k is 1 to h + 1, or at 7
    if it has a chain. Its smallest path count is then k - 1. A node whose lists stop the report is not delivered it, and a report with a destination goes to
    that node alone. Returns false, and writes nothing, with more than MANT_NODE_LIMIT nodes, none at `from`, or not one length for each node. */
-bool mant_chain_lengths(const uint8_t *pairs, size_t pairs_length, const uint8_t *marks, size_t marks_length, size_t from, size_t failed,
-                        uint8_t *lengths, size_t lengths_length);
+bool mant_chain_lengths(const uint8_t *pairs, size_t pairs_length, const uint8_t *marks, size_t marks_length, size_t from, size_t failed, uint8_t *lengths,
+                        size_t lengths_length);
 
 /* The least hop limit, 0 to 7, that reaches every node but the originator, by their lengths; MANT_NO_HOP_LIMIT if one has no chain. Set the length of a failed
    node to 0 first. */
