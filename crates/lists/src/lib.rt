@@ -1,7 +1,7 @@
 // The eight address lists of a node, two of each kind, in one block: what is wrong with them, and whether one holds an address.
 ghost use mathlib.Core.Path.{_≡_};
 ghost use Prim.Native.Nat.{_<_, min};
-ghost use lib.ListN.{take, drop};
+ghost use lib.ListN.{length, take, drop};
 ghost use Rattle.octets.specs.Octets.{at};
 ghost use Rattle.lists.specs.Lists.{listsIn, faultTold, holds, startOf, listIn};
 
@@ -11,15 +11,12 @@ pub const VALUE_LIMIT: usize = 128;
 // How many lists a block holds: two of each kind. Document 02, W-211.
 pub const LISTS: usize = 8;
 
-// The length that a block gives list `i`; 0 where it has none.
+// The length that a block gives list `i`.
 fn length_at(block: &[u16], i: usize) -> usize
+    requires { ⌜ i < length (now block) ⌝ }
     ensures { λ r. ⌜ (r ≡ at (now (block .entry)) i) × (r < 65536) ⌝ }
 {
-    if i < block.len() {
-        octets::word_value(block[i])
-    } else {
-        0
-    }
+    octets::word_value(block[i])
 }
 
 // So many values from a place on, as far as the block goes.
@@ -87,7 +84,7 @@ pub fn fault(block: &[u16]) -> ListFault
 
 // Where the values of list `i` begin.
 fn start_of(block: &[u16], i: usize) -> usize
-    requires { ⌜ i < 8 ⌝ }
+    requires { ⌜ (i < 8) × (8 ≤ length (now block)) ⌝ }
     ensures { λ r. ⌜ r ≡ startOf (now (block .entry)) i ⌝ }
 {
     let mut start: usize = LISTS;
