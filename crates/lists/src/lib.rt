@@ -1,6 +1,6 @@
 // The eight address lists of a node, two of each kind, in one block: what is wrong with them, and whether one holds an address.
 ghost use mathlib.Core.Path.{_≡_};
-ghost use Prim.Native.Nat.{_<_, min};
+ghost use Prim.Native.Nat.{_<_, _≤_, min};
 ghost use lib.ListN.{length, take, drop};
 ghost use Rattle.octets.specs.Octets.{at};
 ghost use Rattle.lists.specs.Lists.{listsIn, faultTold, holds, startOf, listIn};

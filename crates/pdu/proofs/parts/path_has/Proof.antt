@@ -2,7 +2,7 @@ use Prim.Native.Nat.{_+_, _*_, _-_, _≤_}
 use mathlib.Core.Path.{_≡_, sym, _∙_}
 use denote.Ref.{now}
 use lib.ListN.{length}
-use Rattle.pdu.proofs.Paths.{sought, sought-from, sought-here, sought-next, sought-none, sought-all}
+use Rattle.pdu.proofs.Paths.{sought, sought-from, sought-here-two, sought-next-two, sought-all}
 use native.Mathlib.Omega.{arith}
 use borrow.Author.Tests.{leb-true}
 use borrow.Author.Needs.{needs}
@@ -30,18 +30,41 @@ add-whole c = search needs
 loop-holds : tie.Need-loop-holds Inv-loop μ-loop
 loop-holds c = (omega arith, sought-from _ _ _ _ _ _ (omega arith) (omega arith))
 
-mul-entry : tie.Need-mul-entry Inv-loop μ-loop
-mul-entry c = search needs
+add-if1 : tie.Need-add-if1 Inv-loop μ-loop
+add-if1 c = search needs
 
-add-entry : tie.Need-add-entry Inv-loop μ-loop
-add-entry c = search needs
+mul-has-one : tie.Need-mul-has-one Inv-loop μ-loop
+mul-has-one c = search needs
 
-entry-requires : tie.Need-entry-requires Inv-loop μ-loop
-entry-requires c κs whole =
+add-has-one : tie.Need-add-has-one Inv-loop μ-loop
+add-has-one c = search needs
+
+sub-has-one : tie.Need-sub-has-one Inv-loop μ-loop
+sub-has-one c = search needs
+
+has-one-requires : tie.Need-has-one-requires Inv-loop μ-loop
+has-one-requires c κs =
     let entries = c .before .before in
     let start = entries .before in
-    let bytes = now (start .before .before .args .bytes) in
-    omega (arith, leb-true (start .path-start .result + 2 * entries .path-entries .result) (length bytes) whole)
+    let bytes = now (start .before .before .args .bytes) in (
+      omega arith,
+      λ whole. omega (arith, leb-true (start .path-start .result + 2 * entries .path-entries .result) (length bytes) whole),
+    )
+
+mul-has-two : tie.Need-mul-has-two Inv-loop μ-loop
+mul-has-two c = search needs
+
+add-has-two : tie.Need-add-has-two Inv-loop μ-loop
+add-has-two c = search needs
+
+has-two-requires : tie.Need-has-two-requires Inv-loop μ-loop
+has-two-requires c κs =
+    let entries = c .before .before in
+    let start = entries .before in
+    let bytes = now (start .before .before .args .bytes) in (
+      λ whole. omega (arith, leb-true (start .path-start .result + 2 * entries .path-entries .result) (length bytes) whole),
+      omega arith,
+    )
 
 add-i : tie.Need-add-i Inv-loop μ-loop
 add-i c = search needs
@@ -51,22 +74,25 @@ loop-less c = search needs
 
 loop-again : tie.Need-loop-again Inv-loop μ-loop
 loop-again c =
-    let l = c .before .before .before in
-    (omega arith, l .loop .inv .1 ∙ sought-next _ _ _ _ _ _ (omega arith) (omega arith) (λ e. c .if2 .left (c .before .entry .ensures ∙ e)))
+    let l = c .before .before .before in (
+      omega arith,
+      l .loop .inv .1 ∙ sought-next-two _ _ _ _ _ _ (omega arith) (omega arith)
+          (sym (sought-all _ _ _ _) ∙ sym (c .before .has-two .ensures) ∙ c .if2 .left),
+    )
 
 returns : tie.Need-returns Inv-loop μ-loop
 returns c =
-    let l = c .before in
-    sym (sought-all _ _ _ _
-    ∙ rw (← l .before .before .path-start .ensures .0, ← l .before .path-entries .ensures .0) (l .loop .inv .1 ∙ sought-none _ _ _ _ (omega arith)))
+    let l = c .before .before in
+    c .has-one .ensures ∙ sought-all _ _ _ _
+    ∙ sym (sought-all _ _ _ _ ∙ rw (← l .before .before .path-start .ensures .0, ← l .before .path-entries .ensures .0) (l .loop .inv .1))
 
 returns-2 : tie.Need-returns-2 Inv-loop μ-loop
 returns-2 c =
     let l = c .before .before .before in
     sym (sought-all _ _ _ _
     ∙ rw (← l .before .before .path-start .ensures .0, ← l .before .path-entries .ensures .0)
-    (l .loop .inv .1 ∙ sought-here _ _ _ _ (l .before .path-entries .result - l .loop .i - 1) (omega arith)
-    (sym (c .before .entry .ensures) ∙ c .if2 .taken)))
+    (l .loop .inv .1 ∙ sought-here-two _ _ _ _ (l .before .path-entries .result - l .loop .i - 2) (omega arith)
+    (sym (sought-all _ _ _ _) ∙ sym (c .before .has-two .ensures) ∙ c .if2 .taken)))
 
 pub path-has-spec : {M : Type 1} → statement M
 path-has-spec =
@@ -79,9 +105,14 @@ path-has-spec =
     mul-whole
     add-whole
     loop-holds
-    mul-entry
-    add-entry
-    entry-requires
+    add-if1
+    mul-has-one
+    add-has-one
+    sub-has-one
+    has-one-requires
+    mul-has-two
+    add-has-two
+    has-two-requires
     add-i
     loop-less
     loop-again
