@@ -307,15 +307,15 @@ static void retaining(void)
 /* A PDU is sealed and what comes out is opened, and other bytes are opened under the same key. */
 static void sealing(void)
 {
-    MantKey key;
-    Key same;
+    MantKey key = {{0}};
+    Key same = {{0}};
     MantSources sources = {{0}};
     uint32_t record[129] = {0};
     uint64_t message = number();
     size_t length, room;
 
-    for (size_t i = 0; i < sizeof key; i++) {
-        ((uint8_t *)&key)[i] = ((uint8_t *)&same)[i] = byte();
+    for (size_t i = 0; i < sizeof key.bytes; i++) {
+        key.bytes[i] = same.bytes[i] = byte();
     }
     room = begin();
     uint8_t *pdu = part(&length);
