@@ -136,9 +136,7 @@ fn growth(example: &[u8]) {
 
 /// The first two lines of a table.
 fn heading() {
-    println!(
-        "| case | library | model | plain C | memcpy | library : plain C | library : model |"
-    );
+    println!("| case | library | model | plain C | memcpy | library : plain C | library : model |");
     println!("|---|---:|---:|---:|---:|---:|---:|");
 }
 
