@@ -20,14 +20,14 @@
  * - changes no output and no lent memory if that number is not 0, and sets the fields beside `number` to 0, unless its comment says otherwise.
  * - writes output from its first byte on, and keeps the bytes behind. MANT_PDU_LIMIT bytes are room for every PDU.
  * - takes the PDU at the start of the bytes and ignores what follows, unless its comment says otherwise. 1 to 6: there is no PDU.
- * - keeps nothing, allocates nothing, does no input or output, and needs only memcpy and memset. Calls may run at once unless they share memory that one of
- *   them changes.
+ * - keeps nothing between calls, allocates nothing, does no input or output, and needs only memcpy and memset. Calls may run at once unless they share memory
+ *   that one of them changes.
  * - is proved against the specs/ folders of crates/. Not proved: the six functions defined here and, off x86-64, a shim in C (docs/AUDIT.md).
  *
  * The caller:
  * - passes pointers to as many elements as the length says, aligned, and changed by nothing else during the call. With length 0 NULL will do.
  * - lets output and lent memory overlap no other argument, and passes NULL for no struct but a MantLists.
- * - sets a bool to 0 or 1, also by memcpy. C cuts numbers to their fields: address 66,536 arrives as 1000.
+ * - sets a bool to 0 or 1, by memcpy too. C cuts numbers to their fields: address 66,536 arrives as 1000.
  * - owns what a box remembers: MantStations, MantQueue, MantReliable, MantSources. Each is empty if it is all zeros.
  * - keeps over a restart the MantSources, the last message number and the last PDU ID.
  *
@@ -38,7 +38,7 @@
  * 256 bytes more. If the loader binds memcpy at its first call, as by default, that call takes up to 4,096 bytes more: link with -Wl,-z,now or -static to avoid
  * it.
  *
- * Documents 000 to 003, 01 and 02 are not in this repository; docs/requests has W-201 to W-212, the requests of 02.
+ * docs/requests has W-201 to W-212. Documents 000 to 003, 01 and 02 are not in this repository.
  */
 #ifndef MANT_H
 #define MANT_H
@@ -135,7 +135,7 @@ enum MantNumber {
 #define MANT_EDITION_1_1 11
 #define MANT_EDITION_1_2 12
 
-/* Each struct has its size in the library. Where size_t has 4 bytes, one that holds it is smaller. */
+/* Checks each struct's size against the library. Where size_t has 4 bytes, a struct that holds one is smaller. */
 #ifdef __cplusplus
 #define MANT_SIZE(type, size) static_assert(sizeof(size_t) != 8 || sizeof(type) == (size), #type " is laid out otherwise in the library")
 #else
@@ -256,7 +256,7 @@ MantWritten mant_originate(MantFresh settings, const uint8_t *payload, size_t pa
  *     enum MantListPlace, then the values of the lists back to back. Pass NULL and 0 for empty lists, or lay a MantLists once with mant_lay_lists. C can also
  *     write a constant, but a wrong length there shifts every later list, often without a fault:
  *         static const uint16_t lists[] = {[MANT_SOURCE_PASS_FIRST] = 2, [MANT_LIST_VALUES] = 1001, 1999};
- *     Every slice is a block: a length past its end is 0, and a list ends where it ends. The calls that hear check all eight lists each time.
+ *     Every slice is a block: a length past its end is 0, and no list goes past it. The calls that hear check all eight lists each time.
  * Numbers: both 17, 20 to 22, 1 to 6, 30, 42, 31 to 34, 40; delivery 35, 39; repeat 36 to 38, 41; a batch 54.
  * Stack: mant_change_over 8, mant_list_holds 8, mant_list_fault 64, mant_lay_lists 160, mant_hear 288, mant_step 352.
  */
@@ -452,9 +452,9 @@ MantStep mant_step(MantNode node, const uint16_t *lists, size_t lists_length, co
 
 /* ---- Stations heard ----
  *
- * Memory: a MantStations (W-201). Its first word is how many stations are held. Four words for each follow, by rising address: the address, PDUs read, those
- *     that echo dropped, and one more than the shortest path count, or 0. Words behind them stay. In malformed memory a first word above 128 counts as 128, and
- *     if the addresses do not rise, one may not be found.
+ * Memory: a MantStations (W-201). Its first word is how many stations are held, at most 128. Four words for each follow, by rising address: the address, PDUs
+ *     read, those that echo dropped, and one more than the shortest path count, or 0. Words behind them stay. In malformed memory where addresses do not rise,
+ *     one may not be found.
  * Numbers: 55, 56.
  * Stack: mant_stations_held 8, mant_station_at 8, mant_station_of 40, mant_remove_station 40, mant_count_heard 72, mant_count_answer 72,
  *     mant_hear_and_count 352.
@@ -544,9 +544,8 @@ MantListened mant_hear_and_count(MantNode node, const uint16_t *lists, size_t li
  *
  * PDUs come out whole and in order (W-206, W-207).
  * Memory: a MantQueue, for MANT_QUEUE_PDUS PDUs of MANT_QUEUE_BYTES bytes together. It begins with three numbers of two bytes, most significant first: PDUs
- *     held, their bytes, and where behind byte 6 they lie, back to back. It is empty if the first two are 0. In malformed memory a number above 32, 2,048 or
- *     512 counts as that, and PDUs are held as far as they can be read. mant_queue_level and mant_queue_add go by the numbers alone, so clear a MantQueue that
- *     was not zeroed.
+ *     held, their bytes, and where behind byte 6 they lie, back to back. It is empty if the first two are 0. In malformed memory PDUs are held as far as they
+ *     can be read, but mant_queue_level and mant_queue_add go by the numbers alone. So clear a MantQueue that was not zeroed.
  * Numbers: 60 to 62.
  * Stack: mant_queue_add 24, mant_queue_level 8, mant_queue_take 80, mant_queue_clear 8.
  */
@@ -743,8 +742,7 @@ MantOutcome mant_retain(MantRetained *table, size_t records, uint64_t last, uint
 
 /* One step over the first record that is due: in use, and sent `delay` or more before this time. If its count is `tries` or more, it is dropped as failed.
    Otherwise its PDU is written to the output, its time set and its count one higher. Refusals: 74, 73, 77, the last also if a later PDU would fit. If none is
-   due, the time is accepted. Step while the deed is not 0: with MANT_RETAINED_LIMIT bytes of output at most MANT_RECORDS times, at delay 0 MANT_RECORDS *
-   (tries + 1). */
+   due, the time is accepted. Step while the deed is not 0, which ends after at most MANT_RECORDS * (tries + 1) steps. */
 MantOutcome mant_retry(MantRetained *table, size_t records, uint64_t last, uint64_t time, uint64_t delay, uint64_t tries, uint8_t *output,
                        size_t output_length);
 
@@ -827,9 +825,9 @@ static inline MantOutcome mant_reliable_acknowledge(MantReliable *reliable, uint
  * - A PDU held back opens later, unless a later number was accepted. A source that the record does not hold opens with any number.
  * - The hash has 32 bits. On a processor with a cache the time of a call depends on the key.
  * - Both calls leave the key on the stack. If others can read it, overwrite 2,048 bytes of stack after each call (clear_stack in examples/sealed.c).
- * Memory: to open, a MantSources. Its first word is how many sources are held. Two words for each follow: its address and the last number accepted. Opening
- *     writes the first word and the source's two. In malformed memory a first word above 64 counts as 64, and the first entry of a source counts. To seal,
- *     none: the caller counts message numbers.
+ * Memory: to open, a MantSources. Its first word is how many sources are held, at most 64. Two words for each follow: its address and the last number accepted.
+ *     Opening writes the first word and the source's two. In malformed memory the first entry of a source counts. To seal, none: the caller counts message
+ *     numbers.
  * Numbers: in sealing 1 to 6, 88, 85, 86, 87; in opening 1 to 6, 80 to 84, 87; in mant_message_number 1 to 6, 80, 81.
  * Stack: mant_seal 1,480, mant_open 1,496, mant_message_number 184, mant_remove_source 8.
  */
