@@ -1,34 +1,34 @@
-/* A whole repeater. What the modem hears is counted, delivered and repeated; a sealed command for the box is opened, carried out and acknowledged; what is to
-   be sent waits for the next slot; an alarm of its own is sent again in later slots until it is acknowledged. Stored frames stand for the modem, and it
-   prints what a box would send and do, examples/box.expected. From the repository's root:
+/* A whole repeater. It counts, delivers and repeats what the modem hears. It opens, carries out and acknowledges sealed commands. PDUs to be sent wait for the
+   next slot. An alarm of its own is sent again in later slots until it is acknowledged. Stored frames stand for the modem, and the program prints what a box
+   would send and do (examples/box.expected). From the repository's root:
 
        rt staticlib mant
        gcc -std=c11 -Wall -Wextra -pedantic examples/box.c -Iinclude target/staticlib/libmant.a -o /tmp/box && /tmp/box */
 #include <stdio.h>
 #include "mant.h"
 
-/* What the box is set to. */
+/* Settings of the box. */
 #define BASE 1600     /* whom it alarms */
 #define HOP_LIMIT 3   /* of what it sends itself */
 #define SLOT 10       /* seconds from one slot to the next */
 #define SLOT_BYTES 32 /* what the modem sends in a slot */
-#define DELAY 20      /* seconds until an alarm that is not acknowledged is sent again, in the next slot */
-#define TRIES 2       /* times that it is sent again */
+#define DELAY 20      /* seconds after which an alarm without acknowledgement is sent again */
+#define TRIES 2       /* how often it is sent again */
 
 static const uint16_t left_to_others[] = {1300, 1399};
 static const MantLists wanted = {.source_reject = {.first = {left_to_others, 2}}};
-static MantListBlock lists;             /* what is wanted, laid in main */
+static MantListBlock lists;             /* laid in main */
 static MantNode node = MANT_NODE(2000); /* address 2000, edition 1.2, echo and repeating on */
 static const MantSending sending = {.hop_limit = HOP_LIMIT, .with_path = true};
 static const MantKey key = {{'k', 'e', 'e', 'p', ' ', 'm', 'e', ' ', 's', 'e', 'c', 'r', 'e', 't', '!', '!'}};
 
-/* What the box remembers, all of it empty at first. The record and alarm_id are kept over a restart (save). */
+/* What the box remembers. All of it begins empty. The record and alarm_id survive a restart (save). */
 static MantStations stations;
 static MantQueue queue;
 static MantReliable alarms; /* its times are seconds since the start, so that none is earlier than the last */
 static MantSources record;
-static uint64_t last_opened = UINT64_MAX; /* of what was opened last the source, PDU ID and message number, as one; at first nobody's */
-static uint8_t raised = 4, alarm_id = 1;  /* the alarms that wait for a slot, a bit each, one from the start; and the PDU ID that they get */
+static uint64_t last_opened = UINT64_MAX;                                           /* source, PDU ID and message number opened last, in one */
+static uint8_t raised = 4, alarm_id = 1;                                            /* alarms that wait for a slot, a bit each; their next PDU ID */
 static uint8_t output[MANT_PDU_LIMIT], plain[MANT_PAYLOAD_LIMIT], slot[SLOT_BYTES]; /* room for what a call writes */
 
 /* What the modem hears, and at which second. */
@@ -49,7 +49,7 @@ static const struct {
     {36, "a report cut on its way", 8, {2, 0, 0x20, 5, 0x03, 0xE8, 0, 0x12}},
 };
 
-/* Whether a call did what was asked; if not, says why. */
+/* Returns whether a call succeeded; if not, prints why. */
 static bool done(const char *name, uint8_t number)
 {
     if (number != MANT_DONE) {
@@ -67,7 +67,7 @@ static void print_hex(const char *name, const uint8_t *bytes, size_t length)
     printf("\n");
 }
 
-/* Puts a PDU behind those that wait for the slot. One that no slot has room for would hold up all the others. */
+/* Adds a PDU to the queue, unless it is too long for any slot: it would hold up all behind it. */
 static void enqueue(const char *name, const uint8_t *pdu, size_t length)
 {
     if (length > SLOT_BYTES) {
@@ -77,11 +77,13 @@ static void enqueue(const char *name, const uint8_t *pdu, size_t length)
     }
 }
 
-/* Keeps record and alarm_id without power, all or nothing: else old commands would open again, and the base take a new alarm for a copy of an old one. */
+/* To be filled in: write record and alarm_id, all or nothing, to memory that survives a restart. Otherwise old commands would open again, and the base would
+   take a new alarm for a copy of an old one. */
 static void save(void) {}
 
-/* A sealed payload, a command only where the base sends it to this box; whether to acknowledge it: only what was carried out. Of 82 that is known of the very
-   last; any other came too late, or is forged. The record is kept before a command is carried out, so that no restart carries it out twice. */
+/* Opens a sealed payload, and returns whether to acknowledge it: only if it was carried out. With 82 that is known of the very last message alone; any other
+   came too late or is forged. Only what the base sends to this box is a command. The record is saved before a command is carried out, so that no restart
+   carries it out twice. */
 static bool open_sealed(const uint8_t *pdu, MantHeader header)
 {
     MantWritten opened = mant_open(key, &record, pdu, header.pdu_length, plain, sizeof plain);
@@ -97,7 +99,7 @@ static bool open_sealed(const uint8_t *pdu, MantHeader header)
     return message == last_opened;
 }
 
-/* What is delivered here; whether to acknowledge it. What is not sealed is a report: anyone can send it, and it may come twice, by two ways. */
+/* Handles a delivered PDU, and returns whether to acknowledge it. One that is not sealed is a report: anyone can send it, and it may arrive twice. */
 static bool deliver(const uint8_t *pdu, MantAnswer answer)
 {
     MantHeader header = mant_read(node.edition, pdu, answer.taken);
@@ -108,7 +110,7 @@ static bool deliver(const uint8_t *pdu, MantAnswer answer)
     return true;
 }
 
-/* What came of a call with the alarms; whether it did what was asked. */
+/* Prints the outcome of a call with the alarms, and returns whether it succeeded. */
 static bool note(MantOutcome outcome)
 {
     static const char *const deeds[] = {"", "retained", "sent again", "given up", "known to have arrived", "acknowledged"};
@@ -118,7 +120,7 @@ static bool note(MantOutcome outcome)
     return done("alarms", outcome.number);
 }
 
-/* The PDU at the start of the bytes; gives its length, or 0 where it cannot be read. */
+/* Hears the PDU at the start of the bytes, and returns its length, or 0 if it cannot be read. */
 static size_t hear(const uint8_t *pdu, size_t length)
 {
     MantListened heard = mant_hear_and_count(node, lists.words, MANT_LIST_WORDS, pdu, length, output, sizeof output, &stations);
@@ -136,7 +138,7 @@ static size_t hear(const uint8_t *pdu, size_t length)
     return answer.taken;
 }
 
-/* A frame has PDUs back to back. What follows one that cannot be read is lost. */
+/* Hears a frame: PDUs back to back. Bytes behind one that cannot be read are lost. */
 static void hear_frame(const uint8_t *bytes, size_t length)
 {
     for (size_t place = 0, taken = 1; place < length && taken != 0; place += taken) {
@@ -144,7 +146,7 @@ static void hear_frame(const uint8_t *bytes, size_t length)
     }
 }
 
-/* Begins the slot with the alarms that were raised, and gives their bytes. What is not retained is not sent, and waits for the next slot. */
+/* Begins the slot with the alarms raised, and returns their length. An alarm that cannot be retained is not sent, and waits for the next slot. */
 static size_t begin_with_alarms(uint64_t now)
 {
     const MantFresh fresh = {.edition = node.edition,
@@ -165,7 +167,7 @@ static size_t begin_with_alarms(uint64_t now)
     return written.length;
 }
 
-/* Sends the slot: alarms before all else, those that are late too, then from the queue what there is room for. What has no room (77, 62) goes out later. */
+/* Sends the slot: new alarms, alarms that are late, then what fits from the queue. What has no room (77, 62) goes out later. */
 static void send_slot(uint64_t now)
 {
     printf("%u s: a slot\n", (unsigned)now);
@@ -190,7 +192,7 @@ int main(void)
     if (!done("lists", mant_lay_lists(&lists, &wanted).number)) {
         return 1;
     }
-    for (uint64_t now = 1, next = 0; now <= 40; now++) { /* a box goes on */
+    for (uint64_t now = 1, next = 0; now <= 40; now++) { /* a real box goes on */
         for (; next < sizeof frames / sizeof frames[0] && frames[next].time == now; next++) {
             printf("%u s: %s\n", (unsigned)now, frames[next].what);
             hear_frame(frames[next].bytes, frames[next].length);

@@ -1,4 +1,4 @@
-/* A command from base 1000 to gate 1600 that is sent, lost, sent again and acknowledged, and one that nobody answers. From the repository's root:
+/* Base 1000 sends gate 1600 a command, which is lost, sent again and acknowledged, and then one that nobody acknowledges. From the repository's root:
 
        rt staticlib mant
        gcc -std=c11 -Wall -Wextra -pedantic examples/gate.c -Iinclude target/staticlib/libmant.a -o /tmp/gate && /tmp/gate
@@ -9,7 +9,7 @@
 #include "mant.h"
 
 #define DELAY 30 /* seconds until a command is sent again */
-#define TRIES 2  /* times that it is sent again */
+#define TRIES 2  /* how often it is sent again */
 
 /* A site: its settings, and the PDUs that it retains. */
 typedef struct {
@@ -30,7 +30,7 @@ static void print_outcome(const char *name, MantOutcome outcome)
     }
 }
 
-/* Originates a command and retains it; it is then to be sent. */
+/* Originates and retains a command, and returns its length. It is then to be sent. */
 static size_t give(uint8_t pdu_id, uint64_t time, uint8_t *output)
 {
     const MantFresh settings = {
@@ -42,7 +42,7 @@ static size_t give(uint8_t pdu_id, uint64_t time, uint8_t *output)
     return written.length;
 }
 
-/* One step at the base; gives the bytes to be sent, if any. */
+/* One step at the base. Returns how many bytes are to be sent. */
 static size_t step(uint64_t time, uint8_t *output)
 {
     MantOutcome outcome = mant_reliable_retry(&base.reliable, time, DELAY, TRIES, output, MANT_RETAINED_LIMIT);
@@ -52,7 +52,7 @@ static size_t step(uint64_t time, uint8_t *output)
     return outcome.length;
 }
 
-/* A site hears a PDU; gives the bytes of the acknowledgement to be sent, if any. A gate would act on what is delivered to it. */
+/* A site hears a PDU. Returns the length of the acknowledgement to be sent. A real gate would act on the payload. */
 static size_t hear(const char *name, Site *site, const uint8_t *pdu, size_t length, uint8_t *output)
 {
     MantHeardReliably heard = mant_reliable_hear(site->node, NULL, 0, &site->reliable, pdu, length, sending, output, MANT_RETAINED_LIMIT);
@@ -74,7 +74,7 @@ int main(void)
     hear("the base hears the acknowledgement", &base, acknowledgement, length, none);
     step(160, command);
 
-    give(8, 200, command); /* nobody answers */
+    give(8, 200, command); /* nobody acknowledges it */
     for (uint64_t time = 230; time <= 290; time += DELAY) {
         step(time, command);
     }

@@ -1,4 +1,4 @@
-/* One report from gauge 1000 to base 1600, relayed at node 2000, which then gets a list for each season. From the repository's root:
+/* Node 2000 relays a report from gauge 1000 to base 1600, and then gets a list for each season. From the repository's root:
 
        rt staticlib mant
        gcc -std=c11 -Wall -Wextra -pedantic examples/relay_one.c -Iinclude target/staticlib/libmant.a -o /tmp/relay_one && /tmp/relay_one
@@ -22,7 +22,7 @@ static void print_number(const char *name, uint8_t number)
     printf("%s: %u, %s\n", name, number, mant_meaning(number));
 }
 
-/* Without the path bit it would be unknown; address 0 is an address like any other. */
+/* The sender is unknown without the path bit. Address 0 is an address like any other. */
 static void print_sender(const char *name, bool known, uint16_t address)
 {
     if (known) {
@@ -32,7 +32,7 @@ static void print_sender(const char *name, bool known, uint16_t address)
     }
 }
 
-/* Gauge 1000 passes in the flood season alone. First lists are for the dry season, second lists for the flood season. Every destination passes. */
+/* The first lists are for the dry season, the second for the flood season. Gauge 1000 passes in the flood season alone, and every destination in both. */
 static void print_seasons(MantNode node, const uint8_t *pdu, size_t length)
 {
     const uint16_t dry[] = {1001, 1999}, flood[] = {1000, 1999, 3000, 3999}, all[] = {0, 65535};

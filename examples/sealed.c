@@ -1,4 +1,4 @@
-/* A gate command from 1000 to 1600: sealed, repeated at node 2000, opened at the gate, and refused when it comes again or was changed. From the
+/* A gate command from 1000 to 1600. It is sealed, repeated at node 2000 and opened at the gate. A changed copy and a second copy are refused. From the
    repository's root:
 
        rt staticlib mant
@@ -9,13 +9,12 @@
 
 #include "mant.h"
 
-/* The two sites share the key, and no third site has it. These two variables stand for memory that survives a restart: the sender's next number, and the
-   receiver's record. */
+/* Only these two sites have the key. The two variables stand for memory that survives a restart: the sender's next number, and the receiver's record. */
 static const MantKey key = {{'k', 'e', 'e', 'p', ' ', 'm', 'e', ' ', 's', 'e', 'c', 'r', 'e', 't', '!', '!'}};
 static uint64_t next_number = 850;
 static MantSources record;
 
-/* Overwrites the stack that mant_seal or mant_open used, since round keys are left there. The function that made that call makes this one, at once. */
+/* Overwrites the stack that mant_seal or mant_open used: round keys are left there. Call it directly after, from the same function. */
 __attribute__((noinline)) static void clear_stack(void)
 {
     volatile uint8_t used[2048];
@@ -33,7 +32,7 @@ static void print_hex(const char *name, const uint8_t *bytes, size_t length)
     printf("\n");
 }
 
-/* The next number is kept before the sealed PDU can go out: after a restart no number is used twice. */
+/* Saves the next number before the sealed PDU can go out, so that no restart uses a number twice. */
 static MantWritten seal_next(const uint8_t *pdu, size_t length, uint8_t *sealed, size_t room)
 {
     uint64_t number = next_number;
@@ -68,7 +67,7 @@ int main(void)
     print_hex("sealed", sealed, written.length);
     printf("its message number: %u\n", (unsigned)mant_message_number(sealed, written.length).message);
 
-    /* Node 2000 has no key and needs none. */
+    /* Node 2000 needs no key. */
     MantAnswer answer = mant_hear(node, NULL, 0, sealed, written.length, repeated, sizeof repeated);
     print_hex("repeated", repeated, answer.repeated_length);
 
@@ -79,7 +78,7 @@ int main(void)
     open_at_gate("the same again", sealed, written.length);
     printf("%u source is held: the last number accepted from %u is %u\n", (unsigned)record.words[0], (unsigned)record.words[1], (unsigned)record.words[2]);
 
-    /* Both sites change the key: the gate removes the source, and its numbers may begin again. */
+    /* When both sites change the key, the gate removes the source, and its numbers may begin again. */
     printf("removed: %s\n", mant_remove_source(&record, settings.source) ? "yes" : "no");
     printf("sources held: %u\n", (unsigned)record.words[0]);
     return 0;
