@@ -64,9 +64,10 @@ from mant_types import (ADDRESS, BYTE, EDITION_1_1, EDITION_1_2, EXCHANGE_LIMIT,
 
 # `open` is left out, so that `from mant import *` does not take the place of Python's own
 __all__ = ['Airtime', 'Answer', 'EDITION_1_1', 'EDITION_1_2', 'EXCHANGE_TYPE', 'Element', 'Exchange', 'FIRST_LIST', 'Header', 'Level', 'LibraryMissing',
-           'Limits', 'ListFault', 'Lists', 'NO_LIST', 'Network', 'Node', 'Number', 'Queue', 'Reach', 'Reached', 'Record', 'Refused', 'SECOND_LIST', 'Station',
-           'Stations', 'Step', 'VERSION', 'change_over', 'elements', 'hear', 'limits', 'list_fault', 'list_holds', 'message_number', 'most_bytes', 'most_for_command',
-           'most_transmissions', 'originate', 'path', 'reach', 'read', 'read_exchange', 'remove_source', 'seal', 'walk', 'write_exchange']
+           'Limits', 'ListFault', 'Lists', 'NO_LIST', 'Network', 'Node', 'Number', 'Queue', 'Reach', 'Reached', 'Record', 'Refused', 'SECOND_LIST',
+           'Station', 'Stations', 'Step', 'VERSION', 'change_over', 'elements', 'hear', 'limits', 'list_fault', 'list_holds', 'message_number',
+           'most_bytes', 'most_for_command', 'most_transmissions', 'originate', 'path', 'reach', 'read', 'read_exchange', 'remove_source', 'seal', 'walk',
+           'write_exchange']
 
 # known by this module's name, whichever file they stand in
 for _known in (Airtime, Answer, Element, Exchange, Header, Level, LibraryMissing, Limits, ListFault, Lists, Network, Node, Number, Queue, Reach, Reached,
