@@ -48,6 +48,8 @@ use Rattle.pdu.proofs.fields.header_from.Reads as fields-header-from-reads
 use Rattle.pdu.proofs.fields.header_from.Kinds as fields-header-from-kinds
 use Rattle.pdu.proofs.parts.path_address.Reads as parts-path-address-reads
 use Rattle.pdu.proofs.parts.path_address.Kinds as parts-path-address-kinds
+use Rattle.pdu.proofs.parts.has_address.Reads as parts-has-address-reads
+use Rattle.pdu.proofs.parts.has_address.Kinds as parts-has-address-kinds
 use Rattle.pdu.proofs.parts.path_has.Reads as parts-path-has-reads
 use Rattle.pdu.proofs.parts.path_has.Kinds as parts-path-has-kinds
 use Rattle.pdu.proofs.parts.last_sender.Reads as parts-last-sender-reads
@@ -100,6 +102,9 @@ pdu-length-in = (λ κs a. tt, λ κs a x y s t p q. p .0 ∙ sym (q .0))
 pub parts-path-address : Promised 1 parts-path-address-kinds.ps parts-path-address-kinds.r parts-path-address-reads.Asked
     parts-path-address-reads.Post (λ κs x. x)
 parts-path-address = (λ κs a. tt, λ κs a x y s t p q. p ∙ sym q)
+
+pub parts-has-address : Promised 1 parts-has-address-kinds.ps parts-has-address-kinds.r parts-has-address-reads.Asked parts-has-address-reads.Post (λ κs x. x)
+parts-has-address = (λ κs a. tt, λ κs a x y s t p q. p ∙ sym q)
 
 pub parts-path-has : Promised 1 parts-path-has-kinds.ps parts-path-has-kinds.r parts-path-has-reads.Asked parts-path-has-reads.Post (λ κs x. x)
 parts-path-has = (λ κs a. tt, λ κs a x y s t p q. p ∙ sym q)

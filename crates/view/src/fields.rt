@@ -73,7 +73,13 @@ pub(crate) fn path_address_at(bytes: &[u8], extent: Extent, i: usize) -> u16
 pub(crate) fn path_has_at(bytes: &[u8], extent: Extent, address: u16) -> bool
     ensures { λ r. ⌜ r ≡ inPath address (pathIn (headerIn (now (bytes .entry)) extent) (now (bytes .entry))) ⌝ }
 {
-    pdu::parts::path_has(bytes, header_at(bytes, extent), address)
+    let header = header_at(bytes, extent);
+    pdu::parts::has_address(
+        bytes,
+        header.path_start() as u16,
+        header.path_entries() as u8,
+        address,
+    )
 }
 
 fn header_at(bytes: &[u8], extent: Extent) -> Header

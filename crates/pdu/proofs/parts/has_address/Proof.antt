@@ -10,10 +10,16 @@ use Rattle.pdu.proofs.parts.has_address.Statement.{statement}
 use Rattle.pdu.proofs.parts.has_address.Tie as tie
 
 abbrev Inv-loop : tie.InvT-loop
-Inv-loop bytes start entries address whole i₀ i = (i ≤ entries) × (sought bytes address start entries ≡ sought bytes address (start + 2 * i) (entries - i))
+Inv-loop bytes place count address start entries whole i₀ i = (i ≤ entries) × (sought bytes address start entries ≡ sought bytes address (start + 2 * i) (entries - i))
 
 abbrev μ-loop : tie.MeasureT-loop
-μ-loop bytes start entries address whole i₀ i = entries - i
+μ-loop bytes place count address start entries whole i₀ i = entries - i
+
+word-value-requires : tie.Need-word-value-requires Inv-loop μ-loop
+word-value-requires c κs = search needs
+
+byte-value-requires : tie.Need-byte-value-requires Inv-loop μ-loop
+byte-value-requires c κs = search needs
 
 mul-whole : tie.Need-mul-whole Inv-loop μ-loop
 mul-whole c = search needs
@@ -38,8 +44,12 @@ sub-has-one c = search needs
 
 has-one-requires : tie.Need-has-one-requires Inv-loop μ-loop
 has-one-requires c κs =
-    let a = c .before .before .before .args in
-    (omega arith, λ whole. omega (arith, leb-true (a .start + 2 * a .entries) (length (now (a .bytes))) whole))
+    let entries = c .before .before in
+    let start = entries .before in
+    let bytes = now (start .before .before .args .bytes) in (
+      omega arith,
+      λ whole. omega (arith, leb-true (start .word-value .result + 2 * entries .byte-value .result) (length bytes) whole),
+    )
 
 mul-has-two : tie.Need-mul-has-two Inv-loop μ-loop
 mul-has-two c = search needs
@@ -49,8 +59,12 @@ add-has-two c = search needs
 
 has-two-requires : tie.Need-has-two-requires Inv-loop μ-loop
 has-two-requires c κs =
-    let a = c .before .before .before .args in
-    (λ whole. omega (arith, leb-true (a .start + 2 * a .entries) (length (now (a .bytes))) whole), omega arith)
+    let entries = c .before .before in
+    let start = entries .before in
+    let bytes = now (start .before .before .args .bytes) in (
+      λ whole. omega (arith, leb-true (start .word-value .result + 2 * entries .byte-value .result) (length bytes) whole),
+      omega arith,
+    )
 
 add-i : tie.Need-add-i Inv-loop μ-loop
 add-i c = search needs
@@ -69,14 +83,17 @@ loop-again c =
 returns : tie.Need-returns Inv-loop μ-loop
 returns c =
     let l = c .before .before in
-    c .has-one .ensures ∙ sought-all _ _ _ _ ∙ sym (sought-all _ _ _ _ ∙ l .loop .inv .1)
+    c .has-one .ensures ∙ sought-all _ _ _ _
+    ∙ sym (sought-all _ _ _ _ ∙ rw (← l .before .before .word-value .ensures .0, ← l .before .byte-value .ensures .0) (l .loop .inv .1))
 
 returns-2 : tie.Need-returns-2 Inv-loop μ-loop
 returns-2 c =
     let l = c .before .before .before in
-    let left = l .before .before .args .entries - l .loop .i - 2 in
+    let left = l .before .byte-value .result - l .loop .i - 2 in
     let two = sym (sought-all _ _ _ _) ∙ sym (c .before .has-two .ensures) ∙ c .if2 .taken in
-    sym (sought-all _ _ _ _ ∙ l .loop .inv .1 ∙ sought-here-two _ _ _ _ left (omega arith) two)
+    sym (sought-all _ _ _ _
+    ∙ rw (← l .before .before .word-value .ensures .0, ← l .before .byte-value .ensures .0)
+    (l .loop .inv .1 ∙ sought-here-two _ _ _ _ left (omega arith) two))
 
 pub has-address-spec : {M : Type 1} → statement M
 has-address-spec =
@@ -84,6 +101,8 @@ has-address-spec =
     (tie.spec
     Inv-loop
     μ-loop
+    word-value-requires
+    byte-value-requires
     mul-whole
     add-whole
     loop-holds

@@ -14,6 +14,12 @@ returns c = sym (sought-all _ _ _ _ ∙ sought-none _ _ _ _ (sym (c .before .pat
 path-start-requires : tie.Need-path-start-requires
 path-start-requires c κs = search needs
 
+cast-has-address : tie.Need-cast-has-address
+cast-has-address c = search needs
+
+cast-has-address-2 : tie.Need-cast-has-address-2
+cast-has-address-2 c = search needs
+
 has-address-requires : tie.Need-has-address-requires
 has-address-requires c κs = search needs
 
@@ -25,4 +31,4 @@ returns-2 c =
 pub path-has-spec : {M : Type 1} → statement M
 path-has-spec =
     tie.close
-    (tie.spec path-entries-requires returns path-start-requires has-address-requires returns-2)
+    (tie.spec path-entries-requires returns path-start-requires cast-has-address cast-has-address-2 has-address-requires returns-2)
