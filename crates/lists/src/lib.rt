@@ -21,16 +21,17 @@ fn length_at(block: &[u16], i: usize) -> usize
 
 // So many values from a place on, as far as the block goes.
 fn values(block: &[u16], start: usize, size: usize) -> &[u16]
+    requires { ⌜ (start < 524288) × (size < 65536) ⌝ }
     ensures { λ r. ⌜ now r ≡ take size (drop start (now (block .entry))) ⌝ }
 {
     let end = block.len();
-    if end < start {
-        return &block[end..];
+    if start + size <= end {
+        return &block[start..start + size];
     }
-    if end - start < size {
+    if start <= end {
         return &block[start..];
     }
-    &block[start..start + size]
+    &block[end..]
 }
 
 fn lesser(a: usize, b: usize) -> usize
@@ -85,7 +86,7 @@ pub fn fault(block: &[u16]) -> ListFault
 // Where the values of list `i` begin.
 fn start_of(block: &[u16], i: usize) -> usize
     requires { ⌜ (i < 8) × (8 ≤ length (now block)) ⌝ }
-    ensures { λ r. ⌜ r ≡ startOf (now (block .entry)) i ⌝ }
+    ensures { λ r. ⌜ (r ≡ startOf (now (block .entry)) i) × (r < 524288) ⌝ }
 {
     let mut start: usize = LISTS;
     for k in 0..i {
