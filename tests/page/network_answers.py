@@ -1,106 +1,134 @@
-"""Every answer of the page about generated networks, against the plain model."""
+"""Every answer of the page about generated networks, against the reference model."""
+import random
 import re
 
 import facts
-import plain_model
+import model
 
 RATE, SLOT = 4800, 0.5  # what stands in the page's two fields
-TOO_LARGE = 'more than 18,446,744,073,709,551,615, which is as far as is counted'
+QUICK, TOO_LARGE = '100,000', 'more than 18,446,744,073,709,551,615, which is as far as is counted'
+LISTED, NAMED, GROUPS = 8, 10, 60  # addresses of a list in the headline and of one that is lost, lines of failures
 
 
-def number(text):
-    found = re.fullmatch(r'([\d,]+)( most)?', text)
-    return int(found[1].replace(',', '')) if found else text
+def counted(number, what):
+    return f'{number:,} {what}{"" if number == 1 else "s"}'
 
 
-def bound_words(value, short='> 1.8 × 10¹⁹'):
-    return f'{value:,}' if value < 2 ** 64 else short
+def listed(addresses, most):
+    more = f' and {len(addresses) - most:,} more' if len(addresses) > most else ''
+    return ', '.join(map(str, addresses[:most])) + more
 
 
-def hear_words(count, others):
+def known(number):
+    """A count, or that it was stopped."""
+    return f'≥ {QUICK}' if number is None else f'{number:,}'
+
+
+def bound(number, too_large):
+    return too_large if number is None else f'{number:,}'
+
+
+def heard(count, others):
     return 'all' if count == others else f'{count:,} of {others:,}'
 
 
-def length_words(net, node, lengths, hop):
-    if node == net.nodes[0]:
-        return 'origin'
-    if node not in lengths:
-        return 'no chain'
-    return str(lengths[node]) if node in net.reached(net.nodes[0], hop) else f'{lengths[node]}: too far'
+def headline(net):
+    origin, reached = net.nodes[0][0], net.hops[net.hop][0]
+    who = f'All {net.others:,} others' if reached == net.others else f'{reached:,} of {net.others:,}'
+    yield f'{who} hear a report of {origin}.' if net.others else 'There is no other node.'
+    if missing := [node for node, _, is_delivered, *_ in net.nodes[1:] if not is_delivered]:
+        yield f'Not reached: {listed(missing, LISTED)}.'
+    unlinked = sum(length is None for _, length, *_ in net.nodes)
+    if net.others:
+        yield (f'No hop limit reaches {counted(unlinked, "node")}: no chain of hearings leads there.' if net.least is None else
+               'Only hop limit 7, which is never lowered, reaches all.' if net.least == 7 else f'Hop limit {net.least} is the least that reaches all.')
+    own = [line[0] for line in net.lines]
+    if alone := [node for node, *_ in net.nodes if node not in own]:
+        yield f'Without a line of {"its" if len(alone) == 1 else "their"} own (a wrong digit?): {listed(alone, LISTED)}.'
 
 
-def nodes_wanted(net, size):
-    origin, lengths, paths = net.nodes[0], net.lengths(net.nodes[0]), net.sendings(net.nodes[0], net.hop)
-    sent = {node: [size + 2 * (len(path) - 1) for path in paths if path[-1] == node] for node in net.nodes}
-    return {str(node): [length_words(net, node, lengths, net.hop), f'{len(sent[node]):,}', f'{sum(sent[node]):,}'] for node in net.nodes}
+def node_rows(net, names):
+    for node, length, is_delivered, sent, size in sorted(net.nodes, key=lambda row: (255 if row[1] is None else row[1], row[0])):
+        words = 'origin' if length == 0 else 'no chain' if length is None else f'{length}' if is_delivered else f'{length}: too far'
+        yield [str(node), names.get(node, ''), words, f'{sent:,}', f'{size:,}']
 
 
-def command_wanted(net, found):
-    """The figures of one command: its cost on this network, in the worst one, and the two counts that make it up."""
-    to, tries, back, origin = int(found['to']), int(found['tries']), int(found['back']), net.nodes[0]
-    there, answer = len(net.sendings(origin, net.hop, to)), len(net.sendings(to, back, origin))
-    worst, worst_answer = net.bound(net.hop, origin, to), net.bound(back, origin, to)
-    most = (tries + 1) * worst * (1 + worst_answer)
-    return [(tries + 1) * there * (1 + answer), most if most < 2 ** 64 else TOO_LARGE, there, answer]
+def originator_rows(net, names):
+    sent = [row[3] for row in net.originators]
+    for node, reached, least, count in sorted(net.originators, key=lambda row: (-row[3], row[0])):
+        most = ' most' if count == max(sent) > min(sent) else ''
+        yield [str(node), names.get(node, ''), heard(reached, net.others), 'none' if least is None else str(least), f'{count:,}{most}']
 
 
-def asked(tally, b, net, text):
-    found, origin, others, size = b.wait(facts.NETWORK, text), net.nodes[0], len(net.nodes) - 1, 20
-    same, paths = tally.same, net.sendings(origin, net.hop)
-    same(f'{text}\nno fault', found['fault'], '')
-    same(f'{text}\nnodes', {row[0]: row[2:] for row in found['nodes']}, nodes_wanted(net, size))
-    hops = [[str(hop), hear_words(len(net.reached(origin, hop)), others), f'{len(net.sendings(origin, hop)):,}', bound_words(net.bound(hop, origin))]
-            for hop in range(8)]
-    same(f'{text}\nhop limits', found['hops'], hops)
-    same(f'{text}\nfigures', found['figures'], [f'{len(paths):,}', bound_words(net.bound(net.hop, origin), TOO_LARGE)])
-    total = sum(size + 2 * (len(path) - 1) for path in paths)
-    seconds = [float(re.match(r'[\d.]+', value.replace(',', ''))[0]) for value in found['air'][2:]]
-    same(f'{text}\nbytes', number(found['air'][0]), total)
-    same(f'{text}\nseconds', [abs(a - b) <= (0.01 if b < 9 else 0.51) for a, b in zip(seconds, (total * 8 / RATE, len(paths) * SLOT))], [True, True])
-    heard = len(net.reached(origin, net.hop))
-    same(f'{text}\nheadline', found['headline'][0], 'There is no other node.' if not others else
-         f'{f"All {others} others" if heard == others else f"{heard} of {others}"} hear a report of {origin}.')
-    least = net.least(origin)
-    if others and least is not None:
-        same(f'{text}\nleast hop limit', str(least) in found['headline'][-1] and 'reach' in found['headline'][-1], True)
-    everyone(tally, net, text, found)
-    failures(tally, net, text, found)
-    if others:
-        values = [number(value) for value in found['command'][:4]]
-        same(f'{text}\na command to {found["to"]}', values, command_wanted(net, found))
+def failure_lines(net):
+    """Nodes whose failure loses the same others stand together, those that lose most first."""
+    groups = {}
+    for node, cut, far in sorted(net.failures, key=lambda row: (-len(row[1]), -len(row[2]))):
+        groups.setdefault((tuple(cut), tuple(far)), []).append(str(node))
+    for (cut, far), nodes in list(groups.items())[:GROUPS]:
+        said = [words + listed(lost, NAMED) for words, lost in (('no chain leads to ', cut), ('out of reach at this hop limit: ', far)) if lost]
+        yield f'Without {" or ".join(nodes)}: {"; ".join(said)}.'
+    if len(groups) > GROUPS:
+        yield f'and {counted(len(groups) - GROUPS, "more line")}'
+    if not groups:
+        yield 'No single node’s failure cuts off another, or puts it out of reach at this hop limit.'
 
 
-def everyone(tally, net, text, found):
-    others = len(net.nodes) - 1
-    wanted = {}
-    for node in net.nodes:
-        least = net.least(node)
-        wanted[str(node)] = [hear_words(len(net.reached(node, net.hop)), others), 'none' if least is None else str(least), len(net.sendings(node, net.hop))]
-    rows = {row[0]: [row[2], row[3], number(row[4])] for row in found['everyone']}
-    tally.same(f'{text}\nevery originator', rows, wanted)
-    sent = [number(row[4]) for row in found['everyone']]
-    tally.same(f'{text}\nin order', sent, sorted(sent, reverse=True))
+def command(net):
+    """What a command costs here and in the worst network, one sending of it and of its acknowledgement, and the formula."""
+    here, worst, there, answer = net.command
+    cost = f'more than {QUICK}' if here is None else f'{here:,}'
+    return [cost, bound(worst, TOO_LARGE), known(there), known(answer)], f'{counted(net.tries + 1, "sending")} × {known(there)} × (1 + {known(answer)})'
 
 
-FAILURE = re.compile(r'Without ([\d or]+): (?:no chain leads to ([^;]*?))?(?:; )?(?:out of reach at this hop limit: (.*?))?\.')
+def drawn_nodes(net, names):
+    for node, length, is_delivered, *_ in net.nodes:
+        kind = 'originator' if length == 0 else 'unlinked' if length is None else 'delivered' if is_delivered else 'missed'
+        lists, far = ' if its lists let it in' if node in net.mute else '', counted(length or 0, 'hearing')
+        words = {'originator': 'the originator', 'delivered': f'hears it after {far}{lists}', 'missed': f'out of reach, {far} away',
+                 'unlinked': 'no chain of hearings leads there'}[kind]
+        title = f'{node}{" " if names.get(node) else ""}{names.get(node, "")}: {words}{"; does not repeat" if node in net.mute else ""}'
+        yield [str(node), kind, 'origin' if length == 0 else '–' if length is None else str(length), 'rect' if node in net.mute else 'circle', title]
 
 
-def failures(tally, net, text, found):
-    """By each node that is named to fail, whom that cuts off and whom it puts out of reach; lists of more than ten are cut short on the page."""
-    named = {int(node): who.groups()[1:] for who in map(FAILURE.fullmatch, found['failures']) if who for node in re.findall(r'\d+', who[1])}
-    wanted = net.failures(net.nodes[0], net.hop)
-    tally.same(f'{text}\nfailures', sorted(named), sorted(wanted))
-    for node, both in wanted.items():
-        for lost, words in zip(both, named.get(node, ('', ''))):
-            shown = [int(word) for word in re.findall(r'\d+', (words or '').split(' and ')[0])]
-            tally.same(f'{text}\nwithout {node}', (set(shown) <= lost, len(shown)), (True, min(10, len(lost))))
+def drawn_links(net):
+    """Each two of which one hears the other, and whether that is a step of a shortest chain."""
+    hearings = {(line[0], hearer) for line in net.lines for hearer in line[1:] if hearer != line[0]}
+    chain, origin = {node: (length, is_delivered) for node, length, is_delivered, *_ in net.nodes}, net.nodes[0][0]
+
+    def is_step(sender, hearer):
+        (length, _), (longer, is_delivered) = chain[sender], chain[hearer]
+        return length is not None and longer == length + 1 and bool(is_delivered) and (sender == origin or sender not in net.mute)
+
+    return sorted([min(pair), max(pair), any(is_step(*each) for each in (pair, pair[::-1]) if each in hearings)] for pair in hearings
+                  if pair[::-1] not in hearings or pair[0] < pair[1])
+
+
+def compared(tally, b, net, text, names):
+    given = {'size': net.size, 'tries': net.tries, 'back': net.back, **({'command-to': net.to} if net.to is not None else {})}
+    found = b.wait(facts.NETWORK, text, given)
+
+    def same(what, shown, wanted):
+        tally.same(f'{text}\n{given}\n{what}', shown, wanted)
+
+    same('no fault', found['fault'], '')
+    same('the headline', found['headline'], list(headline(net)))
+    same('the figures', found['figures'], [f'{net.sent:,}', bound(net.hops[net.hop][2], TOO_LARGE)])
+    same('each hop limit', found['hops'], [[str(hop), heard(reached, net.others), known(sent), bound(worst, '> 1.8 × 10¹⁹')]
+                                           for hop, (reached, sent, worst) in enumerate(net.hops)])
+    same('each node', found['nodes'], list(node_rows(net, names)))
+    same('every originator', found['everyone'], list(originator_rows(net, names)))
+    same('failures', found['failures'], list(failure_lines(net)))
+    same('bytes', found['air'][:2], [f'{net.bytes:,}', bound(net.worst_bytes, TOO_LARGE)])
+    seconds = [float(re.match(r'[\d.]+', words.replace(',', ''))[0]) for words in found['air'][2:]]
+    same('seconds', [abs(one - other) <= (0.01 if other < 9 else 0.51) for one, other in zip(seconds, (net.bytes * 8 / RATE, net.sent * SLOT))], [True, True])
+    same('a command', (found['command'], found['formula']), (None, '') if net.command is None else command(net))
+    same('the nodes drawn', found['drawn'], list(drawn_nodes(net, names)))
+    same('the lines drawn', found['links'], drawn_links(net))
 
 
 def generated(tally, b, seed, count):
-    """As many networks: most small and dense, some larger and sparse."""
-    rng = plain_model.seeded(seed)
-    for place in range(count):
-        net = plain_model.network(rng, 9 if place % 5 else 40)
-        while sum(len(net.sendings(node, net.hop)) for node in net.nodes) > 60_000:
-            net = plain_model.network(rng, 9 if place % 5 else 40)
-        asked(tally, b, net, net.text(rng))
+    rng = random.Random(seed)
+    for asked, answered in model.asked('network', seed, count):
+        net = model.Network(asked, answered)
+        compared(tally, b, net, *net.text(rng))

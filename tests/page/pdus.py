@@ -1,66 +1,95 @@
-"""What the page says of bytes: generated PDUs and batches against the plain model, and whole texts against those stored for ./show."""
+"""What the page says of bytes: generated PDUs, batches and exchanges against the reference model, and whole texts against those stored for ./show."""
 import re
 
 import facts
-import plain_model
+import model
+from network_answers import counted
 from trying import TOP
 
-BATCH = 16384
+SHOWN = 60  # parts that are shown at once
+EMPTY = 'Paste the bytes of a PDU, or take the example.'
+FLAGS = ('time stamp request', 'path bit', 'destination bit', 'encrypted', 'ACK', 'added header')
 
 
 def plain(name, words):
-    """A field without what is explained behind it, as the plain model has it."""
-    if name in ('time stamp request', 'path bit', 'destination bit', 'encrypted', 'ACK', 'added header'):
+    """A field without what is explained behind it, as the model has it."""
+    if name in FLAGS:
         return '1' if words.startswith('yes') else '0'
-    if name == 'payload':
+    if name in ('payload', 'payload as text'):
         return words
     if name == 'path':
         return words.split(':')[0].replace(',', '')
-    if name == 'payload length':
-        return words.split(' ')[0].replace(',', '')
-    return words.split(':')[0]
+    return words.split(' ' if name == 'payload length' else ':')[0].replace(',', '')
 
 
-def told(found):
-    """What is shown of one PDU, as the plain model has it."""
-    if found['refused']:
-        return int(re.search(r'refused, (\d+)', found['refused'], re.I)[1])
-    return {name: plain(name, words) for name, words in found['fields'][0] if name != 'payload as text'}
+def shown(part):
+    """A part as it is compared: a note, a refusal, or a PDU with its values and the place of its payload. Fields before a refusal are left out."""
+    if part['note'] or part['refused']:
+        return part['note'] or part['refused']
+    fields = part['fields']
+    return part['title'], part['under'], {name: plain(name, words) for name, words, _ in fields}, [where for name, _, where in fields if name == 'payload']
 
 
-def wanted_of(content, edition):
-    known = plain_model.pdu(content, edition)
-    return known if isinstance(known, int) else {name: value for name, value in known.items() if name != 'size'}
+def pdu(words, edition, what, place=0):
+    """A PDU as it should be shown. Its first byte is at a place, or its payload alone where an exchange has it elsewhere."""
+    read = model.Pdu(words)
+    to, sender = 'everyone' if read.destination is None else read.destination, 'an unknown node' if read.last is None else read.last
+    first, size = place + read.header_length, len(read.payload)
+    where = '' if not size else f'byte {first}' if size == 1 else f'bytes {first}–{first + size - 1}'
+    under = f'{what}{counted(read.length, "byte")}, edition {edition[0]}.{edition[1]} proved'
+    return (f'From {read.source} to {to}, heard from {sender}', under, read.fields, [where]), read
 
 
-def generated(tally, b, seed, count):
-    rng, kinds = plain_model.seeded(seed), set()
-    for edition in (12, 11):
-        contents = [plain_model.random_pdu(rng) or b'\0' for _ in range(count // 2)]
-        shown = b.run(facts.PDU, 'pdu', edition, [content.hex() for content in contents])
-        for content, found in zip(contents, shown):
-            wanted = wanted_of(content, edition)
-            kinds.add(wanted if isinstance(wanted, int) else 0)
-            tally.same(f'{content.hex()} under edition {edition}', told(found), wanted)
-    tally.same('every kind of refusal was generated', sorted(kinds), [0, 1, 2, 3, 4, 5, 6])
+def pdu_parts(content, edition, answered):
+    if answered[0] != '0':
+        return [f'refused, {answered[0]}: ']
+    part, read = pdu(answered[1:], edition, 'PDU of ')
+    after = f'{counted(len(content) - read.length, "byte")} after the PDU, from byte {read.length} on (“Batch” shows PDUs that lie back to back)'
+    return [part, after] if len(content) > read.length else [part]
 
 
-def batches(tally, b, seed, count):
-    """PDUs back to back: how many are shown, and what stops them."""
-    rng = plain_model.seeded(seed)
-    contents = [b''.join(plain_model.random_pdu(rng) for _ in range(rng.randint(1, 6))) or b'\0' for _ in range(count)]
-    for content, found in zip(contents, b.run(facts.PDU, 'batch', 12, [content.hex() for content in contents])):
-        place, sources, refused = 0, [], None
-        while place < len(content) and refused is None:
-            one = plain_model.pdu(content[place:], 12)
-            if isinstance(one, int):
-                refused = one
-            else:
-                sources.append(one['source'])
-                place += one['size']
-        shown = [dict(fields)['source'] for fields in found['fields'] if 'payload' in dict(fields)]
-        number = found['refused'] and int(re.search(r'refused, (\d+)', found['refused'], re.I)[1])
-        tally.same(f'the batch {content.hex()}', (shown[:len(sources)], number), (sources, refused))
+def batch_parts(content, edition, answered):
+    number, *words = answered
+    if number != '0':
+        return [f'refused, {number}: ']
+    parts, count = [], 0
+    while words:
+        place, number, *words = words
+        count += 1
+        if number != '0':
+            return [*parts, f'PDU {count}, from byte {place} on: refused, {number}: ']
+        parts.append(pdu(words, edition, f'PDU {count}, at byte {place}, of ', int(place))[0])
+        words = words[len(model.HEADER):]
+    return [*parts, f'Batch of {counted(len(content), "byte")}: {counted(count, "PDU")}']
+
+
+def exchange_parts(content, edition, answered):
+    number, *words = answered
+    if number != '0':
+        return [f'refused, {number}: ']
+
+    def where(part, place):
+        size = len(model.bytes_of(part))
+        return f'empty, at byte {place}' if not size else f'byte {place}' if size == 1 else f'bytes {place} to {int(place) + size - 1}'
+
+    header, payload, header_place, payload_place, _, *fields = words
+    note = f'Exchange of {counted(len(content), "byte")}; header: {where(header, header_place)}; payload: {where(payload, payload_place)}'
+    return [note, pdu(fields, edition, 'PDU of ', int(payload_place) - len(model.bytes_of(header)))[0]]
+
+
+PARTS = {'pdu': pdu_parts, 'batch': batch_parts, 'exchange': exchange_parts}
+
+
+def generated(tally, b, kind, seed, count):
+    """So many inputs of a kind, half of them under each edition."""
+    lines = model.asked(kind, seed, count)
+    for edition in ('11', '12'):
+        mine = [(asked[1], answered) for asked, answered in lines if asked[0] == edition]
+        for (digits, answered), found in zip(mine, b.run(facts.PDU, kind, int(edition), [digits.strip('.') for digits, _ in mine])):
+            content = model.bytes_of(digits)
+            wanted = PARTS[kind](content, edition, answered) if content else [EMPTY]
+            more = [f'and {len(wanted) - SHOWN:,} more; “Copy” has them all'] if len(wanted) > SHOWN else []
+            tally.same(f'{kind} {digits} under edition {edition}', [shown(part) for part in found['parts']], wanted[:SHOWN] + more)
 
 
 def expanded(text):
@@ -97,7 +126,7 @@ def wrong(tally, b):
     for text, words in WRONG:
         before, after = b.run(facts.PDU, 'pdu', 12, [good, text])
         tally.same(f'{text!r}: said', words in after['fault'], True)
-        tally.same(f'{text!r}: the last good bytes stay', after['fields'], before['fields'])
+        tally.same(f'{text!r}: the last good bytes stay', after['parts'], before['parts'])
     forms = ['0x03 0x00:10-0B,03 E8 06 40 00\n7001081212032413220276 # a comment', good.lower()]
     for found in b.run(facts.PDU, 'pdu', 12, forms):
-        tally.same('another form of the same bytes', (found['fault'], found['fields']), ('', before['fields']))
+        tally.same('another form of the same bytes', (found['fault'], found['parts']), ('', before['parts']))

@@ -15,7 +15,11 @@ def some_networks(tally, b):
 
 
 def some_pdus(tally, b):
-    pdus.generated(tally, b, SEED, 10 * COUNT)
+    pdus.generated(tally, b, 'pdu', SEED, 10 * COUNT)
+
+
+def some_boxes(tally, b):
+    boxes.generated(tally, b, SEED, COUNT)
 
 
 # what is wrong, the module, its text there and that of the wrong page, and the part of the test that must see it
@@ -28,7 +32,7 @@ WRONG = (
     ('two bytes short', 'answers', 'networkBytes(all, 0, net.hop, size)', 'networkBytes(all, 0, net.hop, size - 2)', some_networks),
     ('another field', 'fields', "add('source', h.source", "add('source', h.destination", some_pdus),
     ('edition 1.2 alone', 'reading', "call('mant_read', edition, bytes)", "call('mant_read', 12, bytes)", some_pdus),
-    ('lists in each other’s place', 'box', "const ORDER = ['first', 'second']", "const ORDER = ['second', 'first']", boxes.lists),
+    ('lists in each other’s place', 'box', "const ORDER = ['first', 'second']", "const ORDER = ['second', 'first']", some_boxes),
     ('echo off', 'box', "echo: $('echo').checked", 'echo: false', boxes.jobs))
 
 

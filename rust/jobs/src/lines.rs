@@ -9,7 +9,8 @@
 use crate::words::{answer, choice, eight, flag, header, hex, list, node, some, written};
 use generator::{
     address, any_eight_lists, batch, edition, eight_lists, exchange, exchanged_pdu, network,
-    openings, origination, payload_to_send, received, settings, settings_for, to_seal, Random,
+    openings, origination, payload_to_send, received, settings, settings_for, to_seal, EightLists,
+    Random,
 };
 use reference::{
     bound, bytes_bound, hear, holds, list_fault, open, originate, reach, read_exchange, read_under,
@@ -63,10 +64,15 @@ fn line(random: &mut Random) -> String {
 /// Reading.
 fn read_line(random: &mut Random) -> String {
     let (edition, bytes) = (edition(random), received(random));
-    let asked = format!("read {edition} {}", hex(&bytes));
-    match read_under(edition, &bytes) {
-        Ok(shown) => format!("{asked} = 0 {}", header(&shown, &bytes)),
-        Err(number) => format!("{asked} = {number}"),
+    let answered = read_words(edition, &bytes);
+    format!("read {edition} {} = {answered}", hex(&bytes))
+}
+
+/// What is read.
+pub fn read_words(edition: u64, bytes: &[u8]) -> String {
+    match read_under(edition, bytes) {
+        Ok(shown) => format!("0 {}", header(&shown, bytes)),
+        Err(number) => number.to_string(),
     }
 }
 
@@ -134,21 +140,26 @@ fn hear_line(random: &mut Random) -> String {
     format!("hear {node} {lists} {} = {answer}", hex(&bytes))
 }
 
-/// A batch: each answer after its offset, or the number that refuses it.
+/// A batch.
 fn walk_line(random: &mut Random) -> String {
     let (bytes, lists) = (batch(random), eight_lists(random));
     let settings = of_any_edition(random, |random| settings_for(random, &bytes));
-    let mut output = [0; MOST_PDU];
-    let asked = format!("walk {} {} {}", node(&settings), eight(&lists), hex(&bytes));
-    match walk(&settings, &lists.lists(), &bytes, &mut output) {
+    let answered = walk_words(&settings, &lists, &bytes);
+    let (node, lists) = (node(&settings), eight(&lists));
+    format!("walk {node} {lists} {} = {answered}", hex(&bytes))
+}
+
+/// Each answer to a batch after its offset, or the number that refuses it.
+pub fn walk_words(settings: &Settings, lists: &EightLists, bytes: &[u8]) -> String {
+    match walk(settings, &lists.lists(), bytes, &mut [0; MOST_PDU]) {
         Ok(walked) => {
             let steps = walked.steps.iter().map(|step| {
                 let answer = answer(&step.answer, &bytes[step.offset..], &step.repeated);
                 format!(" {} {answer}", step.offset)
             });
-            format!("{asked} = 0{}", steps.collect::<String>())
+            format!("0{}", steps.collect::<String>())
         }
-        Err(number) => format!("{asked} = {number}"),
+        Err(number) => number.to_string(),
     }
 }
 
@@ -174,16 +185,20 @@ fn bound_line(random: &mut Random) -> String {
 /// An exchange read.
 fn exchange_line(random: &mut Random) -> String {
     let bytes = exchange(random);
-    let asked = format!("exchange {}", hex(&bytes));
-    match read_exchange(&bytes) {
+    format!("exchange {} = {}", hex(&bytes), exchange_words(&bytes))
+}
+
+/// The parts of an exchange, and where they lie.
+pub fn exchange_words(bytes: &[u8]) -> String {
+    match read_exchange(bytes) {
         Ok(parts) => format!(
-            "{asked} = 0 {} {} {} {}",
+            "0 {} {} {} {}",
             hex(&bytes[parts.header.clone()]),
             hex(&bytes[parts.payload.clone()]),
             parts.header.start,
             parts.payload.start
         ),
-        Err(number) => format!("{asked} = {number}"),
+        Err(number) => number.to_string(),
     }
 }
 

@@ -8,10 +8,13 @@
 //!   `reach` and generated networks.
 //! - `jobs lines SEED COUNT` prints generated inputs of the library's functions,
 //!   with what the model returns.
+//! - `jobs page KIND SEED COUNT` does so for the planner's page: `network`, `pdu`,
+//!   `batch`, `exchange` or `box`.
 
 mod compare;
 mod lines;
 mod networks;
+mod page;
 mod relaying;
 mod words;
 
@@ -22,7 +25,7 @@ use std::io::{self, BufWriter, Read, Write};
 use std::process::ExitCode;
 
 const USE: &str = "use: jobs print, or jobs compare PROGRAM [seed [count [first]]], \
-or jobs reach and the same, or jobs lines SEED COUNT";
+or jobs reach and the same, or jobs lines SEED COUNT, or jobs page KIND SEED COUNT";
 
 fn main() -> ExitCode {
     let words: Vec<String> = std::env::args().skip(1).collect();
@@ -30,7 +33,12 @@ fn main() -> ExitCode {
         Some("print") if words.len() == 1 => print().map_err(|error| error.to_string()),
         Some("compare") => asked(&words[1..]).and_then(|asked| compare_jobs(&asked)),
         Some("reach") => asked(&words[1..]).and_then(|asked| compare_networks(&asked)),
-        Some("lines") if words.len() == 3 => print_lines(&words[1], &words[2]),
+        Some("lines") if words.len() == 3 => {
+            inputs(&words[1..], |seed, count| Some(lines::lines(seed, count)))
+        }
+        Some("page") if words.len() == 4 => inputs(&words[2..], |seed, count| {
+            page::lines(&words[1], seed, count)
+        }),
         _ => Err(String::from(USE)),
     };
     match done {
@@ -49,14 +57,23 @@ fn print() -> io::Result<()> {
     io::stdout().write_all(reference::relay(&job).as_bytes())
 }
 
-/// Prints the lines of generated inputs.
-fn print_lines(seed: &str, count: &str) -> Result<(), String> {
-    let number = |word: &str| word.parse().map_err(|_| String::from(USE));
+/// Prints the lines of generated inputs, by their seed and how many.
+fn inputs<L: Iterator<Item = String>>(
+    words: &[String],
+    lines: impl Fn(u64, u64) -> Option<L>,
+) -> Result<(), String> {
+    let lines = lines(number(&words[0])?, number(&words[1])?).ok_or(USE)?;
     let mut output = BufWriter::new(io::stdout().lock());
-    for line in lines::lines(number(seed)?, number(count)?) {
+    for line in lines {
         writeln!(output, "{line}").map_err(|error| error.to_string())?;
     }
     output.flush().map_err(|error| error.to_string())
+}
+
+/// Reads a number.
+fn number(word: &str) -> Result<u64, String> {
+    word.parse()
+        .map_err(|_| format!("`{word}` is not a number; {USE}"))
 }
 
 /// Reads the arguments of a comparison.
@@ -66,9 +83,8 @@ fn asked(words: &[String]) -> Result<Asked, String> {
     if words.len() > numbers.len() {
         return Err(String::from(USE));
     }
-    for (number, word) in numbers.iter_mut().zip(words) {
-        let parsed = word.parse();
-        *number = parsed.map_err(|_| format!("`{word}` is not a number; {USE}"))?;
+    for (place, word) in numbers.iter_mut().zip(words) {
+        *place = number(word)?;
     }
     let [seed, count, first] = numbers;
     let program = program.clone();

@@ -42,7 +42,7 @@ pub use node::{hear, Answer, Settings};
 pub use numbers::{described, meaning};
 pub use origin::{originate, Origination};
 pub use queue::{Queue, Taken, MOST_HELD, MOST_HELD_BYTES};
-pub use reach::{chains, delivered, least_hop_limit, reach, shortest_chains};
+pub use reach::{chains, delivered, failures, least_hop_limit, reach, shortest_chains, Failure};
 pub use retained::{Done, Names, Retained, Sending, Table, MOST_RETAINED, RECORDS};
 pub use sealed::{message_number, open, seal, Accepted, MOST_NUMBER, MOST_SOURCES};
 pub use sha1::sha1;
