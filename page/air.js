@@ -1,9 +1,9 @@
 // Seconds on the air, which are arithmetic on proved counts, and what one command costs.
 import { QUICK, given, repeatersOf, sentWords } from './answers.js';
-import { $, html, numberIn } from './dom.js';
+import { $, html, numberIn, offer } from './dom.js';
 import { HOP_LIMITS, commandTotal, mostForCommand, transmissions } from './plan.js';
 import { state } from './state.js';
-import { counted, grouped, named, seconds, shortened } from './words.js';
+import { counted, grouped, seconds, shortened } from './words.js';
 
 const rowsOf = (rows) => rows.flatMap(([words, value, title]) => [html('dt', {}, words), html('dd', { title }, value)]);
 
@@ -25,7 +25,7 @@ const carried = (net, from, to, hop) => {
 
 export function showCommand() {
   const { net } = state, select = $('command-to'), others = net.nodes.slice(1), wanted = select.value;
-  select.replaceChildren(...others.map((node) => html('option', { value: node.address }, named(node))));
+  offer(select, others);
   const bases = others.filter((node) => !node.repeats), chosen = others.find((node) => String(node.address) === wanted) ?? bases[0] ?? others[0];
   $('command').hidden = !chosen;
   if (!chosen) return;

@@ -1,5 +1,5 @@
 // The answers about the chosen report: who hears it, how often it goes out, at each hop limit and at each node.
-import { $, cell, copy, download, html, numberIn, press } from './dom.js';
+import { $, cell, copy, download, fill, html, numberIn, press } from './dom.js';
 import { setHop } from './edits.js';
 import { HOP_LIMITS, NO_CHAIN, NO_HOP_LIMIT, chainLengths, isDelivered, leastHopLimit, mostBytes, mostTransmissions, networkBytes, reached } from './plan.js';
 import { transmissions } from './plan.js';
@@ -50,15 +50,17 @@ function leastWords() {
 }
 
 export function showFigures() {
-  const { answers } = state, worst = shortened(answers.worst), one = answers.sent.value === 1;
+  const { answers } = state, worst = shortened(answers.worst), one = answers.sent.value === 1, isHeld = document.activeElement?.id === 'stop-count';
   const badge = () => html('span', { class: 'badge proved' }, 'proved');
   const figure = (value, title, words, ...more) => html('div', { class: 'figure' }, html('b', { class: value.length > 9 ? 'long' : null, title }, value),
     html('span', {}, words), badge(), ...more);
   const going = () => [html('span', { class: 'dim', role: 'status' }, 'counting on … '), html('button', { type: 'button', id: 'stop-count' }, 'Stop')];
   const note = answers.counting ? going() : answers.sent.enough ? [html('span', { class: 'dim' }, 'the count was stopped there')] : [];
+  const what = `${one ? 'transmission' : 'transmissions'} of one report${answers.sent.enough ? '' : ', at most,'} on this network`;
   $('figures').replaceChildren(
-    figure(sentWords(answers), null, `${one ? 'transmission' : 'transmissions'} of one report${answers.sent.enough ? '' : ', at most,'} on this network`, ...note),
+    figure(sentWords(answers), null, what, ...note),
     figure(worst.short, worst.whole, `in the worst network of ${counted(answers.others, 'other repeater')}`));
+  if (isHeld) $('stop-count')?.focus({ preventScroll: true });
 }
 
 export function showHops() {
@@ -67,10 +69,10 @@ export function showHops() {
   const cells = (each) => [cell(String(each.hop)), cell(heardWords(each.hear, all), each.hear < all ? 'n bad' : 'n'), cell(sentAt(each), 'n'),
     cell(shortened(each.worst).short, 'n', shortened(each.worst).whole)];
   const row = (each) => {
-    const isOn = each.hop === net.hop, acts = { tabindex: 0, onclick: () => change(setHop(state.text, each.hop)), onkeydown: press };
+    const isOn = each.hop === net.hop, acts = { tabindex: -1, onclick: () => change(setHop(state.text, each.hop)), onkeydown: press };
     return html('tr', { class: isOn ? 'on' : null, 'data-hop': each.hop, 'aria-current': isOn ? 'true' : null, ...acts }, ...cells(each));
   };
-  $('hops-table').tBodies[0].replaceChildren(...answers.hops.map(row));
+  fill($('hops-table').tBodies[0], answers.hops, row);
 }
 
 export const lengthWords = (i) => {
@@ -84,12 +86,12 @@ function byChain() {
 
 export function showNodes() {
   const { net, answers } = state, { counts } = answers.sent;
-  $('nodes-table').tBodies[0].replaceChildren(...byChain().map((i) => {
+  fill($('nodes-table').tBodies[0], byChain(), (i) => {
     const node = net.nodes[i], got = i === 0 || isDelivered(net.hop, answers.lengths[i]);
-    return html('tr', { tabindex: 0, 'data-row': node.address, onkeydown: press }, cell(String(node.address)), cell(node.name, 'name', node.name),
+    return html('tr', { tabindex: -1, 'data-row': node.address, onkeydown: press }, cell(String(node.address)), cell(node.name, 'name', node.name),
       cell(lengthWords(i), got ? 'n' : 'n bad'), cell(counts ? grouped(counts[i]) : '–', 'n'),
       cell(answers.bytes ? grouped(answers.bytes.counts[i]) : '–', 'n'));
-  }));
+  });
 }
 
 // A mark also stands for lists that stop the report.

@@ -1,9 +1,20 @@
 // The drawing: an SVG that is made anew when the network or its answers change, and moved in place while something is dragged.
-import { SVG, el } from './dom.js';
+import { SVG, el, setAll } from './dom.js';
 import { R, bendOf, placeCaptions } from './labels.js';
 import { listenTo } from './pointer.js';
 
 const MANY = 500, CROWD = 80; // lines that share one path, nodes without names
+
+const round = (more) => el('circle', { class: more ? 'halo' : null, r: R + more });
+const square = (more) => {
+  const wide = R + more, high = R * 0.86 + more;
+  return el('rect', { class: more ? 'halo' : null, x: -wide, y: -high, width: 2 * wide, height: 2 * high, rx: 5 + more });
+};
+const shaped = (shape) => {
+  const words = [el('text', { class: 'address', y: -0.5 }), el('text', { class: 'under', y: 11.5 })];
+  return el('g', { role: 'button' }, el('title'), shape(5), shape(0), ...words);
+};
+const REPEATER = shaped(round), OTHER = shaped(square); // every node is a copy of one of these: making each anew takes several times as long
 
 export class Drawing {
   // on: select(what), link(a, b), moved(address, point), add(point)
@@ -15,7 +26,7 @@ export class Drawing {
     listenTo(this);
   }
 
-  // model: { nodes: [{ address, kind, under, caption, repeats, title }], links: [{ a, b, both, step, title }], rings, lastRing, selected, marked, cut }
+  // model: { nodes: [{ address, kind, under, caption, repeats, title }], links: [{ a, b, both, step }], rings, lastRing, selected, marked, cut }
   show(model, at) {
     this.model = model;
     this.at = at;
@@ -47,7 +58,8 @@ export class Drawing {
     const tip = link.both ? null : `url(#${link.step ? 'tip-step' : 'tip'})`;
     const line = el('path', { class: `link${link.step ? ' step' : ''}${this.isChosen(link) ? ' chosen' : ''}`, 'marker-end': tip });
     const wide = el('path', { class: 'grip', 'data-pair': `${link.a} ${link.b}` });
-    links.append(el('g', {}, el('title', {}, link.title), line, wide));
+    const title = link.both ? `${link.a} and ${link.b} hear each other` : `${link.b} hears ${link.a}; ${link.a} does not hear ${link.b}`;
+    links.append(el('g', {}, el('title', {}, title), line, wide));
     return { link, line, wide };
   }
 
@@ -55,16 +67,11 @@ export class Drawing {
     const { selected, cut, marked } = this.model, chosen = selected?.node === node.address;
     const look = ['node', node.kind, chosen && 'chosen', cut?.has(node.address) && 'cut', marked === node.address && 'failed'].filter(Boolean).join(' ');
     const tabbed = chosen || (!selected?.node && node.kind === 'originator');
-    const spoken = { role: 'button', 'aria-label': node.title, 'aria-pressed': String(chosen) };
-    const group = el('g', { class: look, 'data-node': node.address, tabindex: tabbed ? 0 : -1, ...spoken });
-    const round = (more) => el('circle', { class: more ? 'halo' : null, r: R + more });
-    const square = (more) => {
-      const wide = R + more, high = R * 0.86 + more;
-      return el('rect', { class: more ? 'halo' : null, x: -wide, y: -high, width: 2 * wide, height: 2 * high, rx: 5 + more });
-    };
-    const shape = node.repeats ? round : square;
-    group.append(el('title', {}, node.title), shape(5), shape(0), el('text', { class: 'address', y: node.under ? -0.5 : 4 }, String(node.address)));
-    if (node.under) group.append(el('text', { class: 'under', y: 11.5 }, node.under));
+    const group = (node.repeats ? REPEATER : OTHER).cloneNode(true), [title, , , address, under] = group.children;
+    setAll(group, { class: look, 'data-node': node.address, tabindex: tabbed ? 0 : -1, 'aria-label': node.title, 'aria-pressed': chosen });
+    title.textContent = node.title;
+    address.textContent = node.address;
+    under.textContent = node.under;
     if (node.caption) group.append(el('text', { class: 'caption', y: R + 15 }, node.caption));
     nodes.append(group);
     return group;

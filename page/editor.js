@@ -54,10 +54,8 @@ function showText() {
 }
 
 function showGutter(count, fault) {
-  const gutter = $('gutter');
-  while (gutter.children.length > count) gutter.lastChild.remove();
-  while (gutter.children.length < count) gutter.append(html('b', {}, String(gutter.children.length + 1)));
-  gutter.querySelector('.bad')?.classList.remove('bad');
-  if (fault) gutter.children[fault.line]?.classList.add('bad');
-  gutter.scrollTop = $('source').scrollTop;
+  const gutter = $('gutter'), numbers = Array.from({ length: count }, (_, line) => `${line + 1}\n`), bad = fault ? fault.line : count;
+  const marked = fault ? [html('b', { class: 'bad' }, String(bad + 1)), '\n'] : [];
+  gutter.replaceChildren(numbers.slice(0, bad).join(''), ...marked, numbers.slice(bad + 1).join(''));
+  requestAnimationFrame(() => (gutter.scrollTop = $('source').scrollTop)); // at once it would lay the page out in the midst of a change
 }

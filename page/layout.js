@@ -1,6 +1,8 @@
 // Where nodes stand on the map: by distances in hearings, classical scaling for a start, then stress majorization. The same network always gives the same
 // picture, whoever originates. A Map from address to [x, y]; one hearing is about 84 long. `raw` is the same before a long thin network is folded.
-const GAP = 84, LEAST = 54 / GAP;
+import { isHeard } from './network.js';
+
+const GAP = 84, LEAST = 54 / GAP, ROUNDS = [8, 80], WORK = 500_000; // pairs of nodes that are looked at in all rounds
 
 // Parts that no hearing joins are laid out by themselves, the largest on top, the others in rows below it.
 export function mapLayout(net, before) {
@@ -19,9 +21,14 @@ export function mapLayout(net, before) {
 }
 
 function neighbours(net) {
-  const near = net.nodes.map(() => new Set());
-  for (const [a, b] of net.pairs) near[a].add(b), near[b].add(a);
-  return near.map((set) => [...set]);
+  const near = net.nodes.map(() => []);
+  for (let at = 0; at < net.pairBytes.length; at += 2) {
+    const a = net.pairBytes[at], b = net.pairBytes[at + 1];
+    if (a > b && isHeard(net, b, a)) continue;
+    near[a].push(b);
+    near[b].push(a);
+  }
+  return near;
 }
 
 function partsOf(near) {
@@ -53,12 +60,14 @@ function folded(at) {
 function partLayout(net, members, near, before) {
   const n = members.length, address = (k) => net.nodes[members[k]].address;
   if (n === 1) return [[address(0), [0, 0]]];
-  const place = new Map(members.map((i, k) => [i, k])), beside = members.map((i) => near[i].map((j) => place.get(j))), d = distances(beside);
+  const place = new Int32Array(net.nodes.length);
+  members.forEach((i, k) => (place[i] = k));
+  const beside = members.map((i) => near[i].map((j) => place[j])), d = distances(beside);
   const was = (k) => before?.get(address(k)), known = members.filter((_, k) => was(k)).length, warm = known > 1 && known >= n * 0.7;
   // Ordered by address, so that the order of lines does not turn the picture over.
   const [x, y] = warm ? resumed(beside, was) : scaled(d, n, members.map((_, k) => k).sort((a, b) => address(a) - address(b)));
-  const rounds = n > 120 ? (warm ? 5 : 8) : warm ? 40 : 80;
-  for (let round = 0; round < rounds; round++) majorize(d, n, x, y);
+  const inverse = d.map((far) => (far ? 1 / far : 0)), rounds = Math.max(ROUNDS[0], Math.min(ROUNDS[1], WORK / (n * net.nodes.length)));
+  for (let round = 0; round < (warm ? rounds / 2 : rounds); round++) majorize(inverse, x, y);
   if (!warm) turn(x, y);
   apart(x, y);
   return members.map((_, k) => [address(k), [x[k] * GAP, y[k] * GAP]]);
@@ -102,47 +111,48 @@ function apart(x, y) {
   }
 }
 
+// The two main axes of the squared distances, less their means, by power iteration on both at once.
 function scaled(d, n, order) {
-  const mean = new Float64Array(n), b = new Float64Array(n * n), axes = [];
-  let all = 0;
-  for (let i = 0; i < n; i++) for (let j = 0; j < n; j++) mean[i] += d[i * n + j] ** 2 / n;
-  for (let i = 0; i < n; i++) all += mean[i] / n;
-  for (let i = 0; i < n; i++) for (let j = 0; j < n; j++) b[i * n + j] = -0.5 * (d[i * n + j] ** 2 - mean[i] - mean[j] + all);
-  for (let k = 0; k < 2; k++) {
-    let v = new Float64Array(n), size = 1;
-    order.forEach((i, place) => (v[i] = Math.sin(place * 1.7 + k + 0.3)));
-    for (let round = 0; round < (n > 120 ? 14 : 40); round++) [v, size] = powered(b, v, axes);
-    axes.push(v.map((value) => value));
-    axes[k].size = Math.sqrt(size);
+  const b = d.map((far) => (far * far) / -2), x = new Float64Array(n), y = new Float64Array(n), mean = new Float64Array(n);
+  for (let at = 0; at < b.length; at++) mean[at % n] += b[at] / n;
+  const all = mean.reduce((sum, each) => sum + each / n, 0);
+  for (let i = 0, at = 0; i < n; i++) for (let j = 0; j < n; j++, at++) b[at] += all - mean[i] - mean[j];
+  order.forEach((i, place) => ((x[i] = Math.sin(place * 1.7 + 0.3)), (y[i] = Math.sin(place * place * 1.1 + 0.5))));
+  let sizes;
+  for (let round = 0; round < (n > 120 ? 14 : 40); round++) {
+    powered(b, x, y);
+    sizes = [shortened(x), shortened(y, x)];
   }
-  return axes.map((v) => v.map((value, i) => value * v.size + Math.sin(i * 12.9) * 1e-3));
+  return [x, y].map((axis, k) => axis.map((value, i) => value * Math.sqrt(sizes[k]) + Math.sin(i * 12.9) * 1e-3));
 }
 
-function powered(b, v, axes) {
-  const n = v.length, next = new Float64Array(n);
-  let size = 0;
-  for (let i = 0; i < n; i++) {
-    let sum = 0;
-    for (let j = 0, at = i * n; j < n; j++) sum += b[at + j] * v[j];
-    next[i] = sum;
+function powered(b, x, y) {
+  const n = x.length, u = x.slice(), v = y.slice();
+  for (let i = 0, at = 0; i < n; i++) {
+    let sx = 0, sy = 0;
+    for (let j = 0; j < n; j++, at++) (sx += b[at] * u[j]), (sy += b[at] * v[j]);
+    (x[i] = sx), (y[i] = sy);
   }
-  for (const u of axes) {
-    const dot = next.reduce((sum, value, i) => sum + value * u[i], 0);
-    for (let i = 0; i < n; i++) next[i] -= dot * u[i];
-  }
-  for (const value of next) size += value * value;
-  size = Math.sqrt(size) || 1;
-  return [next.map((value) => value / size), size];
 }
 
-function majorize(d, n, x, y) {
-  for (let i = 0; i < n; i++) {
+// Takes away what an axis has of another, and makes it 1 long; how long it was.
+function shortened(axis, other = null) {
+  const along = other ? axis.reduce((sum, value, i) => sum + value * other[i], 0) : 0;
+  for (let i = 0; other && i < axis.length; i++) axis[i] -= along * other[i];
+  const size = Math.sqrt(axis.reduce((sum, value) => sum + value * value, 0)) || 1;
+  for (let i = 0; i < axis.length; i++) axis[i] /= size;
+  return size;
+}
+
+// One round: each node goes to where the others want it, each by its distance. `inverse` has 1 / distance, and 0 for a node and itself.
+function majorize(inverse, x, y) {
+  const n = x.length;
+  for (let i = 0, at = 0; i < n; i++) {
     let sx = 0, sy = 0, sum = 0;
-    for (let j = 0, at = i * n; j < n; j++) {
-      if (i === j) continue;
-      const want = d[at + j], weight = 1 / (want * want), dx = x[i] - x[j], dy = y[i] - y[j], part = want / (Math.sqrt(dx * dx + dy * dy) || 1e-6);
-      sx += weight * (x[j] + dx * part);
-      sy += weight * (y[j] + dy * part);
+    for (let j = 0; j < n; j++, at++) {
+      const near = inverse[at], weight = near * near, dx = x[i] - x[j], dy = y[i] - y[j], push = near / (Math.sqrt(dx * dx + dy * dy) || 1e-6);
+      sx += weight * x[j] + dx * push;
+      sy += weight * y[j] + dy * push;
       sum += weight;
     }
     x[i] = sx / sum;

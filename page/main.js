@@ -2,7 +2,7 @@
 import { showCommand, showTime, startAir } from './air.js';
 import { answersOf, showAnswers, startAnswers } from './answers.js';
 import { startBox } from './box.js';
-import { $, html, radios } from './dom.js';
+import { $, offer, radios } from './dom.js';
 import { setHop, setOriginator } from './edits.js';
 import { startEditor } from './editor.js';
 import { EXAMPLE } from './network.js';
@@ -11,7 +11,7 @@ import { draw, refit, removeSelected, select, startDrawing } from './picture.js'
 import { change, redo, refresh, state, take, undo, whenNetwork } from './state.js';
 import { startJobs, startTables } from './tables.js';
 import { bytesOfBase64, openLibrary } from './wasm.js';
-import { counted, named } from './words.js';
+import { counted } from './words.js';
 
 const PARTS = ['network', 'pdu', 'box'], THEMES = ['system', 'light', 'dark'];
 
@@ -31,12 +31,9 @@ function update() {
 }
 
 function showControls() {
-  const { net } = state, choice = $('originator'), sorted = [...net.nodes].sort((a, b) => a.address - b.address), wanted = sorted.map(named).join('|');
-  if (choice.dataset.made !== wanted) {
-    choice.replaceChildren(...sorted.map((node) => html('option', { value: node.address }, named(node))));
-    choice.dataset.made = wanted;
-  }
-  choice.value = net.nodes[0].address;
+  const { net } = state;
+  offer($('originator'), [...net.nodes].sort((a, b) => a.address - b.address));
+  $('originator').value = net.nodes[0].address;
   $('hop').value = net.hop;
   $('hop-value').textContent = net.hop;
   $('hop-words').textContent = net.hop === 7 ? 'never lowered: no limit' : `up to ${counted(net.hop + 1, 'hearing')}`;

@@ -19,6 +19,7 @@ const NODES = 255, HEARINGS = 16384, TEXT = 65535;
 const OTHER = /[^0-9\t\v\f\r :,-]/; // what stands in no line
 const MARKED = /^[\s:,]*\d+(?:[\s:,]*-(?![\d-]))+[\s:,\d]*$/; // a node's line with its mark
 const TAKEN = 'only numbers, spaces, “:”, “,” and “-” stand here; comments begin with “#”';
+const MARK = '“-” stands alone after a node’s own address, and says that it does not repeat';
 const PLACES = /^\s*#\s*places\s/, PLACE = /(\d+)@(-?\d+),(-?\d+)/g;
 export const isPlaces = (line) => PLACES.test(line);
 export const halves = (line) => {
@@ -26,7 +27,8 @@ export const halves = (line) => {
   return at < 0 ? [line, ''] : [line.slice(0, at), line.slice(at)];
 };
 export const numbersIn = (body) => body.match(/\d+/g) ?? [];
-export const keyOf = (sender, hearer) => sender * 256 + hearer;
+const keyOf = (sender, hearer) => sender * 256 + hearer;
+export const isHeard = (net, sender, hearer) => net.seen[keyOf(sender, hearer)] === 1;
 
 class Fault extends Error {
   constructor(line, words) {
@@ -38,11 +40,11 @@ const need = (holds, line, words) => {
   if (!holds) throw new Fault(line, words);
 };
 
-// { hop, hopLine, nodes: [{ address, line, name, repeats }], pairs: [[sender, hearer]], place: Map, seen: Set, alone: [address], at: Map, pairBytes, marks },
+// { hop, hopLine, nodes: [{ address, line, name, repeats }], pairs: [[sender, hearer]], place: Map, seen, alone: [address], at: Map, pairBytes, marks },
 // or { fault: { line, words } }. Lines count from 0.
 export function parseNetwork(text) {
   const lines = text.split('\n');
-  const net = { hop: null, hopLine: -1, nodes: [], pairs: [], place: new Map(), seen: new Set(), alone: [], at: new Map(), said: 0 };
+  const net = { hop: null, hopLine: -1, nodes: [], pairs: [], place: new Map(), seen: new Uint8Array(256 * 256), alone: [], at: new Map(), said: 0 };
   try {
     need(new TextEncoder().encode(text).length <= TEXT, lines.length - 1, 'the text has more than 65,535 bytes');
     lines.forEach((line, at) => (isPlaces(line) ? takePlaces(net, line) : takeLine(net, line, at)));
@@ -53,9 +55,18 @@ export function parseNetwork(text) {
     return { fault: { line: fault.line, words: fault.message } };
   }
   net.alone = net.nodes.filter((node) => node.line < 0).map((node) => node.address);
-  net.pairBytes = Uint8Array.from(net.pairs.flat());
+  net.pairBytes = bytesOf(net.pairs);
   net.marks = Uint8Array.from(net.nodes, (node) => (node.repeats ? 0 : 1));
   return net;
+}
+
+function bytesOf(pairs) {
+  const bytes = new Uint8Array(2 * pairs.length);
+  pairs.forEach(([sender, hearer], i) => {
+    bytes[2 * i] = sender;
+    bytes[2 * i + 1] = hearer;
+  });
+  return bytes;
 }
 
 function takePlaces(net, line) {
@@ -63,17 +74,18 @@ function takePlaces(net, line) {
 }
 
 function placeOf(net, address) {
-  if (!net.place.has(address)) {
-    net.place.set(address, net.nodes.length);
+  const place = net.place.get(address) ?? net.nodes.length;
+  if (place === net.nodes.length) {
+    net.place.set(address, place);
     net.nodes.push({ address, line: -1, name: '', repeats: true });
   }
-  return net.place.get(address);
+  return place;
 }
 
 function takeLine(net, line, at) {
   const [body, comment] = halves(line), other = body.match(OTHER), words = numbersIn(body);
   need(!other, at, other && `character ${other.index + 1}, “${other[0]}”: ${TAKEN}`);
-  need(!body.includes('-') || (net.hop !== null && MARKED.test(body)), at, '“-” stands alone after a node’s own address, and says that it does not repeat');
+  need(!body.includes('-') || (net.hop !== null && MARKED.test(body)), at, MARK);
   if (!words.length) return;
   if (net.hop === null) return takeHop(net, words, at);
   const large = words.find((word) => Number(word) > 65535);
@@ -82,8 +94,8 @@ function takeLine(net, line, at) {
   if (node.line < 0) Object.assign(node, { line: at, name: comment.slice(1).trim() });
   if (body.includes('-')) node.repeats = false;
   for (const hearer of hearers) {
-    if (hearer === sender || net.seen.has(keyOf(sender, hearer))) continue;
-    net.seen.add(keyOf(sender, hearer));
+    if (hearer === sender || isHeard(net, sender, hearer)) continue;
+    net.seen[keyOf(sender, hearer)] = 1;
     net.pairs.push([sender, hearer]);
   }
   net.said += hearers.length;

@@ -4,7 +4,7 @@ import { $, download, html } from './dom.js';
 import { Drawing } from './draw.js';
 import { addHearing, addNode, removeHearing, removeNode, setAddress, setName, setOriginator, setPlaces, setRepeats } from './edits.js';
 import { mapLayout } from './layout.js';
-import { keyOf } from './network.js';
+import { isHeard } from './network.js';
 import { NO_CHAIN, isDelivered } from './plan.js';
 import { ringLayout } from './rings.js';
 import { change, state } from './state.js';
@@ -55,7 +55,7 @@ export function startDrawing(radios) {
 }
 
 function link(a, b) {
-  const { net, text } = state, hears = net.seen.has(keyOf(net.place.get(a), net.place.get(b)));
+  const { net, text } = state, hears = isHeard(net, net.place.get(a), net.place.get(b));
   state.selected = { pair: [a, b] };
   change(hears ? addHearing(text, b, a) : addHearing(text, a, b));
   draw();
@@ -79,7 +79,7 @@ function add(point) {
 function isSame(net, old) {
   if (!old || net.nodes.length !== old.nodes.length || net.pairs.length !== old.pairs.length) return false;
   const places = net.nodes.map((node) => old.place.get(node.address));
-  return net.nodes.every((node, i) => old.nodes[places[i]]?.repeats === node.repeats) && net.pairs.every(([a, b]) => old.seen.has(keyOf(places[a], places[b])));
+  return net.nodes.every((node, i) => old.nodes[places[i]]?.repeats === node.repeats) && net.pairs.every(([a, b]) => isHeard(old, places[a], places[b]));
 }
 function places() {
   const { net, answers, layout } = state, isRings = layout === 'rings';
@@ -109,20 +109,21 @@ function nodesDrawn() {
   });
 }
 function linksDrawn() {
-  const { net, answers } = state, links = [];
+  const { net, answers } = state, links = [], steps = [];
   const isStep = (a, b) => answers.lengths[b] === answers.lengths[a] + 1 && isDelivered(net.hop, answers.lengths[b]) && (net.nodes[a].repeats || a === 0);
   for (const [a, b] of net.pairs) {
-    const both = net.seen.has(keyOf(b, a)), [p, q] = [net.nodes[a].address, net.nodes[b].address];
+    const both = isHeard(net, b, a);
     if (both && a > b) continue;
-    const title = both ? `${p} and ${q} hear each other` : `${q} hears ${p}; ${p} does not hear ${q}`;
-    links.push({ a: p, b: q, both, step: isStep(a, b) || (both && isStep(b, a)), title });
+    const step = isStep(a, b) || (both && isStep(b, a));
+    (step ? steps : links).push({ a: net.nodes[a].address, b: net.nodes[b].address, both, step });
   }
-  return links.sort((x, y) => x.step - y.step);
+  return [...links, ...steps];
 }
 
 export function draw() {
   const { net, selected, marked, failures } = state, { at, rings } = places(), nodes = nodesDrawn(), failure = failures.find((one) => one.address === marked);
-  glide({ nodes, links: linksDrawn(), rings, lastRing: net.hop < 7 ? net.hop + 1 : 0, selected, marked, cut: failure ? new Set([...failure.cut, ...failure.beyond]) : null }, at);
+  const cut = failure ? new Set([...failure.cut, ...failure.beyond]) : null, lastRing = net.hop < 7 ? net.hop + 1 : 0;
+  glide({ nodes, links: linksDrawn(), rings, lastRing, selected, marked, cut }, at);
   const isLost = nodes.some((node) => node.kind === 'missed' || node.kind === 'unlinked'), isBase = nodes.some((node) => !node.repeats);
   const legend = [
     ['o', 'originator'], ['d', 'hears it, after n hearings'], isLost && ['m', 'does not'], isBase && ['b', 'does not repeat'], ['s', 'shortest chain'],
@@ -169,7 +170,7 @@ function inspect() {
 }
 
 function inspectPair(box, a, b) {
-  const { net } = state, hears = (p, q) => net.seen.has(keyOf(net.place.get(p), net.place.get(q)));
+  const { net } = state, hears = (p, q) => isHeard(net, net.place.get(p), net.place.get(q));
   if (!net.place.has(a) || !net.place.has(b) || !(hears(a, b) || hears(b, a))) return (state.selected = null), inspect();
   const one = (p, q) => checkbox(hears(p, q), `${q} hears ${p}`, (isOn) => change((isOn ? addHearing : removeHearing)(state.text, p, q)));
   box.replaceChildren(html('strong', {}, `${a} – ${b}`), one(a, b), one(b, a), button('Remove', removeSelected, 'danger'));

@@ -1,6 +1,6 @@
 // What takes longer than one frame: which failure cuts whom off, every originator, and a long count of the chosen report.
 import { QUICK, given, heardWords, showFigures, showHops, showNodes } from './answers.js';
-import { $, cell, copy, download, html, press } from './dom.js';
+import { $, cell, copy, download, fill, html, press } from './dom.js';
 import { setOriginator } from './edits.js';
 import { NO_HOP_LIMIT } from './plan.js';
 import { change, state } from './state.js';
@@ -97,13 +97,16 @@ function showFailures(failures) {
   });
   const groups = groupsOf(state.failures), rows = groups.slice(0, SHOWN).map(failureRow);
   if (groups.length > SHOWN) rows.push(html('p', { class: 'dim' }, `and ${counted(groups.length - SHOWN, 'more line')}`));
-  $('failures').replaceChildren(...(rows.length ? rows : [html('p', { class: 'dim' }, 'No single node’s failure cuts off another, or puts it out of reach at this hop limit.')]));
+  if (!rows.length) rows.push(html('p', { class: 'dim' }, 'No single node’s failure cuts off another, or puts it out of reach at this hop limit.'));
+  $('failures').replaceChildren(...rows);
 }
 
 function failureRow(group) {
   const [{ cut, beyond }] = group, mark = (address) => () => state.marked !== address && ((state.marked = address), redraw());
   const who = ({ address, name }) => html('button', { class: 'who', type: 'button', title: name, onfocus: mark(address), onblur: mark(null) }, String(address));
-  const said = [cut.length && `no chain leads to ${listed(cut, NAMED)}`, beyond.length && `out of reach at this hop limit: ${listed(beyond, NAMED)}`].filter(Boolean);
+  const said = [];
+  if (cut.length) said.push(`no chain leads to ${listed(cut, NAMED)}`);
+  if (beyond.length) said.push(`out of reach at this hop limit: ${listed(beyond, NAMED)}`);
   const names = group.flatMap((one, i) => (i ? [' or ', who(one)] : [who(one)]));
   return html('p', { onpointerenter: mark(group[0].address), onpointerleave: mark(null) }, 'Without ', ...names, `: ${said.join('; ')}.`);
 }
@@ -131,13 +134,13 @@ function showLines() {
   const head = ([key, title, first, look]) => html('th', { scope: 'col', class: look, 'aria-sort': key === by ? (way > 0 ? 'ascending' : 'descending') : null },
     html('button', { type: 'button', 'data-sort': key, onclick: sortBy(key, first) }, title));
   $('everyone').tHead.rows[0].replaceChildren(...COLUMNS.map(head));
-  $('everyone').tBodies[0].replaceChildren(...[...lines].sort(compared).map((line) => originatorRow(line, most)));
+  fill($('everyone').tBodies[0], [...lines].sort(compared), (line) => originatorRow(line, most));
 }
 function originatorRow(line, most) {
   const n = state.net.nodes.length - 1, isOn = line.address === state.net.nodes[0].address, isNone = line.least === NO_HOP_LIMIT;
   const sent = html('td', { class: 'n' }, line.sent === null ? `≥ ${grouped(line.least_sent)}` : grouped(line.sent));
   if (line.sent === most && lines.some((other) => other.sent !== most)) sent.append(html('span', { class: 'dim' }, ' most'));
-  const acts = { tabindex: 0, onkeydown: press, onclick: () => change(setOriginator(state.text, line.address)) };
+  const acts = { tabindex: -1, onkeydown: press, onclick: () => change(setOriginator(state.text, line.address)) };
   return html('tr', { class: isOn ? 'on' : null, 'aria-current': isOn ? 'true' : null, 'data-origin': line.address, ...acts }, cell(String(line.address)),
     cell(line.name, 'name', line.name), cell(heardWords(line.hear, n), line.hear < n ? 'n bad' : 'n'),
     cell(isNone ? 'none' : String(line.least), isNone ? 'n bad' : 'n'), sent);

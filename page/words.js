@@ -1,5 +1,6 @@
 // Numbers and lists in words, as they are shown everywhere on the page. MEANINGS is written by the build from docs/NUMBERS.md.
-export const grouped = (n) => n.toLocaleString('en');
+const digits = new Intl.NumberFormat('en');
+export const grouped = (n) => (n < 1000 ? String(n) : digits.format(n));
 export const counted = (n, what) => `${grouped(n)} ${what}${Number(n) === 1 ? '' : 's'}`;
 export const listed = (all, most = 8) => all.slice(0, most).join(', ') + (all.length > most ? ` and ${grouped(all.length - most)} more` : '');
 export const meaningOf = (number) => MEANINGS[number] ?? 'no such number';

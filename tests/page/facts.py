@@ -13,7 +13,7 @@ const drawn = (node) => [node.dataset.node, ['originator', 'delivered', 'missed'
   node.querySelector('.under').textContent, node.querySelector('circle, rect').tagName, node.getAttribute('aria-label')];
 const linked = (grip) => [...grip.dataset.pair.split(' ').map(Number).sort((a, b) => a - b), grip.parentNode.querySelector('.link').classList.contains('step')];
 const look = () => {
-  if (document.documentElement.dataset.busy !== '') return setTimeout(look, 2);
+  if (document.documentElement.dataset.busy !== '' || document.documentElement.dataset.filling !== '') return setTimeout(look, 2);
   const isCommand = !$('command').hidden;
   done({ headline: texts('headline'), figures: [...document.querySelectorAll('#figures b')].map((b) => b.title || b.textContent),
     nodes: cells($('nodes-table').tBodies[0].rows), hops: cells($('hops-table').tBodies[0].rows), everyone: cells($('everyone').tBodies[0].rows),

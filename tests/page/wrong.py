@@ -27,7 +27,7 @@ WRONG = (
     ('a hop too many', 'plan', 'leastOf[length] <= hop', 'leastOf[length] <= hop + 1', some_networks),
     ('no node fails', 'plan', 'net.marks, from, failed, lengths', 'net.marks, from, NO_FAILURE, lengths', some_networks),
     ('every node repeats', 'network', 'node.repeats ? 0 : 1', '0', some_networks),
-    ('the last hearing is lost', 'network', 'net.pairs.flat()', 'net.pairs.slice(1).flat()', some_networks),
+    ('a hearing is lost', 'network', 'bytesOf(net.pairs)', 'bytesOf(net.pairs.slice(1))', some_networks),
     ('the destination repeats', 'air', 'own[to] = 1', 'own[to] = own[to]', some_networks),
     ('two bytes short', 'answers', 'networkBytes(all, 0, net.hop, size)', 'networkBytes(all, 0, net.hop, size - 2)', some_networks),
     ('another field', 'fields', "add('source', h.source", "add('source', h.destination", some_pdus),
