@@ -36,8 +36,9 @@ export function showAnswers() {
 function showHeadline() {
   const { net, answers } = state, all = net.nodes.length - 1, { hear } = answers.hops[net.hop], from = net.nodes[0].address;
   const missing = net.nodes.filter((_, i) => i > 0 && !isDelivered(net.hop, answers.lengths[i])).map((node) => node.address);
-  const who = hear === all ? `All ${grouped(all)} others` : `${grouped(hear)} of ${grouped(all)}`;
-  const first = all ? `${who} hear a report of ${from}.` : 'There is no other node.';
+  const every = all === 1 ? 'The other node hears' : `All ${grouped(all)} others hear`;
+  const some = `${grouped(hear)} of ${grouped(all)} ${hear === 1 ? 'hears' : 'hear'}`;
+  const first = all ? `${hear === all ? every : some} a report from ${from}.` : 'There is no other node.';
   const alone = net.alone.length && `Without a line of ${net.alone.length === 1 ? 'its' : 'their'} own (a wrong digit?): ${listed(net.alone)}.`;
   $('headline').replaceChildren(html('p', {}, first), missing.length ? html('p', { class: 'bad' }, `Not reached: ${listed(missing)}.`) : '',
     all ? html('p', { class: 'dim' }, leastWords()) : '', alone ? html('p', { class: 'dim' }, alone) : '');
@@ -54,12 +55,12 @@ export function showFigures() {
   const badge = () => html('span', { class: 'badge proved' }, 'proved');
   const figure = (value, title, words, ...more) => html('div', { class: 'figure' }, html('b', { class: value.length > 9 ? 'long' : null, title }, value),
     html('span', {}, words), badge(), ...more);
-  const going = () => [html('span', { class: 'dim', role: 'status' }, 'counting on … '), html('button', { type: 'button', id: 'stop-count' }, 'Stop')];
+  const going = () => [html('span', { class: 'dim', role: 'status' }, 'still counting … '), html('button', { type: 'button', id: 'stop-count' }, 'Stop')];
   const note = answers.counting ? going() : answers.sent.enough ? [html('span', { class: 'dim' }, 'the count was stopped there')] : [];
   const what = `${one ? 'transmission' : 'transmissions'} of one report${answers.sent.enough ? '' : ', at most,'} on this network`;
   $('figures').replaceChildren(
     figure(sentWords(answers), null, what, ...note),
-    figure(worst.short, worst.whole, `in the worst network of ${counted(answers.others, 'other repeater')}`));
+    figure(worst.short, worst.whole, `in the worst network with ${counted(answers.others, 'other repeater')}`));
   if (isHeld) $('stop-count')?.focus({ preventScroll: true });
 }
 
@@ -107,10 +108,10 @@ export function answersText() {
     return `${named(net.nodes[i])}${net.nodes[i].repeats ? '' : ' (does not repeat)'}: ${words}${sends}`;
   };
   return [
-    `Report of ${named(net.nodes[0])}, hop limit ${net.hop}, ${counted(answers.size, 'byte')}`, ...linesOf('headline'),
+    `Report from ${named(net.nodes[0])}, hop limit ${net.hop}, ${counted(answers.size, 'byte')}`, ...linesOf('headline'),
     `Transmissions on this network${answers.sent.enough ? '' : ', at most'}: ${sentWords(answers)}`,
     ...(answers.bytes ? [`Bytes on this network, at most: ${grouped(answers.bytes.value)}`] : []),
-    `Transmissions in the worst network of ${counted(answers.others, 'other repeater')}: ${shortened(answers.worst).whole}`, ...byChain().map(node),
+    `Transmissions in the worst network with ${counted(answers.others, 'other repeater')}: ${shortened(answers.worst).whole}`, ...byChain().map(node),
     ...linesOf('condition-words')].map((line) => `${line}\n`).join('');
 }
 // The columns are those of ./reach --csv, and the names.

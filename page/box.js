@@ -39,7 +39,7 @@ export function startBox() {
 
 function listFields([kind, name]) {
   const choice = html('select', { id: kind, 'aria-label': `${name} list in use` }, ...CHOICES.map((words, value) => html('option', { value }, words)));
-  const field = (which) => html('input', { type: 'text', id: `${kind}_${which}`, spellcheck: 'false', autocomplete: 'off', placeholder: '1000-1999, 3000',
+  const field = (which) => html('input', { type: 'text', id: `${kind}_${which}`, spellcheck: 'false', autocomplete: 'off', placeholder: 'e.g. 1000-1999, 3000',
     'aria-label': `${name}, ${which} list: ranges of addresses` });
   const ranges = (which) => html('label', {}, `${which} `, field(which));
   return html('fieldset', {}, html('legend', {}, name), choice, ...ORDER.map(ranges));

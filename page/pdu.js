@@ -40,7 +40,7 @@ function showPdu() {
     bytes = bytesOf($('hex').value);
   } catch (why) {
     if (!(why instanceof NotHex)) throw why;
-    $('hex-fault').textContent = `${why.message[0].toUpperCase()}${why.message.slice(1)}. What is shown is of the last good bytes.`;
+    $('hex-fault').textContent = `${why.message[0].toUpperCase()}${why.message.slice(1)}. The fields are those of the last good bytes.`;
     return $('hex').setAttribute('aria-invalid', true);
   }
   $('hex-fault').textContent = '';

@@ -126,7 +126,7 @@ export function draw() {
   glide({ nodes, links: linksDrawn(), rings, lastRing, selected, marked, cut }, at);
   const isLost = nodes.some((node) => node.kind === 'missed' || node.kind === 'unlinked'), isBase = nodes.some((node) => !node.repeats);
   const legend = [
-    ['o', 'originator'], ['d', 'hears it, after n hearings'], isLost && ['m', 'does not'], isBase && ['b', 'does not repeat'], ['s', 'shortest chain'],
+    ['o', 'originator'], ['d', 'hears it, after n hearings'], isLost && ['m', 'does not hear it'], isBase && ['b', 'does not repeat'], ['s', 'shortest chain'],
   ];
   $('legend').replaceChildren(...legend.filter(Boolean).map(([look, words]) => html('span', {}, html('i', { class: look }), words)));
   inspect();
@@ -157,7 +157,8 @@ const checkbox = (checked, words, set) => {
   const box = html('input', { type: 'checkbox', checked, onchange: (event) => set(event.target.checked) });
   return html('label', {}, box, words);
 };
-const HINT = 'Choose a node or a line to change it. “Link”, or Shift, and drag from a node to one that hears it. Double-click: a new node.';
+const HINT = 'Click a node or a line to change it. To add a hearing, choose “Link” or hold Shift, and drag from a node to one that hears it. '
+  + 'Double-click to add a node.';
 function inspect() {
   const { net, selected } = state, box = $('inspector');
   if (!selected) return box.replaceChildren(html('span', { class: 'dim' }, HINT));

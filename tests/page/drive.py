@@ -11,7 +11,7 @@ import urllib.error
 import urllib.request
 
 ELEMENT = 'element-6066-11e4-a52e-4f735466cecf'
-CONTROL, SHIFT, ENTER, DELETE, RIGHT, ESCAPE, TAB = '\ue009', '\ue008', '\ue007', '\ue017', '\ue014', '\ue00c', '\ue004'
+CONTROL, SHIFT, ENTER, DELETE, RIGHT, DOWN, ESCAPE = '\ue009', '\ue008', '\ue007', '\ue017', '\ue014', '\ue015', '\ue00c'
 BROWSERS, DRIVER = ('chromium', 'chromium-browser', 'google-chrome'), 'chromedriver'
 PACKAGES = {'chromium': BROWSERS, 'chromium-driver': (DRIVER,)}  # of Debian, each with the programs of which it has one
 ARGUMENTS = ('--headless=new', '--no-sandbox', '--disable-gpu', '--disable-dev-shm-usage', '--hide-scrollbars', '--force-device-scale-factor=1')

@@ -4,7 +4,7 @@ import pathlib
 import re
 import time
 
-from drive import CONTROL, DELETE, ESCAPE, RIGHT, SHIFT
+from drive import CONTROL, DELETE, DOWN, ENTER, ESCAPE, RIGHT, SHIFT
 import facts
 from trying import TOP
 
@@ -26,13 +26,21 @@ WRONG = (('2\n12x: 4', 2, 'character 3, “x”'), ('8\n1: 2', 1, '0 to 7'), (''
          ('2\n70000: 1', 2, 'at most 65,535'), ('2\n1: 2 - 3', 2, MARK), ('2\n1 -2', 2, MARK), ('2\n- 1', 2, MARK), ('2-\n1', 1, MARK), ('2\n1 --: 2', 2, MARK),
          ('2\n1:\u00a02', 2, 'character 3'), ('0\n1:' + ' 2' * 16385, 2, 'more than 16,384 hearings'),
          ('1\n' + ' '.join(map(str, range(256))), 2, 'more than 255 nodes'), ('1\n1: 2\n#' + 'x' * 65535, 3, 'more than 65,535 bytes'))
+SORTED = """const head = document.querySelector(`[data-sort=${arguments[0]}]`).parentNode, rows = [...document.querySelectorAll('#everyone tbody tr')];
+    return [rows.map((row) => Number(row.cells[head.cellIndex].textContent)), head.getAttribute('aria-sort')]"""
+NUMBER = """const [id, value, shown] = arguments, field = document.getElementById(id); field.value = value; field.dispatchEvent(new Event('input'));
+    return [field.matches(':invalid') || field.value === '', document.getElementById(shown).textContent]"""
+NUMBERS = (('size', '3', '30', 'air'), ('size', '', '20', 'air'), ('rate', '0', '4800', 'air'), ('slot', '-1', '0.5', 'air'), ('tries', '300', '3', 'command'))
+FOCUSED = """const rows = [...document.querySelectorAll(`${arguments[0]} tbody tr`)];
+    return [document.activeElement.cells?.[0].textContent, rows.filter((row) => row.tabIndex === 0).length]"""
 DROP = """const d = new DataTransfer(); d.items.add(new File([arguments[0]], 'n.txt'));
     dispatchEvent(new DragEvent('drop', { dataTransfer: d, cancelable: true }))"""
 HEADLINE = "return document.querySelector('#headline p').textContent === '{}'"
 TABLES = (('csv-nodes', 'nodes.csv', 'node,name,state,chain,path count,repeats,times sent,bytes sent,cuts off,puts out of reach', '#nodes-table tbody tr'),
           ('csv-originators', 'originators.csv', 'originator,name,hear it,others', '#everyone tbody tr'))
-OPENED = ((b'\xef\xbb\xbf1\r\n7: 8\r\n8: 9\r\n', 'All 2 others hear a report of 7.'),
-          ('3\n12: 13 # Übergang\n'.encode('utf-16'), 'All 1 others hear a report of 12.'), (b'0\r5: 6 # \xdcbergang\r6: 7', '1 of 2 hear a report of 5.'))
+OPENED = ((b'\xef\xbb\xbf1\r\n7: 8\r\n8: 9\r\n', 'All 2 others hear a report from 7.'),
+          ('3\n12: 13 # Übergang\n'.encode('utf-16'), 'The other node hears a report from 12.'),
+          (b'0\r5: 6 # \xdcbergang\r6: 7', '1 of 2 hears a report from 5.'))
 
 
 class Hands:
@@ -52,7 +60,7 @@ class Hands:
         return self.b.run("return document.querySelector('#figures b').textContent")
 
     def typing(self):
-        self.same('the example', (self.headline(), self.sent()), ('5 of 7 hear a report of 1200.', '7'))
+        self.same('the example', (self.headline(), self.sent()), ('5 of 7 hear a report from 1200.', '7'))
         self.same('it is the network of ./reach', *(re.findall(r'\d+', re.sub('#.*', '', text)) for text in (self.text(), EXAMPLE.read_text())))
         copied = self.b.wait(facts.COPIED, 'copy-answers')
         self.same('a base station in the copied answers', [line for line in copied.split('\n') if line.startswith('3000 ')], [
@@ -106,7 +114,7 @@ class Hands:
 
     def keyboard(self):
         self.b.type('#hop', RIGHT + RIGHT)
-        self.same('the slider by keys', self.headline(), 'All 7 others hear a report of 1200.')
+        self.same('the slider by keys', self.headline(), 'All 7 others hear a report from 1200.')
         self.same('and in the text', self.text().split('\n')[2], '4'.ljust(22) + '# hop limit')
         self.b.run("document.querySelector('[data-node=\"2003\"]').focus()")
         self.b.keys(RIGHT)
@@ -115,8 +123,13 @@ class Hands:
         self.b.keys(ESCAPE)
         self.same('Escape lets go', self.b.run("return document.querySelectorAll('#inspector input').length"), 0)
         self.b.run("document.querySelector('[data-origin=\"3001\"]').focus()")
-        self.b.keys('\ue007')
-        self.same('another originator, from the table, by Enter', self.headline().endswith('of 3001.'), True)
+        self.b.keys(ENTER)
+        self.same('another originator, from the table, by Enter', self.headline().endswith('from 3001.'), True)
+        self.b.wait(facts.NETWORK, self.text())
+        self.same('its row keeps the focus, the tab key goes to it', self.b.run(FOCUSED, '#everyone'), ['3001', 1])
+        self.b.run("document.querySelector('[data-hop=\"3\"]').focus()")
+        self.b.keys(DOWN)
+        self.same('arrow keys go from row to row', self.b.run(FOCUSED, '#hops-table'), ['4', 1])
         self.b.run("document.querySelector('[data-hop=\"0\"]').click()")
         self.same('a hop limit from the table', self.b.run("return document.getElementById('hop').value"), '0')
         self.b.run("document.getElementById('tab-network').focus()")
@@ -130,8 +143,7 @@ class Hands:
         self.b.wait(facts.NETWORK, self.text())
         for key, order in (('address', 1), ('address', -1), ('least', -1)):
             self.b.run("document.querySelector(`[data-sort=${arguments[0]}]`).click()", key)
-            column, sorted_as = self.b.run("""const head = document.querySelector(`[data-sort=${arguments[0]}]`).parentNode;
-                return [[...document.querySelectorAll('#everyone tbody tr')].map((row) => Number(row.cells[head.cellIndex].textContent)), head.getAttribute('aria-sort')]""", key)
+            column, sorted_as = self.b.run(SORTED, key)
             self.same(f'sorted by {key}', (column, sorted_as), (sorted(column, reverse=order < 0), 'ascending' if order > 0 else 'descending'))
         self.b.run("document.querySelector('[data-sort=sent]').click()")
         lost = self.b.run("""const line = document.querySelector('#failures p'); line.dispatchEvent(new PointerEvent('pointerenter'));
@@ -152,9 +164,8 @@ class Hands:
 
     def numbers(self):
         """A number that is none, or out of its range, is marked, and the last good one stays."""
-        for field, bad, good, shown in (('size', '3', '30', 'air'), ('size', '', '20', 'air'), ('rate', '0', '4800', 'air'), ('slot', '-1', '0.5', 'air'), ('tries', '300', '3', 'command')):
-            found = [self.b.run("""const [id, value, shown] = arguments, field = document.getElementById(id); field.value = value; field.dispatchEvent(new Event('input'));
-                return [field.matches(':invalid') || field.value === '', document.querySelector(`#${shown}`).textContent]""", field, value, shown) for value in (good, bad, good)]
+        for field, bad, good, shown in NUMBERS:
+            found = [self.b.run(NUMBER, field, value, shown) for value in (good, bad, good)]
             self.same(f'{field} {bad!r}', (found[0][0], found[1][0], found[1][1] == found[0][1] == found[2][1]), (False, True, True))
 
     def marks(self):

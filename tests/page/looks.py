@@ -8,7 +8,8 @@ PARTS = ('network', 'pdu', 'box')
 PAIRS = (('ink', 'panel'), ('ink', 'page'), ('dim', 'panel'), ('dim', 'page'), ('dim', 'soft'), ('accent', 'panel'), ('accent', 'accent-soft'),
          ('warn', 'panel'), ('on-reached', 'reached'),
          *(('ink', f'f-{field}') for field in ('service', 'port', 'length', 'source', 'destination', 'id', 'count', 'path', 'payload')))
-LEAST = 4.5  # WCAG 2.1, AA, for text
+LINES = tuple((line, 'panel') for line in ('link', 'step', 'reached', 'warn', 'focus', 'accent'))
+LEAST = {PAIRS: 4.5, LINES: 3}  # WCAG 2.1, AA: for text, and for lines and shapes
 NAMELESS = """
 const seen = (e) => e.offsetParent !== null || e.getClientRects().length;
 const labelled = (e) => (e.getAttribute('aria-labelledby') ?? '').split(' ').some((id) => document.getElementById(id)?.textContent);
@@ -46,9 +47,10 @@ def seen(tally, b, page, folder):
                 tally.same(f'{what}: nothing is wider than its room', b.run(WIDER), False)
                 tally.same(f'{what}: every control has a name', b.run(NAMELESS), [])
                 b.screenshot(folder / f'{part}-{width}-{"dark" if dark else "light"}.png')
-        for ink, ground in PAIRS:
-            colours = b.run("return arguments[0].map((name) => getComputedStyle(document.documentElement).getPropertyValue(`--${name}`))", [ink, ground])
-            tally.same(f'{ink} on {ground}, {"dark" if dark else "light"}: contrast', contrast(*colours) >= LEAST, True)
+        for pairs, least in LEAST.items():
+            for pair in pairs:
+                colours = b.run("return arguments[0].map((name) => getComputedStyle(document.documentElement).getPropertyValue(`--${name}`))", pair)
+                tally.same(f'{" on ".join(pair)}, {"dark" if dark else "light"}: contrast', contrast(*colours) >= least, True)
     b.look(1440, 900, False)
     b.run("document.getElementById('tab-network').click()")
     chosen = [b.run("document.getElementById('theme').click(); return document.documentElement.dataset.theme") for _ in range(3)]

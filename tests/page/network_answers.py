@@ -34,8 +34,9 @@ def heard(count, others):
 
 def headline(net):
     origin, reached = net.nodes[0][0], net.hops[net.hop][0]
-    who = f'All {net.others:,} others' if reached == net.others else f'{reached:,} of {net.others:,}'
-    yield f'{who} hear a report of {origin}.' if net.others else 'There is no other node.'
+    every = 'The other node hears' if net.others == 1 else f'All {net.others:,} others hear'
+    who = every if reached == net.others else f'{reached:,} of {net.others:,} {"hears" if reached == 1 else "hear"}'
+    yield f'{who} a report from {origin}.' if net.others else 'There is no other node.'
     if missing := [node for node, _, is_delivered, *_ in net.nodes[1:] if not is_delivered]:
         yield f'Not reached: {listed(missing, LISTED)}.'
     unlinked = sum(length is None for _, length, *_ in net.nodes)

@@ -62,7 +62,7 @@ def untwisted(tally, b):
 def deep(tally, b):
     """The deepest count, along a chain of 255 nodes; its answer is known."""
     found = b.wait(facts.NETWORK, chain(7))
-    tally.same('a chain of 255 nodes', (found['figures'][0], found['headline'][0]), ('255', 'All 254 others hear a report of 2.'))
+    tally.same('a chain of 255 nodes', (found['figures'][0], found['headline'][0]), ('255', 'All 254 others hear a report from 2.'))
 
 
 def long_count(tally, b):
