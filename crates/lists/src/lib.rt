@@ -62,6 +62,9 @@ pub fn fault(block: &[u16]) -> ListFault
         }
         let list = k as u8;
         let given = octets::word_value(block[k]);
+        if given == 0 {
+            continue 'lists;
+        }
         let length = lesser(given, size - start);
         if length > VALUE_LIMIT {
             fault = ListFault { number: 22, list };

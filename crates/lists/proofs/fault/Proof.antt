@@ -1,6 +1,8 @@
 use Prim.Native.Nat.{_+_, _*_, _≤_, _-_}
 use mathlib.Core.Path.{_≡_, refl, _∙_, sym, ap₂}
 use denote.Ref.{now}
+use lib.ListN.{length}
+use Rattle.octets.specs.Octets.{at}
 use Rattle.lists.specs.Lists.{faultOf, inOrder, faultTold, listsIn, listAt, startOf}
 use Rattle.lists.proofs.Laws.{rangeFaultFrom, toldFrom, too-long, odd-number, only-ranges, ranges-end}
 use Rattle.lists.proofs.Laws.{lists-start, list-right, list-wrong, lists-end, nth-list, nothing-left}
@@ -41,6 +43,31 @@ shared-slice-read-word-value c = search needs
 word-value-requires : tie.Need-word-value-requires Inv-loop μ-loop Inv-lists μ-lists
 word-value-requires c κs = search needs
 
+add-k : tie.Need-add-k Inv-loop μ-loop Inv-lists μ-lists
+add-k c = search needs
+
+lists-less : tie.Need-lists-less Inv-loop μ-loop Inv-lists μ-lists
+lists-less c = search needs
+
+lists-again : tie.Need-lists-again Inv-loop μ-loop Inv-lists μ-lists
+lists-again c =
+    let w = c .before in
+    let s = w .before .before .before .before in
+    let block = now (s .before .before .args .block) in
+    let k = s .lists .k in
+    let list = listAt block k in
+    let none : at block k ≡ 0 = sym (w .word-value .ensures .0) ∙ c .if2 .taken in
+    let long : length list ≡ 0 = list-length block k (s .lists .start) _ 0 (s .lists .inv .2) (w .word-value .ensures .0) (omega (arith, c .if2 .taken)) in (
+      omega arith,
+      s .lists .inv .1,
+      omega (arith, s .lists .inv .2, none, start-next block k),
+      omega arith,
+      s .lists .inv .4
+          ∙ list-right _ k list (omega arith) (sym (nth-list block k (omega arith)))
+          (only-ranges list (omega (arith, long)) (λ e. omega (arith, long)) ∙ ranges-end list _ (omega (arith, long))),
+      omega arith,
+    )
+
 sub-lesser : tie.Need-sub-lesser Inv-loop μ-loop Inv-lists μ-lists
 sub-lesser c = search needs
 
@@ -50,7 +77,7 @@ lesser-requires c κs = search needs
 loop-holds : tie.Need-loop-holds Inv-loop μ-loop Inv-lists μ-lists
 loop-holds c =
     let l = c .before .before in
-    let w = l .before in
+    let w = l .before .before in
     let s = w .before .before .before .before in
     let block = now (s .before .before .args .block) in
     let k = s .lists .k in
@@ -61,32 +88,32 @@ loop-holds c =
       only-ranges list (omega (arith, long)) (λ e. omega (arith, long)),
     )
 
-mul-if4 : tie.Need-mul-if4 Inv-loop μ-loop Inv-lists μ-lists
-mul-if4 c = search needs
+mul-if5 : tie.Need-mul-if5 Inv-loop μ-loop Inv-lists μ-lists
+mul-if5 c = search needs
 
-add-if4 : tie.Need-add-if4 Inv-loop μ-loop Inv-lists μ-lists
-add-if4 c = search needs
+add-if5 : tie.Need-add-if5 Inv-loop μ-loop Inv-lists μ-lists
+add-if5 c = search needs
 
-mul-if4-2 : tie.Need-mul-if4-2 Inv-loop μ-loop Inv-lists μ-lists
-mul-if4-2 c = search needs
+mul-if5-2 : tie.Need-mul-if5-2 Inv-loop μ-loop Inv-lists μ-lists
+mul-if5-2 c = search needs
 
-shared-slice-read-if4 : tie.Need-shared-slice-read-if4 Inv-loop μ-loop Inv-lists μ-lists
-shared-slice-read-if4 c = search needs
+shared-slice-read-if5 : tie.Need-shared-slice-read-if5 Inv-loop μ-loop Inv-lists μ-lists
+shared-slice-read-if5 c = search needs
 
-mul-if4-3 : tie.Need-mul-if4-3 Inv-loop μ-loop Inv-lists μ-lists
-mul-if4-3 c = search needs
+mul-if5-3 : tie.Need-mul-if5-3 Inv-loop μ-loop Inv-lists μ-lists
+mul-if5-3 c = search needs
 
-add-if4-2 : tie.Need-add-if4-2 Inv-loop μ-loop Inv-lists μ-lists
-add-if4-2 c = search needs
+add-if5-2 : tie.Need-add-if5-2 Inv-loop μ-loop Inv-lists μ-lists
+add-if5-2 c = search needs
 
-add-if4-3 : tie.Need-add-if4-3 Inv-loop μ-loop Inv-lists μ-lists
-add-if4-3 c = search needs
+add-if5-3 : tie.Need-add-if5-3 Inv-loop μ-loop Inv-lists μ-lists
+add-if5-3 c = search needs
 
-mul-if4-4 : tie.Need-mul-if4-4 Inv-loop μ-loop Inv-lists μ-lists
-mul-if4-4 c = search needs
+mul-if5-4 : tie.Need-mul-if5-4 Inv-loop μ-loop Inv-lists μ-lists
+mul-if5-4 c = search needs
 
-shared-slice-read-if4-2 : tie.Need-shared-slice-read-if4-2 Inv-loop μ-loop Inv-lists μ-lists
-shared-slice-read-if4-2 c = search needs
+shared-slice-read-if5-2 : tie.Need-shared-slice-read-if5-2 Inv-loop μ-loop Inv-lists μ-lists
+shared-slice-read-if5-2 c = search needs
 
 add-i : tie.Need-add-i Inv-loop μ-loop Inv-lists μ-lists
 add-i c = search needs
@@ -97,7 +124,7 @@ loop-less c = search needs
 loop-again : tie.Need-loop-again Inv-loop μ-loop Inv-lists μ-lists
 loop-again c =
     let l = c .before .before .before .before .before .before .before in
-    let w = l .before in
+    let w = l .before .before in
     let s = w .before .before .before .before in
     let block = now (s .before .before .args .block) in
     let k = s .lists .k in
@@ -112,16 +139,16 @@ loop-again c =
 add-start : tie.Need-add-start Inv-loop μ-loop Inv-lists μ-lists
 add-start c = search needs
 
-add-k : tie.Need-add-k Inv-loop μ-loop Inv-lists μ-lists
-add-k c = search needs
+add-k-2 : tie.Need-add-k-2 Inv-loop μ-loop Inv-lists μ-lists
+add-k-2 c = search needs
 
-lists-less : tie.Need-lists-less Inv-loop μ-loop Inv-lists μ-lists
-lists-less c = search needs
+lists-less-2 : tie.Need-lists-less-2 Inv-loop μ-loop Inv-lists μ-lists
+lists-less-2 c = search needs
 
-lists-again : tie.Need-lists-again Inv-loop μ-loop Inv-lists μ-lists
-lists-again c =
+lists-again-2 : tie.Need-lists-again-2 Inv-loop μ-loop Inv-lists μ-lists
+lists-again-2 c =
     let l = c .before .before .before .before in
-    let w = l .before in
+    let w = l .before .before in
     let s = w .before .before .before .before in
     let block = now (s .before .before .args .block) in
     let k = s .lists .k in
@@ -146,7 +173,7 @@ returns-2 c = let s = c .before .before in s .lists .inv .1 ∙ sym (s .lists .i
 returns-3 : tie.Need-returns-3 Inv-loop μ-loop Inv-lists μ-lists
 returns-3 c =
     let l = c .before in
-    let w = l .before in
+    let w = l .before .before in
     let s = w .before .before .before .before in
     let block = now (s .before .before .args .block) in
     let k = s .lists .k in
@@ -158,7 +185,7 @@ returns-3 c =
 returns-4 : tie.Need-returns-4 Inv-loop μ-loop Inv-lists μ-lists
 returns-4 c =
     let l = c .before .before in
-    let w = l .before in
+    let w = l .before .before in
     let s = w .before .before .before .before in
     let block = now (s .before .before .args .block) in
     let k = s .lists .k in
@@ -171,7 +198,7 @@ returns-4 c =
 returns-5 : tie.Need-returns-5 Inv-loop μ-loop Inv-lists μ-lists
 returns-5 c =
     let l = c .before .before .before .before .before .before .before in
-    let w = l .before in
+    let w = l .before .before in
     let s = w .before .before .before .before in
     let block = now (s .before .before .args .block) in
     let k = s .lists .k in
@@ -196,25 +223,28 @@ fault-spec =
     mul-word-value
     shared-slice-read-word-value
     word-value-requires
+    add-k
+    lists-less
+    lists-again
     sub-lesser
     lesser-requires
     loop-holds
-    mul-if4
-    add-if4
-    mul-if4-2
-    shared-slice-read-if4
-    mul-if4-3
-    add-if4-2
-    add-if4-3
-    mul-if4-4
-    shared-slice-read-if4-2
+    mul-if5
+    add-if5
+    mul-if5-2
+    shared-slice-read-if5
+    mul-if5-3
+    add-if5-2
+    add-if5-3
+    mul-if5-4
+    shared-slice-read-if5-2
     add-i
     loop-less
     loop-again
     add-start
-    add-k
-    lists-less
-    lists-again
+    add-k-2
+    lists-less-2
+    lists-again-2
     returns
     returns-2
     returns-3
