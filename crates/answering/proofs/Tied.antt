@@ -14,15 +14,14 @@ use Rattle.octets.proofs.Numbering.{gives-later, orElse-none, orElse-assoc}
 use Rattle.pdu.specs.Header.{headerOf}
 use Rattle.pdu.specs.Sizes.{pduLength}
 use Rattle.retained.specs.declared.Retained.{Retained}
-use Rattle.retained.specs.declared.Seek.{Seek}
 use Rattle.retained.specs.declared.Outcome.{Outcome}
-use Rattle.retained.specs.Records.{namesOf, exchanged, freedRecord}
+use Rattle.retained.specs.Records.{namesOf, exchanged, isNamed, freedRecord}
 use Rattle.retained.specs.Table.{tableFault, first, has, freed, answered, numberAlone, did}
-use Rattle.retained.specs.Searching.{foundIn}
 use Rattle.deciding.specs.declared.Ask.{Ask}
 use Rattle.deciding.specs.declared.Effect.{Effect}
-use Rattle.deciding.specs.declared.Kind.the-variants.{Free, Answer, Nothing}
-use Rattle.deciding.specs.Deciding.{kindNumber, decideNumber, stays, changes, effectOf, decideOf, begunFor, effectOn, tableFreed}
+use Rattle.deciding.specs.declared.Kind.the-variants.{Seek, Answer, Nothing}
+use Rattle.deciding.specs.Deciding.{decideNumber, stays, changes, effectOf, decideOf, hearOn, tableFreed}
+use Rattle.deciding.proofs.Tied.{hear-first}
 use Rattle.answering.specs.declared.Sending.{Sending}
 use Rattle.answering.specs.Delivered.{isDeliveredHere, isAcknowledgement, isAnswered, ackHeader, acknowledgeNumber, matching, acknowledge, tableAcknowledged}
 use Rattle.answering.specs.Responding.{earlyNumber, lateNumber, askFor, askAcknowledge}
@@ -37,30 +36,23 @@ module _ (table : List Retained) (last : ℕ) (sending : Sending) (room : ℕ) (
   abbrev place : ℕ
   place = first (matching received) table
 
-  -- what is asked where it is answered, or not, and frees, or not; and what is found
+  -- what is asked where it is answered, or not, and frees, or not; and where it is found
   abbrev asked : Bool → Bool → Ask
   asked d k = askFor d k last sending room (namesOf received)
 
-  abbrev found : Bool → Bool → Seek
-  found d k = foundIn (begunFor (asked d k .kind) (asked d k) (length table)) table
+  abbrev found : Bool → Bool → ℕ
+  found d k = first (isNamed (asked d k .names)) table
 
   -- the refusals
   abbrev number : Bool → ℕ
   number d = earlyNumber d sending orElse (tableFault table orElse lateNumber d room size)
 
-  no-kind : (d k : Bool) (a : Ask) (s : Seek) → kindNumber (cond d Answer (cond k Free Nothing)) a s ≡ 0
-  no-kind true k a s = refl
-  no-kind false true a s = refl
-  no-kind false false a s = refl
-
-  number-is : (d k : Bool) → decideNumber (asked d k) (found d k) ≡ number d
+  number-is : (d k : Bool) → decideNumber (asked d k) (length table) 0 ≡ number d
   unfolding decideNumber
   number-is d k = ap (λ (x : ℕ). earlyNumber d sending orElse (tableFault table orElse x)) tail
     where
-      tail : ((ltb last last gives 73) orElse (lateNumber d room size orElse kindNumber (cond d Answer (cond k Free Nothing)) (asked d k) (found d k)))
-          ≡ lateNumber d room size
-      tail = gives-later (ltb last last) 73 _ (le-ltb last last (le-refl last))
-          ∙ ap (λ (x : ℕ). lateNumber d room size orElse x) (no-kind d k _ _) ∙ orElse-none _
+      tail : ((ltb last last gives 73) orElse (lateNumber d room size orElse 0)) ≡ lateNumber d room size
+      tail = gives-later (ltb last last) 73 _ (le-ltb last last (le-refl last)) ∙ orElse-none _
 
   -- by four tests: no refusal; it is answered; it is an acknowledgement; it matches
   abbrev frees : Bool → Effect
@@ -72,16 +64,17 @@ module _ (table : List Retained) (last : ℕ) (sending : Sending) (room : ℕ) (
   abbrev it : ℕ → Bool → Bool → Bool → Bool → Effect
   it n b d k m = cond b (cond d answers (cond k (frees m) (stays 0 last (length table)))) (stays n last (length table))
 
-  kind-is : (d k : Bool) → effectOf (cond d Answer (cond k Free Nothing)) (asked d k) (found d k)
+  kind-is : (d k : Bool) → effectOf (cond d Answer (cond k Seek Nothing)) (asked d k) (length table) (found d k)
       ≡ cond d answers (cond k (frees (has (matching received) table)) (stays 0 last (length table)))
   kind-is true k = refl
   kind-is false true = refl
   kind-is false false = refl
 
-  effect-is : (d k : Bool) → effectOn (asked d k) table ≡ it (number d) (eqb (number d) 0) d k (has (matching received) table)
-  unfolding effectOn decideOf
-  effect-is d k =
-      ap (λ (x : ℕ). cond (eqb x 0) (effectOf (cond d Answer (cond k Free Nothing)) (asked d k) (found d k)) (stays x last (length table))) (number-is d k)
+  effect-is : (d k : Bool) → hearOn (asked d k) table ≡ it (number d) (eqb (number d) 0) d k (has (matching received) table)
+  unfolding decideOf
+  effect-is d k = hear-first (asked d k) table
+      ∙ ap (λ (x : ℕ). cond (eqb x 0) (effectOf (cond d Answer (cond k Seek Nothing)) (asked d k) (length table) (found d k)) (stays x last (length table)))
+      (number-is d k)
       ∙ ap (λ (x : Effect). cond (eqb (number d) 0) x (stays (number d) last (length table))) (kind-is d k)
 
   outcome-is : (n : ℕ) (b d k m : Bool) → it n b d k m .outcome
@@ -137,10 +130,10 @@ module _ (table : List Retained) (last : ℕ) (sending : Sending) (room : ℕ) (
         ∙ ap (λ (n : ℕ). cond (eqb n 0 && (K && has (matching received) table)) (set table place freedRecord) table) (sym total)
 
     pub acknowledge-tied : (a : Ask) (r : Outcome) (after : List Retained) → a ≡ askAcknowledge last own delivery sending room received
-        → (r ≡ effectOn a table .outcome) × (after ≡ tableFreed (effectOn a table) table)
+        → (r ≡ hearOn a table .outcome) × (after ≡ tableFreed (hearOn a table) table)
         → (r ≡ acknowledge table last own delivery sending room received) × (after ≡ tableAcknowledged table own delivery sending room received)
     unfolding askAcknowledge
     acknowledge-tied a r after p o =
-        let is : effectOn a table ≡ it (number D) (eqb (number D) 0) D K (has (matching received) table) =
-        ap (λ (x : Ask). effectOn x table) p ∙ effect-is D K in
+        let is : hearOn a table ≡ it (number D) (eqb (number D) 0) D K (has (matching received) table) =
+        ap (λ (x : Ask). hearOn x table) p ∙ effect-is D K in
         (o .0 ∙ ap (λ (x : Effect). x .outcome) is ∙ told, o .1 ∙ ap (λ (x : Effect). tableFreed x table) is ∙ left)

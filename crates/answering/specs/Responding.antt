@@ -7,7 +7,7 @@ use Rattle.octets.specs.Numbers.{_gives_, _orElse_}
 use Rattle.pdu.specs.Sizes.{pduLength}
 use Rattle.answering.specs.declared.Sending.{Sending}
 use Rattle.deciding.specs.declared.Ask.{Ask}
-use Rattle.deciding.specs.declared.Kind.the-variants.{Free, Answer, Nothing}
+use Rattle.deciding.specs.declared.Kind.the-variants.{Seek, Answer, Nothing}
 use Rattle.retained.specs.declared.Names.{Names}
 use Rattle.retained.specs.Records.{namesOf, exchanged}
 use Rattle.retained.specs.Table.{tableSize}
@@ -23,7 +23,7 @@ lateNumber due room length = (due && ltb room length) gives 77
 abbrev pub askFor : Bool → Bool → ℕ → Sending → ℕ → Names → Ask
 askFor due frees last sending room names =
     record {
-      kind = cond due Answer (cond frees Free Nothing);
+      kind = cond due Answer (cond frees Seek Nothing);
       early = earlyNumber due sending;
       late = lateNumber due room (pduLength (ackHeader sending names));
       last = last;

@@ -10,7 +10,7 @@ ghost use Prim.Native.Nat.{_≤_};
 ghost use lib.ListN.{length};
 ghost use Rattle.pdu.specs.Sizes.{pduLength};
 ghost use Rattle.decision.specs.Decision.{isForOwn};
-ghost use Rattle.deciding.specs.declared.Kind.the-variants.{Free, Answer, Nothing};
+ghost use Rattle.deciding.specs.declared.Kind.the-variants.{Seek, Answer, Nothing};
 ghost use Rattle.retained.specs.Records.{exchanged};
 ghost use Rattle.answering.specs.Delivered.{isForThis, isDeliveredHere, ackHeader, outputAcknowledged};
 ghost use Rattle.answering.specs.Responding.{earlyNumber, lateNumber, askFor, askAcknowledge, isWritten};
@@ -66,13 +66,13 @@ fn both(a: bool, b: bool) -> bool
 }
 
 fn kind_for(due: bool, frees: bool) -> Kind
-    ensures { λ r. ⌜ r ≡ cond due Answer (cond frees Free Nothing) ⌝ }
+    ensures { λ r. ⌜ r ≡ cond due Answer (cond frees Seek Nothing) ⌝ }
 {
     if due {
         return Kind::Answer;
     }
     if frees {
-        return Kind::Free;
+        return Kind::Seek;
     }
     Kind::Nothing
 }

@@ -1,107 +1,127 @@
--- Laws that the decision, over what a search found, is proved by.
+-- Laws that the decision on what a search found is proved by.
 use native.Mathlib.Omega.{arith}
 use mathlib.Core.Path.{_≡_, refl, sym, _∙_, ap}
 use Prim.Native.Nat.{ℕ, _+_, _<_, _≤_}
-use mathlib.Core.Bool.{not}
+use mathlib.Core.Bool.{Bool, true, false, not}
 use mathlib.Core.List.{List}
 use lib.Dec.{eqb, ltb}
-use borrow.Author.Tests.{lt-ltb, le-ltb, eq-eqb, ne-eqb}
+use borrow.Author.Tests.{lt-ltb, le-ltb, eqb-true, eqb-false, eq-eqb, ne-eqb}
 use Rattle.octets.specs.Numbers.{_gives_, _orElse_}
 use Rattle.octets.specs.Octets.{placed}
 use Rattle.octets.proofs.Numbering.{gives-here, gives-later, orElse-first, orElse-later}
 use Rattle.retained.specs.declared.Retained.{Retained}
-use Rattle.retained.specs.declared.Seek.{Seek}
-use Rattle.retained.specs.Records.{pduOf, freedRecord}
+use Rattle.retained.specs.declared.Names.{Names}
+use Rattle.retained.specs.Records.{pduOf, placedNames, freedRecord}
 use Rattle.retained.specs.Table.{did, sent, failed, freed}
 use Rattle.deciding.specs.declared.Ask.{Ask}
-use Rattle.deciding.specs.declared.Kind.the-variants.{Retain, Step, Free}
+use Rattle.deciding.specs.declared.Kind.the-variants.{Seek}
 use Rattle.deciding.specs.declared.Effect.{Effect}
-use Rattle.deciding.specs.Deciding.{leftOf, emitted, kindNumber, decideNumber, stays, changes, effectOf, decideOf}
+use Rattle.deciding.specs.Deciding.{leftOf, emitted, decideNumber, stays, changes, decideOf, keepNumber, sendNumber, sendEffect, effectOf}
 
-module _ (a : Ask) (s : Seek) where
-  pub number-early : (a .early ≡ 0 → ⊥) → a .early ≡ decideNumber a s
+module _ (a : Ask) (count number : ℕ) where
+  pub number-early : (a .early ≡ 0 → ⊥) → a .early ≡ decideNumber a count number
   unfolding decideNumber
   number-early f = sym (orElse-first (a .early) _ f)
 
   early-passed : ℕ
-  early-passed = not (eqb (s .count) 16) gives 74 orElse ltb (a .time) (a .last) gives 73 orElse a .late orElse kindNumber (a .kind) a s
+  early-passed = not (eqb count 16) gives 74 orElse ltb (a .time) (a .last) gives 73 orElse a .late orElse number
 
-  passed : a .early ≡ 0 → decideNumber a s ≡ early-passed
+  passed : a .early ≡ 0 → decideNumber a count number ≡ early-passed
   unfolding decideNumber early-passed
   passed e = orElse-later (a .early) _ e
 
-  pub number-74 : a .early ≡ 0 → (s .count ≡ 16 → ⊥) → 74 ≡ decideNumber a s
+  pub number-74 : a .early ≡ 0 → (count ≡ 16 → ⊥) → 74 ≡ decideNumber a count number
   unfolding early-passed
-  number-74 e f = sym (passed e ∙ gives-here (not (eqb (s .count) 16)) 74 _ (omega arith) (ap not (ne-eqb (s .count) 16 f)))
+  number-74 e f = sym (passed e ∙ gives-here (not (eqb count 16)) 74 _ (omega arith) (ap not (ne-eqb count 16 f)))
 
-  table-passed : a .early ≡ 0 → s .count ≡ 16 → decideNumber a s ≡ (ltb (a .time) (a .last) gives 73 orElse a .late orElse kindNumber (a .kind) a s)
+  table-passed : a .early ≡ 0 → count ≡ 16 → decideNumber a count number ≡ (ltb (a .time) (a .last) gives 73 orElse a .late orElse number)
   unfolding early-passed
-  table-passed e f = passed e ∙ gives-later (not (eqb (s .count) 16)) 74 _ (ap not (eq-eqb (s .count) 16 f))
+  table-passed e f = passed e ∙ gives-later (not (eqb count 16)) 74 _ (ap not (eq-eqb count 16 f))
 
-  pub number-73 : a .early ≡ 0 → s .count ≡ 16 → a .time < a .last → 73 ≡ decideNumber a s
+  pub number-73 : a .early ≡ 0 → count ≡ 16 → a .time < a .last → 73 ≡ decideNumber a count number
   number-73 e f h = sym (table-passed e f ∙ gives-here (ltb (a .time) (a .last)) 73 _ (omega arith) (lt-ltb (a .time) (a .last) h))
 
-  time-passed : a .early ≡ 0 → s .count ≡ 16 → a .last ≤ a .time → decideNumber a s ≡ (a .late orElse kindNumber (a .kind) a s)
+  time-passed : a .early ≡ 0 → count ≡ 16 → a .last ≤ a .time → decideNumber a count number ≡ (a .late orElse number)
   time-passed e f h = table-passed e f ∙ gives-later (ltb (a .time) (a .last)) 73 _ (le-ltb (a .time) (a .last) h)
 
-  pub number-late : a .early ≡ 0 → s .count ≡ 16 → a .last ≤ a .time → (a .late ≡ 0 → ⊥) → a .late ≡ decideNumber a s
+  pub number-late : a .early ≡ 0 → count ≡ 16 → a .last ≤ a .time → (a .late ≡ 0 → ⊥) → a .late ≡ decideNumber a count number
   number-late e f h g = sym (time-passed e f h ∙ orElse-first (a .late) _ g)
 
-  pub number-kind : a .early ≡ 0 → s .count ≡ 16 → a .last ≤ a .time → a .late ≡ 0 → decideNumber a s ≡ kindNumber (a .kind) a s
-  number-kind e f h g = time-passed e f h ∙ orElse-later (a .late) _ g
+  pub number-last : a .early ≡ 0 → count ≡ 16 → a .last ≤ a .time → a .late ≡ 0 → number ≡ decideNumber a count number
+  number-last e f h g = sym (time-passed e f h ∙ orElse-later (a .late) _ g)
 
-  pub retain-71 : s .place < s .count → 71 ≡ kindNumber Retain a s
+  module _ (effect : Effect) where
+    pub decide-refuses : (n : ℕ) → n ≡ decideNumber a count number → (n ≡ 0 → ⊥) → stays n (a .last) count ≡ decideOf a count number effect
+    unfolding decideOf
+    decide-refuses n e f = simp (sym e, ne-eqb n 0 f)
+
+    pub decide-acts : (n : ℕ) → n ≡ decideNumber a count number → n ≡ 0 → effect ≡ decideOf a count number effect
+    unfolding decideOf
+    decide-acts n e f = simp (sym e, eq-eqb n 0 f)
+
+-- with another number of records than 16, what was found does not matter
+pub not-16 : (a : Ask) (count m n : ℕ) (e f : Effect) → (count ≡ 16 → ⊥) → decideOf a count m e ≡ decideOf a count n f
+not-16 a count m n e f g = by (eqb (a .early) 0) refl
+  where
+    by : (b : Bool) → eqb (a .early) 0 ≡ b → decideOf a count m e ≡ decideOf a count n f
+    by true h =
+        let early = eqb-true (a .early) 0 h in
+        sym (decide-refuses a count m e 74 (number-74 a count m early g) (λ z. absurd (omega arith)))
+        ∙ decide-refuses a count n f 74 (number-74 a count n early g) (λ z. absurd (omega arith))
+    by false h =
+        let early = eqb-false (a .early) 0 h in
+        sym (decide-refuses a count m e (a .early) (number-early a count m early) early)
+        ∙ decide-refuses a count n f (a .early) (number-early a count n early) early
+
+module _ (count named free : ℕ) where
+  pub keep-71 : named < count → 71 ≡ keepNumber count named free
   unfolding _gives_ _orElse_
-  retain-71 h = simp (lt-ltb (s .place) (s .count) h)
+  keep-71 h = simp (lt-ltb named count h)
 
-  pub retain-0 : s .count ≤ s .place → s .free < s .count → 0 ≡ kindNumber Retain a s
+  pub keep-0 : count ≤ named → free < count → 0 ≡ keepNumber count named free
   unfolding _gives_ _orElse_
-  retain-0 h k = simp (le-ltb (s .place) (s .count) h, lt-ltb (s .free) (s .count) k)
+  keep-0 h k = simp (le-ltb named count h, lt-ltb free count k)
 
-  pub retain-70 : s .count ≤ s .place → s .count ≤ s .free → 70 ≡ kindNumber Retain a s
+  pub keep-70 : count ≤ named → count ≤ free → 70 ≡ keepNumber count named free
   unfolding _gives_ _orElse_
-  retain-70 h k = simp (le-ltb (s .place) (s .count) h, le-ltb (s .free) (s .count) k)
+  keep-70 h k = simp (le-ltb named count h, le-ltb free count k)
 
-  pub step-77 : s .place < s .count → s .found .count < a .tries → a .room < s .found .length → 77 ≡ kindNumber Step a s
-  unfolding _gives_
-  step-77 h k l = simp (lt-ltb (s .place) (s .count) h, lt-ltb (s .found .count) (a .tries) k, lt-ltb (a .room) (s .found .length) l)
+module _ (a : Ask) (count place : ℕ) where
+  module _ (r : Retained) where
+    pub send-77 : place < count → r .count < a .tries → a .room < r .length → 77 ≡ sendNumber a count place r
+    unfolding _gives_
+    send-77 h k l = simp (lt-ltb place count h, lt-ltb (r .count) (a .tries) k, lt-ltb (a .room) (r .length) l)
 
-  pub step-fits : s .place < s .count → s .found .count < a .tries → s .found .length ≤ a .room → 0 ≡ kindNumber Step a s
-  unfolding _gives_
-  step-fits h k l = simp (lt-ltb (s .place) (s .count) h, lt-ltb (s .found .count) (a .tries) k, le-ltb (a .room) (s .found .length) l)
+    pub send-fits : place < count → r .count < a .tries → r .length ≤ a .room → 0 ≡ sendNumber a count place r
+    unfolding _gives_
+    send-fits h k l = simp (lt-ltb place count h, lt-ltb (r .count) (a .tries) k, le-ltb (a .room) (r .length) l)
 
-  pub step-drops : s .place < s .count → a .tries ≤ s .found .count → 0 ≡ kindNumber Step a s
-  unfolding _gives_
-  step-drops h k = simp (lt-ltb (s .place) (s .count) h, le-ltb (s .found .count) (a .tries) k)
+    pub send-drops : place < count → a .tries ≤ r .count → 0 ≡ sendNumber a count place r
+    unfolding _gives_
+    send-drops h k = simp (lt-ltb place count h, le-ltb (r .count) (a .tries) k)
 
-  pub step-none : s .count ≤ s .place → 0 ≡ kindNumber Step a s
-  unfolding _gives_
-  step-none h = simp (le-ltb (s .place) (s .count) h)
+    pub send-none : count ≤ place → 0 ≡ sendNumber a count place r
+    unfolding _gives_
+    send-none h = simp (le-ltb place count h)
 
-  pub sends : s .place < s .count → s .found .count < a .tries
-      → changes (s .place) (s .found .count + 1) (did sent (a .time) (s .place) (s .found .names) (s .found .length)) ≡ effectOf Step a s
-  sends h k = simp (lt-ltb (s .place) (s .count) h, lt-ltb (s .found .count) (a .tries) k)
+    module _ (names : Names) (are : names ≡ placedNames r) where
+      pub sends : place < count → r .count < a .tries
+          → changes place (r .count + 1) (did sent (a .time) place names (r .length)) ≡ sendEffect a count place r
+      sends h k = ap (λ (n : Names). changes place (r .count + 1) (did sent (a .time) place n (r .length))) are
+          ∙ simp (lt-ltb place count h, lt-ltb (r .count) (a .tries) k)
 
-  pub drops : s .place < s .count → a .tries ≤ s .found .count
-      → changes (s .place) 0 (did failed (a .time) (s .place) (s .found .names) 0) ≡ effectOf Step a s
-  drops h k = simp (lt-ltb (s .place) (s .count) h, le-ltb (s .found .count) (a .tries) k)
+      pub drops : place < count → a .tries ≤ r .count → changes place 0 (did failed (a .time) place names 0) ≡ sendEffect a count place r
+      drops h k = ap (λ (n : Names). changes place 0 (did failed (a .time) place n 0)) are
+          ∙ simp (lt-ltb place count h, le-ltb (r .count) (a .tries) k)
 
-  pub rests : s .count ≤ s .place → stays 0 (a .time) (s .count) ≡ effectOf Step a s
-  rests h = simp (le-ltb (s .place) (s .count) h)
+    pub rests : count ≤ place → stays 0 (a .time) count ≡ sendEffect a count place r
+    rests h = simp (le-ltb place count h)
 
-  pub frees : s .place < s .count → changes (s .place) 0 (did freed (a .time) (s .place) (a .names) 0) ≡ effectOf Free a s
-  frees h = simp (lt-ltb (s .place) (s .count) h)
+  pub frees : place < count → changes place 0 (did freed (a .time) place (a .names) 0) ≡ effectOf Seek a count place
+  frees h = simp (lt-ltb place count h)
 
-  pub ignores : s .count ≤ s .place → stays 0 (a .time) (s .count) ≡ effectOf Free a s
-  ignores h = simp (le-ltb (s .place) (s .count) h)
-
-  pub decide-refuses : (n : ℕ) → n ≡ decideNumber a s → (n ≡ 0 → ⊥) → stays n (a .last) (s .count) ≡ decideOf a s
-  unfolding decideOf
-  decide-refuses n e f = simp (sym e, ne-eqb n 0 f)
-
-  pub decide-acts : (n : ℕ) → n ≡ decideNumber a s → n ≡ 0 → effectOf (a .kind) a s ≡ decideOf a s
-  unfolding decideOf
-  decide-acts n e f = simp (sym e, eq-eqb n 0 f)
+  pub ignores : count ≤ place → stays 0 (a .time) count ≡ effectOf Seek a count place
+  ignores h = simp (le-ltb place count h)
 
 -- what is sent again, and what is dropped
 module _ (e : Effect) (r : Retained) (output : List ℕ) where

@@ -1,121 +1,62 @@
--- The one search and decision, asked to retain or to step, with what is done then, is what the table's definitions say.
+-- What is decided on what the searches found, with what is done then, is what the table's definitions say.
 use native.Mathlib.Omega.{arith}
 use mathlib.Core.Path.{_≡_, refl, sym, _∙_, ap}
-use Prim.Native.Nat.{ℕ, zero, suc, _+_, _≤_}
+use Prim.Native.Nat.{ℕ, suc, _+_, _<_, _≤_}
 use mathlib.Core.Bool.{Bool, true, false, not, cond, _&&_}
 use mathlib.Core.List.{List, [], _∷_}
 use lib.Dec.{eqb, ltb}
 use lib.ListN.{length, set, length-take}
 use lib.Seq.{set-out}
 use native.Mathlib.Nat.{le-refl, le-trans}
-use borrow.Author.Tests.{ltb-false, eqb-true, eqb-false, ne-eqb}
+use borrow.Author.Tests.{ltb-true, ltb-false, eqb-true, eqb-false}
 use Rattle.octets.specs.Numbers.{_gives_, _orElse_}
 use Rattle.octets.specs.Octets.{over}
 use Rattle.octets.proofs.Numbering.{orElse-zero, gives-zero}
 use Rattle.octets.proofs.Placing.{placed-start}
 use Rattle.retained.specs.declared.Retained.{Retained}
-use Rattle.retained.specs.declared.Seek.{Seek}
+use Rattle.retained.specs.declared.Names.{Names}
 use Rattle.retained.specs.declared.Outcome.{Outcome}
 use Rattle.deciding.specs.declared.Kind.{Kind}
-use Rattle.deciding.specs.declared.Kind.the-variants.{Retain, Step, Free, Answer, Nothing}
+use Rattle.deciding.specs.declared.Kind.the-variants.{Seek, Answer, Nothing}
 use Rattle.deciding.specs.declared.Ask.{Ask}
 use Rattle.deciding.specs.declared.Effect.{Effect}
-use Rattle.retained.specs.Records.{isFree, isDue, pduOf, namesOf, retainedRecord, sentRecord, freedRecord}
-use Rattle.retained.specs.Table.{tableSize, first, has, recordAt, due, isSpent, numberAlone, did, kept, sent, failed}
+use Rattle.retained.specs.Records.{isFree, isNamed, isDue, pduOf, namesOf, placedNames, retainedRecord, sentRecord, freedRecord}
+use Rattle.retained.specs.Table.{first, has, recordAt, due, isSpent, numberAlone, did, kept, sent, failed}
 use Rattle.retained.specs.Table.{retainNumber, retain, tableRetained, stepNumber, retryStep, tableStepped, outputStepped}
-use Rattle.retained.specs.Searching.{isSought, scanOf, foundIn}
-use Rattle.retained.proofs.Found.{freeBefore, scan-found, free-first}
-use Rattle.deciding.specs.Deciding.{kindNumber, decideNumber, stays, changes, effectOf, decideOf, begunAt, begunFor, effectOn, askRetain, askStep}
-use Rattle.deciding.specs.Deciding.{leftOf, emitted, tableResent, outputResent}
-use Rattle.deciding.proofs.Laws.{number-early, number-74, decide-refuses}
+use Rattle.retained.proofs.Used.{names-are, due-used}
+use Rattle.deciding.specs.Deciding.{seeks, placeOf, decideNumber, stays, changes, decideOf, keepNumber, retainAt, sendNumber, sendEffect, stepAt}
+use Rattle.deciding.specs.Deciding.{effectOf, hearAt, retainOn, stepOn, hearOn, askRetain, askStep, leftOf, emitted, tableResent, outputResent}
+use Rattle.deciding.proofs.Laws.{not-16}
 
--- an effect counts only where nothing is refused, and a free record only where none has the names
-guarded : (number : ℕ) (x y z : Effect) → (number ≡ 0 → x ≡ y) → cond (eqb number 0) x z ≡ cond (eqb number 0) y z
-guarded zero x y z f = f refl
-guarded (suc number) x y z f = simp (ne-eqb (suc number) 0 (λ e. omega arith))
+-- what a search found is the first record that passes, or it does not matter
+looked : (a : Ask) (n : ℕ) (m : Bool → ℕ) (e : Bool → Effect) (b : Bool) → eqb n 16 ≡ b → decideOf a n (m b) (e b) ≡ decideOf a n (m true) (e true)
+looked a n m e true h = refl
+looked a n m e false h = not-16 a n (m false) (m true) (e false) (e true) (eqb-false n 16 h)
 
-retain-number : (b : Bool) (f g : ℕ) → (b ≡ false → f ≡ g) → (b gives 71 orElse f) ≡ (b gives 71 orElse g)
-unfolding _gives_ _orElse_
-retain-number true f g e = refl
-retain-number false f g e = e refl
+first-passes : (test : Retained → Bool) (rs : List Retained) → first test rs < length rs → test (recordAt rs (first test rs)) ≡ true
+unfolding first
+first-passes test [] h = absurd (omega arith)
+first-passes test (r ∷ rs) h = by (test r) refl h (first-passes test rs)
+  where
+    by : (b : Bool) → test r ≡ b → cond b 0 (suc (first test rs)) < suc (length rs)
+        → (first test rs < length rs → test (recordAt rs (first test rs)) ≡ true) → test (recordAt (r ∷ rs) (cond b 0 (suc (first test rs)))) ≡ true
+    by true e h k = e
+    by false e h k = k (omega arith)
 
-nothing-sought : (table : List Retained) (a : Ask) → scanOf 0 table (begunAt a (length table) false 0 0) ≡ begunAt a (length table) false 0 0
-unfolding scanOf
-nothing-sought [] a = refl
-nothing-sought (r ∷ rs) a = simp (ne-eqb 0 (suc (length rs)) (λ e. omega arith))
-
--- the decision on what the search found is the one on the table
+-- A PDU THAT WAS HEARD
 module _ (a : Ask) (table : List Retained) where
-  abbrev n : ℕ
-  n = length table
+  abbrev place-named : ℕ
+  place-named = first (isNamed (a .names)) table
 
-  abbrev begun : Kind → Seek
-  begun k = begunFor k a n
+  by-kind : (k : Kind) → decideOf a (length table) 0 (effectOf k a (length table) (cond (seeks k && eqb (length table) 16) place-named (length table)))
+      ≡ decideOf a (length table) 0 (effectOf k a (length table) place-named)
+  by-kind Seek = looked a (length table) (λ b. 0) (λ b. effectOf Seek a (length table) (cond b place-named (length table))) (eqb (length table) 16) refl
+  by-kind Answer = refl
+  by-kind Nothing = refl
 
-  abbrev named : ℕ
-  named = first (isSought (begun Retain)) table
-
-  abbrev before : ℕ
-  before = freeBefore (isSought (begun Retain)) 0 table n n
-
-  free-met : ltb named n ≡ false → before ≡ first isFree table
-  free-met e = free-first (isSought (begun Retain)) table 0 n (ltb-false named n e) (omega arith) ∙ omega arith
-
-  abbrev refusal : ℕ → ℕ
-  refusal x = a .early orElse (not (eqb n tableSize) gives 74 orElse (ltb (a .time) (a .last) gives 73 orElse (a .late orElse x)))
-
-  abbrev decision : ℕ → Effect → Effect
-  decision x y = cond (eqb (refusal x) 0) y (stays (refusal x) (a .last) n)
-
-  abbrev kinds : ℕ → ℕ
-  kinds free = ltb named n gives 71 orElse not (ltb free n) gives 70
-
-  abbrev keeps : ℕ → Effect
-  keeps free = changes free 0 (did kept (a .time) free (a .names) 0)
-
-  retain-alike : decision (kinds before) (keeps before) ≡ decision (kinds (first isFree table)) (keeps (first isFree table))
-  retain-alike = ap (λ (x : ℕ). decision x (keeps before)) (retain-number (ltb named n) _ _ (λ e. ap (λ (x : ℕ). not (ltb x n) gives 70) (free-met e)))
-      ∙ guarded (refusal (kinds (first isFree table))) _ _ _ (λ e. ap keeps (free-met (gives-zero _ 71 (omega arith) (orElse-zero _ _ (last e) .0))))
-    where
-      last : {x : ℕ} → refusal x ≡ 0 → x ≡ 0
-      last e = orElse-zero _ _ (orElse-zero _ _ (orElse-zero _ _ (orElse-zero _ _ e .1) .1) .1) .1
-
-  decideFor : Kind → Seek → Effect
-  decideFor k s =
-      let x = a .early orElse (not (eqb (s .count) tableSize) gives 74 orElse (ltb (a .time) (a .last) gives 73 orElse (a .late orElse kindNumber k a s))) in
-      cond (eqb x 0) (effectOf k a s) (stays x (a .last) (s .count))
-
-  decided : (k : Kind) → decideFor k (scanOf 0 table (begun k)) ≡ decideFor k (foundIn (begun k) table)
-  unfolding decideFor
-  decided Retain = ap (decideFor Retain) (scan-found table (begun Retain) freedRecord refl refl refl) ∙ retain-alike
-  decided Step = ap (decideFor Step) (scan-found table (begun Step) freedRecord refl refl refl)
-  decided Free = ap (decideFor Free) (scan-found table (begun Free) freedRecord refl refl refl)
-  decided Answer = ap (decideFor Answer) (nothing-sought table a)
-  decided Nothing = ap (decideFor Nothing) (nothing-sought table a)
-
-  pub searched : (t s : Seek) (e : Effect) → t ≡ begun (a .kind) → s ≡ scanOf 0 table t → e ≡ decideOf a s → e ≡ effectOn a table
-  unfolding effectOn decideOf decideNumber decideFor
-  searched t s e p q r = r ∙ ap (decideOf a) (q ∙ ap (scanOf 0 table) p) ∙ decided (a .kind)
-
-  -- with another number of records, so is that on a search that has not begun
-  pub unsearched : (t : Seek) (e : Effect) → t ≡ begun (a .kind) → (n ≡ 16 → ⊥) → e ≡ decideOf a t → e ≡ effectOn a table
-  unfolding effectOn
-  unsearched t e p f q = q ∙ ap (decideOf a) p ∙ by (eqb (a .early) 0) refl
-    where
-      b : Seek
-      b = begun (a .kind)
-
-      s : Seek
-      s = foundIn b table
-
-      by : (x : Bool) → eqb (a .early) 0 ≡ x → decideOf a b ≡ decideOf a s
-      by true e =
-          let early = eqb-true (a .early) 0 e in
-          sym (decide-refuses a b 74 (number-74 a b early f) (λ z. absurd (omega arith)))
-          ∙ decide-refuses a s 74 (number-74 a s early f) (λ z. absurd (omega arith))
-      by false e =
-          let early = eqb-false (a .early) 0 e in
-          sym (decide-refuses a b (a .early) (number-early a b early) early) ∙ decide-refuses a s (a .early) (number-early a s early) early
+  pub hear-first : hearOn a table ≡ hearAt a (length table) place-named
+  unfolding hearOn placeOf
+  hear-first = by-kind (a .kind)
 
 outcome-of : (b : Bool) (x y : Effect) → cond b x y .outcome ≡ cond b (x .outcome) (y .outcome)
 outcome-of true x y = refl
@@ -134,15 +75,27 @@ module _ (table : List Retained) (last time : ℕ) (bytes : List ℕ) where
   stored-of true x number = refl
   stored-of false x number = past table (retainedRecord time bytes)
 
-  retain-told : effectOn (askRetain last time bytes) table .outcome ≡ retain table last time bytes
-  unfolding effectOn decideOf decideNumber retain retainNumber _orElse_
+  abbrev kept-at : Effect
+  kept-at = retainAt (askRetain last time bytes) (length table) (first (isNamed (namesOf bytes)) table) (first isFree table)
+
+  retain-first : retainOn (askRetain last time bytes) table ≡ kept-at
+  unfolding retainOn placeOf
+  retain-first =
+      let n = length table in
+      let named = first (isNamed (namesOf bytes)) table in
+      let free = first isFree table in
+      looked (askRetain last time bytes) n (λ b. keepNumber n (cond b named n) (cond b free n))
+      (λ b. changes (cond b free n) 0 (did kept time (cond b free n) (namesOf bytes) 0)) (eqb n 16) refl
+
+  retain-told : kept-at .outcome ≡ retain table last time bytes
+  unfolding decideOf decideNumber retain retainNumber _orElse_
   retain-told = outcome-of (eqb (retainNumber table last time bytes) 0) _ _
 
-  retain-left : stored (effectOn (askRetain last time bytes) table) ≡ tableRetained table last time bytes
-  unfolding effectOn decideOf decideNumber tableRetained retainNumber _orElse_
+  retain-left : stored kept-at ≡ tableRetained table last time bytes
+  unfolding decideOf decideNumber tableRetained retainNumber _orElse_
   retain-left = stored-of (eqb (retainNumber table last time bytes) 0) _ _
 
-  pub retain-tied : (a : Ask) (e : Effect) (r : Retained) (after : List Retained) → a ≡ askRetain last time bytes → e ≡ effectOn a table
+  pub retain-tied : (a : Ask) (e : Effect) (r : Retained) (after : List Retained) → a ≡ askRetain last time bytes → e ≡ retainOn a table
       → r ≡ retainedRecord time bytes → after ≡ set table (e .place) r
       → (e .outcome ≡ retain table last time bytes) × (after ≡ tableRetained table last time bytes)
   retain-tied a e r after p q k l = (
@@ -150,19 +103,19 @@ module _ (table : List Retained) (last time : ℕ) (bytes : List ℕ) where
     l ∙ ap (set table (e .place)) k ∙ ap stored is ∙ retain-left,
   )
     where
-      is : e ≡ effectOn (askRetain last time bytes) table
-      is = q ∙ ap (λ (x : Ask). effectOn x table) p
+      is : e ≡ kept-at
+      is = q ∙ ap (λ (x : Ask). retainOn x table) p ∙ retain-first
 
 -- A STEP'S effect, by three tests: no refusal; one is due; it is dropped
-module _ (table : List Retained) (place time last number : ℕ) where
+module _ (table : List Retained) (place time last number : ℕ) (names : Names) where
   abbrev f : Retained
   f = recordAt table place
 
   abbrev drops : Effect
-  drops = changes place 0 (did failed time place (namesOf (pduOf f)) 0)
+  drops = changes place 0 (did failed time place names 0)
 
   abbrev sends : Effect
-  sends = changes place (f .count + 1) (did sent time place (namesOf (pduOf f)) (f .length))
+  sends = changes place (f .count + 1) (did sent time place names (f .length))
 
   abbrev theStep : Bool → Bool → Bool → Effect
   theStep b d r = cond b (cond d (cond r drops sends) (stays 0 time (length table))) (stays number last (length table))
@@ -194,6 +147,11 @@ module _ (table : List Retained) (place time last number : ℕ) where
   step-emitted true false r output g h = unless (ltb (length table) (length table)) output
   step-emitted false d r output g h = unless (ltb (length table) (length table)) output
 
+same-names : (table : List Retained) (place time last number : ℕ) (names names′ : Names) (b d r : Bool) → (d ≡ true → names ≡ names′)
+    → theStep table place time last number names b d r ≡ theStep table place time last number names′ b d r
+same-names table place time last number names names′ b true r e = ap (λ (x : Names). theStep table place time last number x b true r) (e refl)
+same-names table place time last number names names′ b false r e = refl
+
 -- a record that is sent fits
 fits : (d r : Bool) (a b : ℕ) (room : ℕ) (f : Retained) → eqb (a orElse b orElse (d && (not r && ltb room (f .length))) gives 77) 0 ≡ true → d ≡ true
     → r ≡ false → length (pduOf f) ≤ room
@@ -222,20 +180,40 @@ module _ (table : List Retained) (last time delay tries room : ℕ) where
   abbrev r : Bool
   r = isSpent (recordAt table place .count) tries
 
-  abbrev its : Effect
-  its = theStep table place time last number b d r
+  abbrev due-record : Retained
+  due-record = recordAt table place
 
-  step-is : effectOn (askStep last time delay tries room) table ≡ its
-  unfolding effectOn decideOf decideNumber stepNumber _orElse_
-  step-is = refl
+  abbrev named : Names
+  named = namesOf (pduOf due-record)
+
+  abbrev its : Effect
+  its = theStep table place time last number named b d r
+
+  abbrev asked : Ask
+  asked = askStep last time delay tries room
+
+  step-first : stepOn asked table ≡ stepAt asked (length table) place due-record
+  unfolding stepOn placeOf
+  step-first =
+      let n = length table in
+      looked asked n (λ b. sendNumber asked n (cond b place n) (recordAt table (cond b place n)))
+      (λ b. sendEffect asked n (cond b place n) (recordAt table (cond b place n))) (eqb n 16) refl
+
+  step-by-places : stepAt asked (length table) place due-record ≡ theStep table place time last number (placedNames due-record) b d r
+  unfolding decideOf decideNumber stepNumber _orElse_
+  step-by-places = refl
+
+  step-is : stepOn asked table ≡ its
+  step-is = step-first ∙ step-by-places ∙ same-names table place time last number (placedNames due-record) named b d r
+      (λ e. names-are due-record (due-used time delay due-record (first-passes (isDue time delay) table (ltb-true place (length table) e))))
 
   step-told : its .outcome ≡ retryStep table last time delay tries room
   unfolding retryStep
-  step-told = step-outcome table place time last number b d r
+  step-told = step-outcome table place time last number named b d r
 
   step-left : tableResent its table ≡ tableStepped table last time delay tries room
   unfolding tableStepped
-  step-left = step-stored table place time last number b d r
+  step-left = step-stored table place time last number named b d r
 
 module _ (table : List Retained) (last time delay tries : ℕ) (output : List ℕ) where
   abbrev it : Effect
@@ -246,13 +224,13 @@ module _ (table : List Retained) (last time delay tries : ℕ) (output : List �
   step-shown =
       let n = length output in
       let p = place table last time delay tries n in
-      step-emitted table p time last (number table last time delay tries n) (b table last time delay tries n) (d table last time delay tries n)
+      step-emitted table p time last (number table last time delay tries n) (named table last time delay tries n) (b table last time delay tries n) (d table last time delay tries n)
       (r table last time delay tries n) output (λ e. e) (λ e q s. fits (d table last time delay tries n) (r table last time delay tries n) _ _ n
       (recordAt table p) e q s)
       ∙ ap (λ (x : Outcome). cond (eqb (x .deed) sent) (over (pduOf (recordAt table p)) output) output) (step-told table last time delay tries n)
 
   pub step-tied : (a : Ask) (e : Effect) (after : List Retained) (shown : List ℕ) → a ≡ askStep last time delay tries (length output)
-      → e ≡ effectOn a table → (after ≡ tableResent e table) × (shown ≡ outputResent e table output)
+      → e ≡ stepOn a table → (after ≡ tableResent e table) × (shown ≡ outputResent e table output)
       → (e .outcome ≡ retryStep table last time delay tries (length output)) × (after ≡ tableStepped table last time delay tries (length output))
       × (shown ≡ outputStepped table last time delay tries output)
   step-tied a e after shown p q o = (
@@ -262,4 +240,4 @@ module _ (table : List Retained) (last time delay tries : ℕ) (output : List �
   )
     where
       is : e ≡ it
-      is = q ∙ ap (λ (x : Ask). effectOn x table) p ∙ step-is table last time delay tries (length output)
+      is = q ∙ ap (λ (x : Ask). stepOn x table) p ∙ step-is table last time delay tries (length output)

@@ -1,4 +1,4 @@
--- Only for the functions that the three operations are put together from: one decision on what the search found.
+-- Only for the functions that the operations are put together from: where a search ends, and one decision on what it found.
 use Prim.Native.Nat.{ℕ, _+_}
 use mathlib.Core.Bool.{Bool, true, false, not, cond, _&&_}
 use mathlib.Core.List.{List}
@@ -7,32 +7,37 @@ use lib.ListN.{length, set}
 use Rattle.octets.specs.Numbers.{_gives_, _orElse_}
 use Rattle.octets.specs.Octets.{placed}
 use Rattle.retained.specs.declared.Retained.{Retained}
-use Rattle.retained.specs.declared.Seek.{Seek}
 use Rattle.retained.specs.declared.Outcome.{Outcome}
 use Rattle.deciding.specs.declared.Kind.{Kind}
-use Rattle.deciding.specs.declared.Kind.the-variants.{Retain, Step, Free, Answer, Nothing}
+use Rattle.deciding.specs.declared.Kind.the-variants.{Seek, Answer, Nothing}
 use Rattle.deciding.specs.declared.Ask.{Ask}
 use Rattle.deciding.specs.declared.Effect.{Effect}
-use Rattle.retained.specs.Records.{unfit, pduOf, namesOf, freedRecord}
-use Rattle.retained.specs.Table.{tableSize, recordAt, isSpent, kept, sent, failed, freed, answered, noNames, numberAlone, did}
-use Rattle.retained.specs.Searching.{seenOf, foundIn}
+use Rattle.retained.specs.Records.{unfit, pduOf, namesOf, placedNames, isFree, isNamed, isDue, freedRecord}
+use Rattle.retained.specs.Table.{tableSize, first, recordAt, isSpent, kept, sent, failed, freed, answered, noNames, numberAlone, did}
+
+-- an answer and nothing seek no record
+abbrev pub seeks : Kind → Bool
+seeks Seek = true
+seeks Answer = false
+seeks Nothing = false
+
+-- where none is sought, and where there are not 16, a search begins past the last record, so that none is looked at
+abbrev pub searchStart : Ask → ℕ → ℕ
+searchStart a count = cond (seeks (a .kind) && eqb count tableSize) 0 count
+
+-- the place of the first record that passes a test, or of none
+unfoldable pub placeOf : (Retained → Bool) → Ask → List Retained → ℕ
+placeOf test a table = cond (seeks (a .kind) && eqb (length table) tableSize) (first test table) (length table)
 
 -- the refusals in 02's order: 10 and 11 before the table is looked at, 74, 73, then `late`, which is 75 or 72 of a PDU to retain and 77 of a PDU heard,
--- then those that depend on what was found
-abbrev pub kindNumber : Kind → Ask → Seek → ℕ
-kindNumber Retain a s = ltb (s .place) (s .count) gives 71 orElse not (ltb (s .free) (s .count)) gives 70
-kindNumber Step a s = (ltb (s .place) (s .count) && (not (isSpent (s .found .count) (a .tries)) && ltb (a .room) (s .found .length))) gives 77
-kindNumber Free a s = 0
-kindNumber Answer a s = 0
-kindNumber Nothing a s = 0
-
-unfoldable pub decideNumber : Ask → Seek → ℕ
-decideNumber a s =
+-- then the number that depends on what was found
+unfoldable pub decideNumber : Ask → ℕ → ℕ → ℕ
+decideNumber a count number =
     a .early
-    orElse not (eqb (s .count) tableSize) gives 74
+    orElse not (eqb count tableSize) gives 74
     orElse ltb (a .time) (a .last) gives 73
     orElse a .late
-    orElse kindNumber (a .kind) a s
+    orElse number
 
 -- no record changes: the place is past the last
 abbrev pub stays : ℕ → ℕ → ℕ → Effect
@@ -41,70 +46,56 @@ stays number last size = record { place = size; count = 0; outcome = numberAlone
 abbrev pub changes : ℕ → ℕ → Outcome → Effect
 changes place count outcome = record { place = place; count = count; outcome = outcome }
 
-abbrev pub effectOf : Kind → Ask → Seek → Effect
-effectOf Retain a s = changes (s .free) 0 (did kept (a .time) (s .free) (a .names) 0)
-effectOf Step a s =
-    cond (ltb (s .place) (s .count))
-    (cond (isSpent (s .found .count) (a .tries))
-    (changes (s .place) 0 (did failed (a .time) (s .place) (s .found .names) 0))
-    (changes (s .place) (s .found .count + 1) (did sent (a .time) (s .place) (s .found .names) (s .found .length))))
-    (stays 0 (a .time) (s .count))
-effectOf Free a s =
-    cond (ltb (s .place) (s .count)) (changes (s .place) 0 (did freed (a .time) (s .place) (a .names) 0))
-    (stays 0 (a .time) (s .count))
-effectOf Answer a s = record { place = s .count; count = 0; outcome = did answered (a .time) 0 (a .names) (a .length) }
-effectOf Nothing a s = stays 0 (a .time) (s .count)
+unfoldable pub decideOf : Ask → ℕ → ℕ → Effect → Effect
+decideOf a count number effect = cond (eqb (decideNumber a count number) 0) effect (stays (decideNumber a count number) (a .last) count)
 
-unfoldable pub decideOf : Ask → Seek → Effect
-decideOf a s = cond (eqb (decideNumber a s) 0) (effectOf (a .kind) a s) (stays (decideNumber a s) (a .last) (s .count))
+-- retaining, by the places of the first record with the PDU's names and of the first free one
+abbrev pub keepNumber : ℕ → ℕ → ℕ → ℕ
+keepNumber count named free = ltb named count gives 71 orElse not (ltb free count) gives 70
 
--- the search that is begun: a step seeks by time, the others by names. Only retaining seeks a free record. An answer and nothing seek none
-abbrev pub isStep : Kind → Bool
-isStep Retain = false
-isStep Step = true
-isStep Free = false
-isStep Answer = false
-isStep Nothing = false
+abbrev pub retainAt : Ask → ℕ → ℕ → ℕ → Effect
+retainAt a count named free = decideOf a count (keepNumber count named free) (changes free 0 (did kept (a .time) free (a .names) 0))
 
-abbrev pub isRetain : Kind → Bool
-isRetain Retain = true
-isRetain Step = false
-isRetain Free = false
-isRetain Answer = false
-isRetain Nothing = false
+-- a step, by the place of the first record that is due, and that record
+abbrev pub sendNumber : Ask → ℕ → ℕ → Retained → ℕ
+sendNumber a count place record′ = (ltb place count && (not (isSpent (record′ .count) (a .tries)) && ltb (a .room) (record′ .length))) gives 77
 
-abbrev pub seeks : Kind → Bool
-seeks Retain = true
-seeks Step = true
-seeks Free = true
-seeks Answer = false
-seeks Nothing = false
+abbrev pub sendEffect : Ask → ℕ → ℕ → Retained → Effect
+sendEffect a count place record′ =
+    cond (ltb place count)
+    (cond (isSpent (record′ .count) (a .tries))
+    (changes place 0 (did failed (a .time) place (placedNames record′) 0))
+    (changes place (record′ .count + 1) (did sent (a .time) place (placedNames record′) (record′ .length))))
+    (stays 0 (a .time) count)
 
-abbrev pub begunAt : Ask → ℕ → Bool → ℕ → ℕ → Seek
-begunAt a count byTime free place =
-    record {
-      «by_time» = byTime;
-      names = a .names;
-      time = a .time;
-      delay = a .delay;
-      count = count;
-      free = free;
-      place = place;
-      found = seenOf freedRecord;
-    }
+abbrev pub stepAt : Ask → ℕ → ℕ → Retained → Effect
+stepAt a count place record′ = decideOf a count (sendNumber a count place record′) (sendEffect a count place record′)
 
-abbrev pub begunFor : Kind → Ask → ℕ → Seek
-begunFor kind a count = begunAt a count (isStep kind) (cond (isRetain kind) count 0) (cond (seeks kind) count 0)
+-- a PDU that was heard, by the place of the first record with the names that it seeks
+abbrev pub effectOf : Kind → Ask → ℕ → ℕ → Effect
+effectOf Seek a count place = cond (ltb place count) (changes place 0 (did freed (a .time) place (a .names) 0)) (stays 0 (a .time) count)
+effectOf Answer a count place = changes count 0 (did answered (a .time) 0 (a .names) (a .length))
+effectOf Nothing a count place = stays 0 (a .time) count
+
+abbrev pub hearAt : Ask → ℕ → ℕ → Effect
+hearAt a count place = decideOf a count 0 (effectOf (a .kind) a count place)
 
 -- the same on a table
-unfoldable pub effectOn : Ask → List Retained → Effect
-effectOn a table = decideOf a (foundIn (begunFor (a .kind) a (length table)) table)
+unfoldable pub retainOn : Ask → List Retained → Effect
+retainOn a table = retainAt a (length table) (placeOf (isNamed (a .names)) a table) (placeOf isFree a table)
+
+unfoldable pub stepOn : Ask → List Retained → Effect
+stepOn a table =
+    stepAt a (length table) (placeOf (isDue (a .time) (a .delay)) a table) (recordAt table (placeOf (isDue (a .time) (a .delay)) a table))
+
+unfoldable pub hearOn : Ask → List Retained → Effect
+hearOn a table = hearAt a (length table) (placeOf (isNamed (a .names)) a table)
 
 -- what is asked
 abbrev pub askRetain : ℕ → ℕ → List ℕ → Ask
 askRetain last time bytes =
     record {
-      kind = Retain;
+      kind = Seek;
       early = 0;
       last = last;
       time = time;
@@ -119,7 +110,7 @@ askRetain last time bytes =
 abbrev pub askStep : ℕ → ℕ → ℕ → ℕ → ℕ → Ask
 askStep last time delay tries room =
     record {
-      kind = Step;
+      kind = Seek;
       early = 0;
       last = last;
       time = time;

@@ -1,19 +1,17 @@
-// What is asked of a table of retained PDUs, and what is decided on what the search found, by value.
+// What is asked of a table of retained PDUs, and what is decided on what a search found, by value.
 use retained::Names;
 use retained::Outcome;
 use retained::Retained;
-use retained::Seek;
-use retained::Seen;
 ghost use mathlib.Core.Path.{_≡_};
+ghost use Rattle.retained.specs.Records.{isFree, isNamed, isDue};
 ghost use Rattle.retained.specs.Table.{did};
-ghost use Rattle.deciding.specs.Deciding.{kindNumber, decideNumber, stays, changes, effectOf, decideOf, askRetain, askStep, emitted, leftOf, begunFor, begunAt};
-ghost use Rattle.deciding.specs.declared.Kind.the-variants.{Retain, Step, Free, Answer};
+ghost use Rattle.deciding.specs.Deciding.{seeks, searchStart, decideNumber, stays, changes, decideOf, keepNumber, retainAt, sendNumber, sendEffect, stepAt};
+ghost use Rattle.deciding.specs.Deciding.{effectOf, hearAt, askRetain, askStep, emitted, leftOf};
+ghost use Rattle.deciding.specs.declared.Kind.the-variants.{Seek, Answer};
 
-// What is asked of a table.
+// What an ask comes to: a record is sought, a PDU that was heard is answered, or nothing is done.
 pub enum Kind {
-    Retain,
-    Step,
-    Free,
+    Seek,
     Answer,
     Nothing,
 }
@@ -46,7 +44,7 @@ pub fn ask_retain(last: u64, time: u64, bytes: &[u8]) -> Ask
     let late = retained::unfit(bytes);
     let names = retained::names_of(bytes);
     Ask {
-        kind: Kind::Retain,
+        kind: Kind::Seek,
         early: 0,
         late,
         last,
@@ -65,7 +63,7 @@ pub fn ask_step(last: u64, time: u64, delay: u64, tries: u64, room: usize) -> As
 {
     let names = no_names();
     Ask {
-        kind: Kind::Step,
+        kind: Kind::Seek,
         early: 0,
         late: 0,
         last,
@@ -88,59 +86,135 @@ fn no_names() -> Names
     }
 }
 
-// The search that an ask needs, over so many records, before any of them. What it does not seek counts as met. Document 02, W-210.
-pub fn begin_for(a: Ask, count: usize) -> Seek
-    ensures { λ r. ⌜ r ≡ begunFor (a .kind) a count ⌝ }
+// Where a search for an ask begins, among so many records: past the last if there are not 16 or the ask seeks none. Document 02, W-210.
+pub fn start(a: Ask, count: usize) -> usize
+    ensures { λ r. ⌜ r ≡ searchStart a count ⌝ }
+{
+    if !seeks(a) {
+        return count;
+    }
+    if count == 16 {
+        return 0;
+    }
+    count
+}
+
+fn seeks(a: Ask) -> bool
+    ensures { λ r. ⌜ r ≡ seeks (a .kind) ⌝ }
 {
     let kind = a.kind;
     match kind {
-        Kind::Retain => begun(a, count, false, count, count),
-        Kind::Step => begun(a, count, true, 0, count),
-        Kind::Free => begun(a, count, false, 0, count),
-        Kind::Answer => begun(a, count, false, 0, 0),
-        Kind::Nothing => begun(a, count, false, 0, 0),
+        Kind::Seek => true,
+        Kind::Answer => false,
+        Kind::Nothing => false,
     }
 }
 
-fn begun(a: Ask, count: usize, by_time: bool, free: usize, place: usize) -> Seek
-    ensures { λ r. ⌜ r ≡ begunAt a count «by_time» free place ⌝ }
+// Whether a record is due at the ask's time. Document 02, W-210.
+pub fn is_due(a: Ask, r: Retained) -> bool
+    ensures { λ x. ⌜ x ≡ isDue (a .time) (a .delay) r ⌝ }
+{
+    retained::in_use::is_due(r, a.time, a.delay)
+}
+
+// Whether a record has the ask's names. Document 02, W-210.
+pub fn is_named(a: Ask, r: Retained) -> bool
+    ensures { λ x. ⌜ x ≡ isNamed (a .names) r ⌝ }
 {
     let names = a.names;
-    let found = Seen {
-        names: no_names(),
-        length: 0,
-        count: 0,
-    };
-    Seek {
-        by_time,
-        names,
-        time: a.time,
-        delay: a.delay,
-        count,
-        free,
-        place,
-        found,
-    }
+    retained::in_use::is_named(r, names)
 }
 
-// What an ask does to a table in which the search found this: refusals 74, 73, 75, 72, 71, 70 and 77, each where it can be given. Document 02, W-210.
-pub fn decide(a: Ask, s: Seek) -> Effect
-    ensures { λ r. ⌜ r ≡ decideOf a s ⌝ }
+// Whether a record is free, for any ask. Document 02, W-210.
+pub fn is_free(a: Ask, r: Retained) -> bool
+    ensures { λ x. ⌜ x ≡ isFree r ⌝ }
 {
-    let number = number_of(a, s);
-    if number != 0 {
-        return unchanged(number, a.last, s.count);
-    }
-    effect_of(a, s)
+    !retained::in_use::is_used(r)
 }
 
-fn number_of(a: Ask, s: Seek) -> u8
-    ensures { λ r. ⌜ r ≡ decideNumber a s ⌝ }
+// What retaining does if the first record with the PDU's names and the first free one have these places: refusals 71 and 70. Document 02, W-210.
+pub fn retain(a: Ask, count: usize, named: usize, free: usize) -> Effect
+    ensures { λ r. ⌜ r ≡ retainAt a count named free ⌝ }
+{
+    let number = retain_number(count, named, free);
+    let names = a.names;
+    let effect = changed(free, 0, 1, a.time, names, 0);
+    decide(a, count, number, effect)
+}
+
+fn retain_number(count: usize, named: usize, free: usize) -> u8
+    ensures { λ r. ⌜ r ≡ keepNumber count named free ⌝ }
+{
+    if named < count {
+        return 71;
+    }
+    if free < count {
+        return 0;
+    }
+    70
+}
+
+// What a step does if the first record that is due has this place, and is this one: refusal 77. Document 02, W-210.
+pub fn step(a: Ask, count: usize, place: usize, r: Retained) -> Effect
+    ensures { λ x. ⌜ x ≡ stepAt a count place r ⌝ }
+{
+    let number = step_number(a, count, place, r);
+    let effect = step_effect(a, count, place, r);
+    decide(a, count, number, effect)
+}
+
+fn step_number(a: Ask, count: usize, place: usize, r: Retained) -> u8
+    ensures { λ x. ⌜ x ≡ sendNumber a count place r ⌝ }
+{
+    if place < count {
+        if r.count < a.tries {
+            if a.room < r.length {
+                return 77;
+            }
+        }
+    }
+    0
+}
+
+fn step_effect(a: Ask, count: usize, place: usize, r: Retained) -> Effect
+    ensures { λ x. ⌜ x ≡ sendEffect a count place r ⌝ }
+{
+    if place < count {
+        let names = retained::in_use::names_in(r);
+        if r.count < a.tries {
+            return changed(place, r.count + 1, 2, a.time, names, r.length);
+        }
+        return changed(place, 0, 3, a.time, names, 0);
+    }
+    unchanged(0, a.time, count)
+}
+
+// What a PDU that was heard does if the first record with the names that it seeks has this place. Document 02, W-210.
+pub fn hear(a: Ask, count: usize, place: usize) -> Effect
+    ensures { λ r. ⌜ r ≡ hearAt a count place ⌝ }
+{
+    let effect = effect_of(a, count, place);
+    decide(a, count, 0, effect)
+}
+
+// An effect, unless the ask or the number refuses it: 10 and 11, 74, 73, 75 or 72 or 77 of the ask, then the number.
+fn decide(a: Ask, count: usize, number: u8, effect: Effect) -> Effect
+    ensures { λ r. ⌜ r ≡ decideOf a count number effect ⌝ }
+{
+    let refused = number_of(a, count, number);
+    if refused != 0 {
+        return unchanged(refused, a.last, count);
+    }
+    effect
+}
+
+fn number_of(a: Ask, count: usize, number: u8) -> u8
+    ensures { λ r. ⌜ r ≡ decideNumber a count number ⌝ }
 {
     if a.early != 0 {
         return a.early;
     }
-    if s.count != 16 {
+    if count != 16 {
         return 74;
     }
     if a.time < a.last {
@@ -149,94 +223,32 @@ fn number_of(a: Ask, s: Seek) -> u8
     if a.late != 0 {
         return a.late;
     }
-    kind_number(a, s)
+    number
 }
 
-fn kind_number(a: Ask, s: Seek) -> u8
-    ensures { λ r. ⌜ r ≡ kindNumber (a .kind) a s ⌝ }
+fn effect_of(a: Ask, count: usize, place: usize) -> Effect
+    ensures { λ r. ⌜ r ≡ effectOf (a .kind) a count place ⌝ }
 {
     let kind = a.kind;
     match kind {
-        Kind::Retain => retain_number(a, s),
-        Kind::Step => step_number(a, s),
-        Kind::Free => 0,
-        Kind::Answer => 0,
-        Kind::Nothing => 0,
+        Kind::Seek => free_effect(a, count, place),
+        Kind::Answer => answer_effect(a, count),
+        Kind::Nothing => unchanged(0, a.time, count),
     }
 }
 
-fn retain_number(a: Ask, s: Seek) -> u8
-    ensures { λ r. ⌜ r ≡ kindNumber Retain a s ⌝ }
+fn free_effect(a: Ask, count: usize, place: usize) -> Effect
+    ensures { λ r. ⌜ r ≡ effectOf Seek a count place ⌝ }
 {
-    if s.place < s.count {
-        return 71;
-    }
-    if s.free < s.count {
-        return 0;
-    }
-    70
-}
-
-fn step_number(a: Ask, s: Seek) -> u8
-    ensures { λ r. ⌜ r ≡ kindNumber Step a s ⌝ }
-{
-    let found = s.found;
-    if s.place < s.count {
-        if found.count < a.tries {
-            if a.room < found.length {
-                return 77;
-            }
-        }
-    }
-    0
-}
-
-fn effect_of(a: Ask, s: Seek) -> Effect
-    ensures { λ r. ⌜ r ≡ effectOf (a .kind) a s ⌝ }
-{
-    let kind = a.kind;
-    match kind {
-        Kind::Retain => retain_effect(a, s),
-        Kind::Step => step_effect(a, s),
-        Kind::Free => free_effect(a, s),
-        Kind::Answer => answer_effect(a, s),
-        Kind::Nothing => unchanged(0, a.time, s.count),
-    }
-}
-
-fn retain_effect(a: Ask, s: Seek) -> Effect
-    ensures { λ r. ⌜ r ≡ effectOf Retain a s ⌝ }
-{
-    let names = a.names;
-    changed(s.free, 0, 1, a.time, names, 0)
-}
-
-fn step_effect(a: Ask, s: Seek) -> Effect
-    ensures { λ r. ⌜ r ≡ effectOf Step a s ⌝ }
-{
-    if s.place < s.count {
-        let seen = s.found;
-        let names = seen.names;
-        if seen.count < a.tries {
-            return changed(s.place, seen.count + 1, 2, a.time, names, seen.length);
-        }
-        return changed(s.place, 0, 3, a.time, names, 0);
-    }
-    unchanged(0, a.time, s.count)
-}
-
-fn free_effect(a: Ask, s: Seek) -> Effect
-    ensures { λ r. ⌜ r ≡ effectOf Free a s ⌝ }
-{
-    if s.place < s.count {
+    if place < count {
         let names = a.names;
-        return changed(s.place, 0, 4, a.time, names, 0);
+        return changed(place, 0, 4, a.time, names, 0);
     }
-    unchanged(0, a.time, s.count)
+    unchanged(0, a.time, count)
 }
 
-fn answer_effect(a: Ask, s: Seek) -> Effect
-    ensures { λ r. ⌜ r ≡ effectOf Answer a s ⌝ }
+fn answer_effect(a: Ask, count: usize) -> Effect
+    ensures { λ r. ⌜ r ≡ effectOf Answer a count 0 ⌝ }
 {
     let names = a.names;
     let outcome = Outcome {
@@ -248,7 +260,7 @@ fn answer_effect(a: Ask, s: Seek) -> Effect
         length: a.length,
     };
     Effect {
-        place: s.count,
+        place: count,
         count: 0,
         outcome,
     }

@@ -25,7 +25,7 @@ pub extern "C" fn mant_retain(table: &mut [Retained], last: u64, time: u64, pdu:
     ensures { λ r. ⌜ (r ≡ retain (now (table .entry)) last time (now (pdu .entry)))
         × (now (table .exit) ≡ tableRetained (now (table .entry)) last time (now (pdu .entry))) ⌝ }
 {
-    let effect = reliable::find(table, deciding::ask_retain(last, time, pdu));
+    let effect = reliable::find_room(table, deciding::ask_retain(last, time, pdu));
     reliable::store(table, effect.place, retained::retained_record(time, pdu));
     effect.outcome
 }
@@ -46,7 +46,7 @@ pub extern "C" fn mant_retry(
         × (now (table .exit) ≡ tableStepped (now (table .entry)) last time delay tries (length (now (output .entry))))
         × (now (output .exit) ≡ outputStepped (now (table .entry)) last time delay tries (now (output .entry))) ⌝ }
 {
-    let effect = reliable::find(
+    let effect = reliable::find_due(
         table,
         deciding::ask_step(last, time, delay, tries, output.len()),
     );

@@ -6,10 +6,20 @@ use Rattle.deciding.proofs.ask_retain.Reads as ask-retain-reads
 use Rattle.deciding.proofs.ask_retain.Kinds as ask-retain-kinds
 use Rattle.deciding.proofs.ask_step.Reads as ask-step-reads
 use Rattle.deciding.proofs.ask_step.Kinds as ask-step-kinds
-use Rattle.deciding.proofs.begin_for.Reads as begin-for-reads
-use Rattle.deciding.proofs.begin_for.Kinds as begin-for-kinds
-use Rattle.deciding.proofs.decide.Reads as decide-reads
-use Rattle.deciding.proofs.decide.Kinds as decide-kinds
+use Rattle.deciding.proofs.start.Reads as start-reads
+use Rattle.deciding.proofs.start.Kinds as start-kinds
+use Rattle.deciding.proofs.is_due.Reads as is-due-reads
+use Rattle.deciding.proofs.is_due.Kinds as is-due-kinds
+use Rattle.deciding.proofs.is_named.Reads as is-named-reads
+use Rattle.deciding.proofs.is_named.Kinds as is-named-kinds
+use Rattle.deciding.proofs.is_free.Reads as is-free-reads
+use Rattle.deciding.proofs.is_free.Kinds as is-free-kinds
+use Rattle.deciding.proofs.retain.Reads as retain-reads
+use Rattle.deciding.proofs.retain.Kinds as retain-kinds
+use Rattle.deciding.proofs.step.Reads as step-reads
+use Rattle.deciding.proofs.step.Kinds as step-kinds
+use Rattle.deciding.proofs.hear.Reads as hear-reads
+use Rattle.deciding.proofs.hear.Kinds as hear-kinds
 use Rattle.deciding.proofs.send.Reads as send-reads
 use Rattle.deciding.proofs.send.Kinds as send-kinds
 
@@ -19,11 +29,26 @@ ask-retain = (λ κs a. tt, λ κs a x y s t p q. p ∙ sym q)
 pub ask-step : Promised 0 ask-step-kinds.ps ask-step-kinds.r ask-step-reads.Asked ask-step-reads.Post (λ κs x. x)
 ask-step = (λ κs a. tt, λ κs a x y s t p q. p ∙ sym q)
 
-pub begin-for : Promised 0 begin-for-kinds.ps begin-for-kinds.r begin-for-reads.Asked begin-for-reads.Post (λ κs x. x)
-begin-for = (λ κs a. tt, λ κs a x y s t p q. p ∙ sym q)
+pub start : Promised 0 start-kinds.ps start-kinds.r start-reads.Asked start-reads.Post (λ κs x. x)
+start = (λ κs a. tt, λ κs a x y s t p q. p ∙ sym q)
 
-pub decide : Promised 0 decide-kinds.ps decide-kinds.r decide-reads.Asked decide-reads.Post (λ κs x. x)
-decide = (λ κs a. tt, λ κs a x y s t p q. p ∙ sym q)
+pub is-due : Promised 0 is-due-kinds.ps is-due-kinds.r is-due-reads.Asked is-due-reads.Post (λ κs x. x)
+is-due = (λ κs a. tt, λ κs a x y s t p q. p ∙ sym q)
+
+pub is-named : Promised 0 is-named-kinds.ps is-named-kinds.r is-named-reads.Asked is-named-reads.Post (λ κs x. x)
+is-named = (λ κs a. tt, λ κs a x y s t p q. p ∙ sym q)
+
+pub is-free : Promised 0 is-free-kinds.ps is-free-kinds.r is-free-reads.Asked is-free-reads.Post (λ κs x. x)
+is-free = (λ κs a. tt, λ κs a x y s t p q. p ∙ sym q)
+
+pub retain : Promised 0 retain-kinds.ps retain-kinds.r retain-reads.Asked retain-reads.Post (λ κs x. x)
+retain = (λ κs a. tt, λ κs a x y s t p q. p ∙ sym q)
+
+pub step : Promised 0 step-kinds.ps step-kinds.r step-reads.Asked step-reads.Post (λ κs x. x)
+step = (λ κs a. tt, λ κs a x y s t p q. p ∙ sym q)
+
+pub hear : Promised 0 hear-kinds.ps hear-kinds.r hear-reads.Asked hear-reads.Post (λ κs x. x)
+hear = (λ κs a. tt, λ κs a x y s t p q. p ∙ sym q)
 
 pub send : PromisedWithOutput 1 send-kinds.ps send-kinds.r send-reads.Asked send-reads.Post
     (λ κs s. now (s .0))

@@ -4,7 +4,8 @@ use base.Logic.{emp, id⊢}
 use denote.Ref.{now}
 use Rattle.promises.specs.Promise.{both, PromisedInLogic, PromisedInLogicWithOutput}
 use Rattle.promises.proofs.View.{both as both-facts}
-use Rattle.reliable.proofs.find as find-contract
+use Rattle.reliable.proofs.find_room as find-room-contract
+use Rattle.reliable.proofs.find_due as find-due-contract
 use Rattle.reliable.proofs.store as store-contract
 use Rattle.reliable.proofs.free as free-contract
 use Rattle.reliable.proofs.resend as resend-contract
@@ -13,8 +14,15 @@ use Rattle.mant.proofs.reliable_messages.mant_retry as mant-retry-contract
 use Rattle.mant.proofs.reliable_messages.mant_acknowledge as mant-acknowledge-contract
 use Rattle.mant.proofs.reliable_messages.mant_hear_reliably as mant-hear-reliably-contract
 
-pub find : PromisedInLogic find-contract.ended (λ M 𝓤. find-contract.clauses 𝓤) (λ κs x. x)
-find =
+pub find-room : PromisedInLogic find-room-contract.ended (λ M 𝓤. find-room-contract.clauses 𝓤) (λ κs x. x)
+find-room =
+    record {
+      unconditional = λ M 𝓤 H A mem run κs a g. id⊢ 𝓤 (emp 𝓤);
+      determined = λ M 𝓤 H A mem run κs a g h x y s t. both-facts 𝓤 (λ p q. p ∙ sym q);
+    }
+
+pub find-due : PromisedInLogic find-due-contract.ended (λ M 𝓤. find-due-contract.clauses 𝓤) (λ κs x. x)
+find-due =
     record {
       unconditional = λ M 𝓤 H A mem run κs a g. id⊢ 𝓤 (emp 𝓤);
       determined = λ M 𝓤 H A mem run κs a g h x y s t. both-facts 𝓤 (λ p q. p ∙ sym q);

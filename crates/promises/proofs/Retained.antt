@@ -11,10 +11,14 @@ use Rattle.retained.proofs.retained_record.Reads as retained-record-reads
 use Rattle.retained.proofs.retained_record.Kinds as retained-record-kinds
 use Rattle.retained.proofs.freed_record.Reads as freed-record-reads
 use Rattle.retained.proofs.freed_record.Kinds as freed-record-kinds
-use Rattle.retained.proofs.goes_on.Reads as goes-on-reads
-use Rattle.retained.proofs.goes_on.Kinds as goes-on-kinds
-use Rattle.retained.proofs.look.Reads as look-reads
-use Rattle.retained.proofs.look.Kinds as look-kinds
+use Rattle.retained.proofs.in_use.is_used.Reads as is-used-reads
+use Rattle.retained.proofs.in_use.is_used.Kinds as is-used-kinds
+use Rattle.retained.proofs.in_use.names_in.Reads as names-in-reads
+use Rattle.retained.proofs.in_use.names_in.Kinds as names-in-kinds
+use Rattle.retained.proofs.in_use.is_named.Reads as is-named-reads
+use Rattle.retained.proofs.in_use.is_named.Kinds as is-named-kinds
+use Rattle.retained.proofs.in_use.is_due.Reads as is-due-reads
+use Rattle.retained.proofs.in_use.is_due.Kinds as is-due-kinds
 
 pub unfit : Promised 1 unfit-kinds.ps unfit-kinds.r unfit-reads.Asked unfit-reads.Post (λ κs x. x)
 unfit = (λ κs a. tt, λ κs a x y s t p q. p ∙ sym q)
@@ -31,8 +35,14 @@ retained-record = (λ κs a. tt, λ κs a x y s t p q. p ∙ sym q)
 pub freed-record : Promised 0 freed-record-kinds.ps freed-record-kinds.r freed-record-reads.Asked freed-record-reads.Post (λ κs x. x)
 freed-record = (λ κs a. tt, λ κs a x y s t p q. p ∙ sym q)
 
-pub goes-on : Promised 0 goes-on-kinds.ps goes-on-kinds.r goes-on-reads.Asked goes-on-reads.Post (λ κs x. x)
-goes-on = (λ κs a. tt, λ κs a x y s t p q. p ∙ sym q)
+pub is-used : Promised 0 is-used-kinds.ps is-used-kinds.r is-used-reads.Asked is-used-reads.Post (λ κs x. x)
+is-used = (λ κs a. tt, λ κs a x y s t p q. p ∙ sym q)
 
-pub look : Promised 0 look-kinds.ps look-kinds.r look-reads.Asked look-reads.Post (λ κs x. x)
-look = (λ κs a. tt, λ κs a x y s t p q. p ∙ sym q)
+pub names-in : Promised 0 names-in-kinds.ps names-in-kinds.r names-in-reads.Asked names-in-reads.Post (λ κs x. x)
+names-in = (λ κs a. tt, λ κs a x y s t p q. p ∙ sym q)
+
+pub is-named : Promised 0 is-named-kinds.ps is-named-kinds.r is-named-reads.Asked is-named-reads.Post (λ κs x. x)
+is-named = (λ κs a. tt, λ κs a x y s t p q. p ∙ sym q)
+
+pub is-due : Promised 0 is-due-kinds.ps is-due-kinds.r is-due-reads.Asked is-due-reads.Post (λ κs x. x)
+is-due = (λ κs a. tt, λ κs a x y s t p q. p ∙ sym q)

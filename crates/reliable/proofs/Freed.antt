@@ -27,7 +27,7 @@ use denote.Triple.Clauses.{lasts}
 use Rattle.retained.specs.declared.Retained.{Retained}
 use Rattle.retained.specs.declared.Outcome.{Outcome}
 use Rattle.deciding.specs.declared.Ask.{Ask}
-use Rattle.deciding.specs.Deciding.{effectOn, tableFreed}
+use Rattle.deciding.specs.Deciding.{hearOn, tableFreed}
 use Rattle.retained.proofs.Retained as T
 use Rattle.retained.proofs.Outcome as O
 use Rattle.retained.proofs.Outcome.Laws as O′
@@ -63,7 +63,7 @@ module _ {M : Type 1} (𝓤 : URA M) (H : Heap 𝓤) (A : Atoms 𝓤) (W : Given
   last-list zs = qed W (‵ (Lasts zs) ∷ []) ∵ fsplit ! $ move ! (1 ∷ []) $ drop ! $ done !
 
   abbrev pub Freed : Outcome → List Retained → Type 0
-  Freed r zs = (r ≡ effectOn a ys .outcome) × (zs ≡ tableFreed (effectOn a ys) ys)
+  Freed r zs = (r ≡ hearOn a ys .outcome) × (zs ≡ tableFreed (hearOn a ys) ys)
 
   pub freed : {K : Type 0} {Γ : List (Item 𝓤)} {E : Env 𝓤 H} {C : Calls 𝓤 H} {Λ : Loops 𝓤 H} {xs : List Operand} {d : Place} {rest : Body} {p : Post 𝓤 H}
       → K → FmC 𝓤 H (W .laws) C → Triple 𝓤 (C free-def.name) (Free 𝓤 H A mem run) → IsQ a

@@ -21,15 +21,12 @@ use denote.Steps.{owned}
 use denote.Struct.Laws as LL
 use Rattle.retained.specs.declared.Retained.{Retained}
 use Rattle.retained.specs.declared.Outcome.{Outcome}
-use Rattle.retained.specs.declared.Seek.{Seek}
 use Rattle.deciding.specs.declared.Ask.{Ask}
 use Rattle.deciding.specs.declared.Effect.{Effect}
 use Rattle.retained.proofs.Retained as T
 use Rattle.retained.proofs.Retained.Laws as T′
 use Rattle.retained.proofs.Outcome as O
 use Rattle.retained.proofs.Outcome.Laws as O′
-use Rattle.retained.proofs.Seek as S
-use Rattle.retained.proofs.Seek.Laws as S′
 use Rattle.deciding.proofs.Ask as Q
 use Rattle.deciding.proofs.Ask.Laws as Q′
 use Rattle.deciding.proofs.Effect as F
@@ -48,9 +45,6 @@ tval = LL.val T.the-type T′.the-laws
 abbrev pub oval : Outcome → Val
 oval = LL.val O.the-type O′.the-laws
 
-abbrev pub sval : Seek → Val
-sval = LL.val S.the-type S′.the-laws
-
 abbrev pub qval : Ask → Val
 qval = LL.val Q.the-type Q′.the-laws
 
@@ -62,9 +56,6 @@ IsT r = Is T.the-row r (tval r ∷ [])
 
 abbrev pub IsO : Outcome → Type 0
 IsO r = Is O.the-row r (oval r ∷ [])
-
-abbrev pub IsS : Seek → Type 0
-IsS s = Is S.the-row s (sval s ∷ [])
 
 abbrev pub IsQ : Ask → Type 0
 IsQ a = Is Q.the-row a (qval a ∷ [])
@@ -86,9 +77,6 @@ module _ {M : Type 1} {𝓤 : URA M} {H : Heap 𝓤} {A : Atoms 𝓤} (W : Given
   pub typed-o : (r : Outcome) → IsO r → Holds (hasTy O′.mir (oval r)) × WT (oval r)
   typed-o r g = LL.lawful O.the-type O′.the-laws 𝓤 H A W .typed r _ g .0
 
-  pub typed-s : (s : Seek) → IsS s → Holds (hasTy S′.mir (sval s)) × WT (sval s)
-  typed-s s g = LL.lawful S.the-type S′.the-laws 𝓤 H A W .typed s _ g .0
-
   pub typed-q : (a : Ask) → IsQ a → Holds (hasTy Q′.mir (qval a)) × WT (qval a)
   typed-q a g = LL.lawful Q.the-type Q′.the-laws 𝓤 H A W .typed a _ g .0
 
@@ -104,9 +92,6 @@ module _ {M : Type 1} {𝓤 : URA M} {H : Heap 𝓤} {A : Atoms 𝓤} {K : Type 
 
   pub own-o : K → (r : Outcome) → IsO r → Step K W (‵ (O.the-row .own r (oval r ∷ [])) ∷ Γ) G Γ G
   own-o t r g = owned t O.the-row (Is O.the-row) (LL.makes O.the-type O′.the-plain 𝓤 H A) r _ g
-
-  pub own-s : K → (s : Seek) → IsS s → Step K W (‵ (S.the-row .own s (sval s ∷ [])) ∷ Γ) G Γ G
-  own-s t s g = owned t S.the-row (Is S.the-row) (LL.makes S.the-type S′.the-plain 𝓤 H A) s _ g
 
   pub own-q : K → (a : Ask) → IsQ a → Step K W (‵ (Q.the-row .own a (qval a ∷ [])) ∷ Γ) G Γ G
   own-q t a g = owned t Q.the-row (Is Q.the-row) (LL.makes Q.the-type Q′.the-plain 𝓤 H A) a _ g

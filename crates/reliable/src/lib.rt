@@ -3,44 +3,76 @@ use deciding::Ask;
 use deciding::Effect;
 use retained::Outcome;
 use retained::Retained;
-use retained::Seek;
 ghost use mathlib.Core.Path.{_≡_};
-ghost use Prim.Native.Nat.{_<_};
-ghost use lib.ListN.{length, getD, set};
-ghost use Rattle.retained.specs.Records.{freedRecord};
-ghost use Rattle.retained.specs.Searching.{scanOf};
-ghost use Rattle.deciding.specs.Deciding.{effectOn, tableFreed, tableResent, outputResent};
+ghost use lib.ListN.{set};
+ghost use Rattle.retained.specs.Records.{isFree, isNamed, isDue};
+ghost use Rattle.retained.specs.Table.{recordAt};
+ghost use Rattle.deciding.specs.Deciding.{placeOf, retainOn, stepOn, hearOn, tableFreed, tableResent, outputResent};
 
-fn get(recs: &[Retained], i: usize) -> Retained
-    requires { ⌜ i < length (now recs) ⌝ }
-    ensures { λ r. ⌜ r ≡ getD (now (recs .entry)) i freedRecord ⌝ }
+// The record at a place; a free one where there is none.
+fn get(recs: &[Retained], place: usize) -> Retained
+    ensures { λ r. ⌜ r ≡ recordAt (now (recs .entry)) place ⌝ }
 {
-    recs[i]
+    if place < recs.len() {
+        return recs[place];
+    }
+    retained::freed_record()
 }
 
-// The one loop over the records; it ends at the one that is sought.
-fn scan(recs: &[Retained], q: Seek) -> Seek
-    ensures { λ x. ⌜ x ≡ scanOf 0 (now (recs .entry)) q ⌝ }
+fn first_due(recs: &[Retained], a: Ask) -> usize
+    ensures { λ r. ⌜ r ≡ placeOf (isDue (a .time) (a .delay)) a (now (recs .entry)) ⌝ }
 {
-    let mut s = q;
-    let mut i = 0;
-    while retained::goes_on(s, i, recs.len()) {
-        s = retained::look(s, get(recs, i), i);
+    let mut i = deciding::start(a, recs.len());
+    while i < recs.len() {
+        if deciding::is_due(a, get(recs, i)) {
+            return i;
+        }
         i += 1;
     }
-    s
+    i
 }
 
-// What an ask does to the table: the search, and the decision on what it found. Nothing is stored. No record is looked at where there are not 16, nor where
-// none is sought. Document 02, W-210.
-pub fn find(recs: &[Retained], a: Ask) -> Effect
-    ensures { λ x. ⌜ x ≡ effectOn a (now (recs .entry)) ⌝ }
+fn first_named(recs: &[Retained], a: Ask) -> usize
+    ensures { λ r. ⌜ r ≡ placeOf (isNamed (a .names)) a (now (recs .entry)) ⌝ }
 {
-    let begun = deciding::begin_for(a, recs.len());
-    if recs.len() == 16 {
-        return deciding::decide(a, scan(recs, begun));
+    let mut i = deciding::start(a, recs.len());
+    while i < recs.len() {
+        if deciding::is_named(a, get(recs, i)) {
+            return i;
+        }
+        i += 1;
     }
-    deciding::decide(a, begun)
+    i
+}
+
+fn first_free(recs: &[Retained], a: Ask) -> usize
+    ensures { λ r. ⌜ r ≡ placeOf isFree a (now (recs .entry)) ⌝ }
+{
+    let mut i = deciding::start(a, recs.len());
+    while i < recs.len() {
+        if deciding::is_free(a, get(recs, i)) {
+            return i;
+        }
+        i += 1;
+    }
+    i
+}
+
+// What retaining does to the table. Nothing is stored. Document 02, W-210.
+pub fn find_room(recs: &[Retained], a: Ask) -> Effect
+    ensures { λ x. ⌜ x ≡ retainOn a (now (recs .entry)) ⌝ }
+{
+    let named = first_named(recs, a);
+    let free = first_free(recs, a);
+    deciding::retain(a, recs.len(), named, free)
+}
+
+// What a step does to the table. Nothing is stored. Document 02, W-210.
+pub fn find_due(recs: &[Retained], a: Ask) -> Effect
+    ensures { λ x. ⌜ x ≡ stepOn a (now (recs .entry)) ⌝ }
+{
+    let place = first_due(recs, a);
+    deciding::step(a, recs.len(), place, get(recs, place))
 }
 
 // Stores a record; nothing where there is no such place. Document 02, W-210.
@@ -52,12 +84,13 @@ pub fn store(recs: &mut [Retained], i: usize, r: Retained)
     }
 }
 
-// Frees the record that an ask finds; nothing where it finds none. Document 02, W-210.
+// Frees the record that a PDU that was heard asks for; nothing where there is none. Document 02, W-210.
 pub fn free(recs: &mut [Retained], a: Ask) -> Outcome
-    ensures { λ x. ⌜ (x ≡ effectOn a (now (recs .entry)) .outcome)
-        × (now (recs .exit) ≡ tableFreed (effectOn a (now (recs .entry))) (now (recs .entry))) ⌝ }
+    ensures { λ x. ⌜ (x ≡ hearOn a (now (recs .entry)) .outcome)
+        × (now (recs .exit) ≡ tableFreed (hearOn a (now (recs .entry))) (now (recs .entry))) ⌝ }
 {
-    let effect = find(recs, a);
+    let place = first_named(recs, a);
+    let effect = deciding::hear(a, recs.len(), place);
     store(recs, effect.place, retained::freed_record());
     effect.outcome
 }

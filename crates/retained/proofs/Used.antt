@@ -18,10 +18,8 @@ use Rattle.pdu.specs.Reading.{exactlyOne}
 use Rattle.pdu.proofs.Inversion.{Whole, read-whole, shown}
 use Rattle.pdu.proofs.Exact.{exact, is-exact}
 use Rattle.retained.specs.declared.Retained.{Retained}
-use Rattle.retained.specs.declared.Seek.{Seek}
 use Rattle.retained.proofs.Laws.{by-path, unfit-0}
-use Rattle.retained.specs.Records.{isFirstSending, isRetainable, unfit, isUsed, pduOf, namesOf, isNamed, isDue}
-use Rattle.retained.specs.Searching.{isSought}
+use Rattle.retained.specs.Records.{isFirstSending, isRetainable, unfit, isUsed, pduOf, namesOf, placedNames, isDue}
 
 same : (a b : Bool) → (a ≡ true → b ≡ true) → (b ≡ true → a ≡ true) → a ≡ b
 same true b f g = sym (f refl)
@@ -213,8 +211,7 @@ unfolding isUsed
 used-is r whole = same _ _ (to-used (r .length) (r .pdu) whole) (of-used (r .length) (r .pdu) whole)
 
 -- the names of a record in use
-pub names-are : (r : Retained) → isUsed r ≡ true
-    → record { source = wordAt (r .pdu) 4; destination = wordAt (r .pdu) 6; «pdu_id» = at (r .pdu) 8 } ≡ namesOf (pduOf r)
+pub names-are : (r : Retained) → isUsed r ≡ true → placedNames r ≡ namesOf (pduOf r)
 unfolding isUsed namesOf headerOf
 names-are r u =
     let p = r .pdu in
@@ -230,11 +227,7 @@ names-are r u =
     let at-8 = there (r .length) p 8 (omega (arith, nine)) in
     simp (b .addressed, one, at-4, at-5, at-6, at-7, at-8)
 
--- a record that is sought is in use
-pub sought-used : (s : Seek) (r : Retained) → isSought s r ≡ true → isUsed r ≡ true
-unfolding isDue isNamed
-sought-used s r = by (s .«by_time»)
-  where
-    by : (b : Bool) → cond b (isDue (s .time) (s .delay) r) (isNamed (s .names) r) ≡ true → isUsed r ≡ true
-    by true e = both (isUsed r) _ e .0
-    by false e = both (isUsed r) _ e .0
+-- a record that is due is in use
+pub due-used : (time delay : ℕ) (r : Retained) → isDue time delay r ≡ true → isUsed r ≡ true
+unfolding isDue
+due-used time delay r e = both (isUsed r) _ e .0

@@ -5,7 +5,7 @@ use mathlib.Core.List.{List}
 use lib.Dec.{eqb, leb, ltb}
 use lib.ListN.{length, take, replicate}
 use Rattle.octets.specs.Numbers.{_gives_, _orElse_}
-use Rattle.octets.specs.Octets.{placed}
+use Rattle.octets.specs.Octets.{at, wordAt, placed}
 use Rattle.pdu.specs.declared.Destination.{Destination}
 use Rattle.pdu.specs.declared.Destination.the-variants.{Everyone, Address}
 use Rattle.pdu.specs.declared.Header.{Header}
@@ -50,6 +50,10 @@ addressOf (Address address) = address
 unfoldable pub namesOf : List ℕ → Names
 namesOf bytes =
     record { source = headerOf bytes .source; destination = addressOf (headerOf bytes .destination); «pdu_id» = headerOf bytes .«pdu_id» }
+
+-- the same by their places in the header of a record in use
+abbrev pub placedNames : Retained → Names
+placedNames record′ = record { source = wordAt (record′ .pdu) 4; destination = wordAt (record′ .pdu) 6; «pdu_id» = at (record′ .pdu) 8 }
 
 abbrev pub sameNames : Names → Names → Bool
 sameNames a b = eqb (a .source) (b .source) && eqb (a .destination) (b .destination) && eqb (a .«pdu_id») (b .«pdu_id»)

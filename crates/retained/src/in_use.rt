@@ -1,17 +1,15 @@
-// A record in use: whether it is, the names of the PDU that it holds, whether that is due, and what is seen of it.
+// A record in use: whether it is, the names of the PDU that it holds, and whether that is due.
 use super::Names;
 use super::Retained;
-use super::Seen;
 ghost use mathlib.Core.Path.{_≡_};
-ghost use mathlib.Core.Bool.{true, cond, _&&_};
+ghost use mathlib.Core.Bool.{cond, _&&_};
 ghost use Prim.Native.Nat.{_+_, _*_, _/_, _%_};
 ghost use lib.Dec.{eqb, leb};
 ghost use Rattle.pdu.specs.Header.{isSet, pathBit, payloadLength};
-ghost use Rattle.retained.specs.Records.{pduOf, isUsed, namesOf, sameNames, isNamed, isDue};
-ghost use Rattle.retained.specs.Searching.{seenOf};
+ghost use Rattle.retained.specs.Records.{isUsed, placedNames, sameNames, isNamed, isDue};
 
 // Whether a record is in use, by the bytes that the header of every retained PDU has. Any memory has an answer.
-pub(crate) fn is_used(r: Retained) -> bool
+pub fn is_used(r: Retained) -> bool
     ensures { λ x. ⌜ x ≡ isUsed r ⌝ }
 {
     let bytes = r.pdu;
@@ -67,9 +65,9 @@ fn same_names(a: Names, b: Names) -> bool
     a.destination == b.destination
 }
 
-// The names of the PDU that a record in use holds, by their places.
-fn names_in(r: Retained) -> Names
-    ensures { λ x. ⌜ (isUsed r ≡ true → x ≡ namesOf (pduOf r)) ⌝ }
+// The names of the PDU that a record in use holds, by their places. Any memory has an answer.
+pub fn names_in(r: Retained) -> Names
+    ensures { λ x. ⌜ x ≡ placedNames r ⌝ }
 {
     let bytes = r.pdu;
     Names {
@@ -80,7 +78,7 @@ fn names_in(r: Retained) -> Names
 }
 
 // Whether a record is in use and has these names.
-pub(crate) fn is_named(r: Retained, names: Names) -> bool
+pub fn is_named(r: Retained, names: Names) -> bool
     ensures { λ x. ⌜ x ≡ isNamed names r ⌝ }
 {
     if !same_names(names_in(r), names) {
@@ -90,7 +88,7 @@ pub(crate) fn is_named(r: Retained, names: Names) -> bool
 }
 
 // Whether a record is in use and was last sent at least the delay ago.
-pub(crate) fn is_due(r: Retained, time: u64, delay: u64) -> bool
+pub fn is_due(r: Retained, time: u64, delay: u64) -> bool
     ensures { λ x. ⌜ x ≡ isDue time delay r ⌝ }
 {
     if !is_past(r.sent_at, time, delay) {
@@ -106,16 +104,4 @@ fn is_past(sent_at: u64, time: u64, delay: u64) -> bool
         return false;
     }
     delay <= time - sent_at
-}
-
-// What is seen of a record in use.
-pub(crate) fn see(r: Retained) -> Seen
-    ensures { λ x. ⌜ (isUsed r ≡ true → x ≡ seenOf r) ⌝ }
-{
-    let names = names_in(r);
-    Seen {
-        names,
-        length: r.length,
-        count: r.count,
-    }
 }

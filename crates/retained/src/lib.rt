@@ -1,13 +1,10 @@
-// A record of a retained PDU, and the search over records, by value.
-mod in_use;
+// A record of a retained PDU, by value.
+pub mod in_use;
 
 use pdu::Destination;
 use pdu::Header;
 ghost use mathlib.Core.Path.{_≡_};
-ghost use mathlib.Core.Bool.{_&&_};
-ghost use lib.Dec.{ltb};
 ghost use Rattle.retained.specs.Records.{isFirstSending, isRetainable, unfit, addressOf, namesOf, exchanged, retainedRecord, freedRecord};
-ghost use Rattle.retained.specs.Searching.{isOpen, isSought, freeAfter, lookOf};
 
 // The PDU in its first `length` bytes, when it was last sent, in seconds, and how often it was sent again.
 #[repr(C)]
@@ -35,26 +32,6 @@ pub struct Outcome {
     pub place: usize,
     pub names: Names,
     pub length: usize,
-}
-
-// What the decision goes by of a record.
-pub struct Seen {
-    pub names: Names,
-    pub length: usize,
-    pub count: u64,
-}
-
-// A search over the records, by time or by names. `place` is where the record that is sought was met, `free` where the first free one before it; each is
-// `count` while none was met. `found` is what was seen of the one that is sought.
-pub struct Seek {
-    pub by_time: bool,
-    pub names: Names,
-    pub time: u64,
-    pub delay: u64,
-    pub count: usize,
-    pub free: usize,
-    pub place: usize,
-    pub found: Seen,
 }
 
 // Why bytes can't be retained: 75, then 72; 0 where they can. Document 02, W-210.
@@ -148,48 +125,4 @@ pub fn freed_record() -> Retained
         sent_at: 0,
         count: 0,
     }
-}
-
-// Whether a search goes on at place `i` of so many records: while the one that is sought was not met. Document 02, W-210.
-pub fn goes_on(s: Seek, i: usize, count: usize) -> bool
-    ensures { λ x. ⌜ x ≡ (isOpen s && ltb i count) ⌝ }
-{
-    if s.place != s.count {
-        return false;
-    }
-    i < count
-}
-
-// The search after one record more, at place `i`. Document 02, W-210.
-pub fn look(s: Seek, r: Retained, i: usize) -> Seek
-    ensures { λ x. ⌜ x ≡ lookOf s r i ⌝ }
-{
-    let mut t = s;
-    if is_sought(s, r) {
-        t.place = i;
-        t.found = in_use::see(r);
-        return t;
-    }
-    t.free = free_after(s, r, i);
-    t
-}
-
-fn is_sought(s: Seek, r: Retained) -> bool
-    ensures { λ x. ⌜ x ≡ isSought s r ⌝ }
-{
-    if s.by_time {
-        return in_use::is_due(r, s.time, s.delay);
-    }
-    in_use::is_named(r, s.names)
-}
-
-fn free_after(s: Seek, r: Retained, i: usize) -> usize
-    ensures { λ x. ⌜ x ≡ freeAfter s r i ⌝ }
-{
-    if s.free == s.count {
-        if !in_use::is_used(r) {
-            return i;
-        }
-    }
-    s.free
 }

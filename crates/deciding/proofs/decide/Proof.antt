@@ -11,16 +11,12 @@ unchanged-requires : tie.Need-unchanged-requires
 unchanged-requires c κs = search needs
 
 returns : tie.Need-returns
-returns c = let a = c .before .before .before .args in c .unchanged .ensures ∙ decide-refuses (a .a) (a .s) _ (c .before .before .number-of .ensures)
-    (c .before .if1 .taken)
-
-effect-of-requires : tie.Need-effect-of-requires
-effect-of-requires c κs = search needs
+returns c = let a = c .before .before .before .args in c .unchanged .ensures
+    ∙ decide-refuses (a .a) (a .count) (a .number) (a .effect) _ (c .before .before .number-of .ensures) (c .before .if1 .taken)
 
 returns-2 : tie.Need-returns-2
-returns-2 c = let a = c .before .before .before .args in c .effect-of .ensures ∙ decide-acts (a .a) (a .s) _ (c .before .before .number-of .ensures)
-    (c .before .if1 .left)
+returns-2 c = let a = c .before .before .args in
+    decide-acts (a .a) (a .count) (a .number) (a .effect) _ (c .before .number-of .ensures) (c .if1 .left)
 
 pub decide-spec : {M : Type 1} → statement M
-decide-spec =
-    tie.close (tie.spec number-of-requires unchanged-requires returns effect-of-requires returns-2)
+decide-spec = tie.close (tie.spec number-of-requires unchanged-requires returns returns-2)

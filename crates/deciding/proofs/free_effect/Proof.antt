@@ -8,16 +8,13 @@ changed-requires : tie.Need-changed-requires
 changed-requires c κs = search needs
 
 returns : tie.Need-returns
-returns c = let a = c .before .before .before .before .args in c .changed .ensures
-    ∙ frees (a .a) (a .s) (c .before .before .if1 .taken)
+returns c = let a = c .before .before .before .args in c .changed .ensures ∙ frees (a .a) (a .count) (a .place) (c .before .before .if1 .taken)
 
 unchanged-requires : tie.Need-unchanged-requires
 unchanged-requires c κs = search needs
 
 returns-2 : tie.Need-returns-2
-returns-2 c = let a = c .before .before .before .args in c .unchanged .ensures ∙ ignores (a .a) (a .s) (c .before .if1 .left)
+returns-2 c = let a = c .before .before .args in c .unchanged .ensures ∙ ignores (a .a) (a .count) (a .place) (c .before .if1 .left)
 
 pub free-effect-spec : {M : Type 1} → statement M
-free-effect-spec =
-    tie.close
-    (tie.spec changed-requires returns unchanged-requires returns-2)
+free-effect-spec = tie.close (tie.spec changed-requires returns unchanged-requires returns-2)

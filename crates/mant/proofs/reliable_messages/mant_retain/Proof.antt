@@ -1,4 +1,4 @@
--- `mant_retain` meets its contract: a walk of its MIR, by hand. `ask_retain` and `retained_record` read the PDU; the records are lent to `find`, and go to
+-- `mant_retain` meets its contract: a walk of its MIR, by hand. `ask_retain` and `retained_record` read the PDU; the records are lent to `find_room`, and go to
 -- `store` for good. Assumes nothing.
 use mathlib.Core.Path.{_≡_, refl}
 use Prim.Native.Nat.{ℕ, _<_, _^_}
@@ -38,7 +38,7 @@ use denote.Triple.Clauses.{ensured, lasts}
 use denote.Triple.Walked.{says, Stays, gave-slice, stay-dropped, walkOf, Walks, ends-at, walked, goes-gave-slice}
 use Rattle.retained.specs.Table.{retain as retainOf, tableRetained}
 use Rattle.retained.specs.Records.{retainedRecord}
-use Rattle.deciding.specs.Deciding.{effectOn, askRetain}
+use Rattle.deciding.specs.Deciding.{retainOn, askRetain}
 use Rattle.retained.specs.declared.Retained.{Retained}
 use Rattle.deciding.specs.declared.Ask.{Ask}
 use Rattle.deciding.specs.declared.Effect.{Effect}
@@ -62,9 +62,9 @@ use Rattle.reliable.proofs.Locals.{Cell, bare, has, frame, Blocks, locals, begi
 use Rattle.reliable.proofs.Arguments.{arg, again}
 use Rattle.reliable.proofs.Values.{slice, pointer, tval, oval, qval, fval, IsO, IsQ, IsF}
 use Rattle.reliable.proofs.Values.{typed-t, typed-o, typed-q, typed-f, typed-word, typed-slice, own-word, own-o}
-use Rattle.reliable.proofs.Found.{Find, found}
-use Rattle.reliable.proofs.find.Symbol as find-def
-use Rattle.reliable.proofs.find.Met as find-thm
+use Rattle.reliable.proofs.Asking.{effect, Asks as Finds, lent as found}
+use Rattle.reliable.proofs.find_room.Symbol as find-def
+use Rattle.reliable.proofs.find_room.Met as find-thm
 use Rattle.reliable.proofs.Stored.{Store, stored}
 use Rattle.reliable.proofs.store.Symbol as store-def
 use Rattle.reliable.proofs.store.Met as store-thm
@@ -88,7 +88,7 @@ module _ {M : Type 1} (𝓤 : URA M) (H : Heap 𝓤) (A : Atoms 𝓤) (mem : Mem
 -- the functions that are called meet their contracts
 pub record Known {M : Type 1} (𝓤 : URA M) (H : Heap 𝓤) (A : Atoms 𝓤) (mem : Memory → SProp 𝓤) (run : Routine → Fun 𝓤) (𝓣 : Tables 𝓤 H) : Type 2 where
   pub asks : Triple 𝓤 (𝓣 .C ask-def.name) (Asks 𝓤 H A mem run)
-  pub find : Triple 𝓤 (𝓣 .C find-def.name) (Find 𝓤 H A mem run)
+  pub find : Triple 𝓤 (𝓣 .C find-def.name) (Finds effect retainOn 𝓤 H A)
   pub records : Triple 𝓤 (𝓣 .C record-def.name) (Records 𝓤 H A mem run)
   pub store : Triple 𝓤 (𝓣 .C store-def.name) (Store 𝓤 H A mem run)
 
@@ -167,7 +167,7 @@ module _ {M : Type 1} (𝓤 : URA M) (H : Heap 𝓤) (A : Atoms 𝓤) (W : Given
     abbrev fm : FmC 𝓤 H (W .laws) (𝓣 .C)
     fm = fmOf 𝓤 H (W .laws) 𝓣
 
-    -- the result and the parameters; the effect and what `find` was called with; what `store` was called with
+    -- the result and the parameters; the effect and what `find_room` was called with; what `store` was called with
     abbrev cells : Cell → List Cell → List Cell
     cells r cs = r ∷ has (slice x) ∷ has (vint w64 last) ∷ has (vint w64 time) ∷ has (slice y) ∷ cs
 
@@ -187,8 +187,8 @@ module _ {M : Type 1} (𝓤 : URA M) (H : Heap 𝓤) (A : Atoms 𝓤) (W : Given
         go : IsO (e .outcome)
         go = LL.owed F.the-type F′.the-laws e _ ge .1 .1 .0
 
-    -- after `find`: the `&mut` is back
-    stores : (a : Ask) (e : Effect) → IsF e → a ≡ askRetain last time bs → e ≡ effectOn a ys
+    -- after `find_room`: the `&mut` is back
+    stores : (a : Ask) (e : Effect) → IsF e → a ≡ askRetain last time bs → e ≡ retainOn a ys
         → Sq W (‵ Own ∷ ‵ (flft κ q) ∷ Token′ ∷ ‵ Shr ∷ frame En (cells bare (lent (has (fval e)) a []))) (Runs mir.t-5)
     stores a e ge e₀ e₁ =
         again ! 4 refl refl refl refl refl refl refl refl (gn .0) $
@@ -206,8 +206,8 @@ module _ {M : Type 1} (𝓤 : URA M) (H : Heap 𝓤) (A : Atoms 𝓤) (W : Given
     searches : (a : Ask) → IsQ a → a ≡ askRetain last time bs
         → Sq W (Token′ ∷ ‵ Shr ∷ ‵ (flft κ q) ∷ ‵ Own ∷ frame En (cells bare (lent bare a []))) (Runs mir.t-4)
     searches a ga e₀ =
-        move ! (2 ∷ 3 ∷ []) $ found 𝓤 H A W mem run κ q x a ! fm (known .find) ga gn
-        -- [what `find` asks; what is kept; κ′'s token; pdu's; the locals]
+        move ! (2 ∷ 3 ∷ []) $ found effect retainOn 𝓤 H A W κ q x a ! fm (known .find) ga gn
+        -- [what `find_room` asks; what is kept; κ′'s token; pdu's; the locals]
         (λ α δ. arg ! 4 refl (arg ! 4 refl (no-more !)))
         (λ e ge e₁. land ! (from ! (stop !)) (init ! 9 refl (typed-f W e ge)) $ stores a e ge e₀ e₁)
 
@@ -254,7 +254,7 @@ mant-retain-spec 𝓤 H 𝓜 𝓖 𝓡 =
     )
     (retain-walks 𝓤 H (𝓖 .A) W (𝓜 .mem) (𝓡 .run) (tablesOf 𝓤 H 𝓜 (tables 𝓤 H 𝓜 𝓡 code.env)) (record {
       asks = cited 𝓤 H _ 𝓜 𝓡 code.env ask-def.name ask-def.routine code.calls-deciding·ask-retain (ask-thm.met 𝓤 H 𝓜 𝓖 𝓡);
-      find = cited 𝓤 H _ 𝓜 𝓡 code.env find-def.name find-def.routine code.calls-reliable·find (find-thm.met 𝓤 H 𝓜 𝓖 𝓡);
+      find = cited 𝓤 H _ 𝓜 𝓡 code.env find-def.name find-def.routine code.calls-reliable·find-room (find-thm.met 𝓤 H 𝓜 𝓖 𝓡);
       records = cited 𝓤 H _ 𝓜 𝓡 code.env record-def.name record-def.routine code.calls-retained·retained-record (record-thm.met 𝓤 H 𝓜 𝓖 𝓡);
       store = cited 𝓤 H _ 𝓜 𝓡 code.env store-def.name store-def.routine code.calls-reliable·store (store-thm.met 𝓤 H 𝓜 𝓖 𝓡);
     }))

@@ -1,4 +1,4 @@
--- `mant_retry` meets its contract: a walk of its MIR, by hand. `ask_step` is by value; the records are lent to `find`, and go with the output to `resend`
+-- `mant_retry` meets its contract: a walk of its MIR, by hand. `ask_step` is by value; the records are lent to `find_due`, and go with the output to `resend`
 -- for good. Assumes nothing.
 use mathlib.Core.Path.{_≡_, refl}
 use Prim.Native.Nat.{ℕ, _<_, _^_}
@@ -37,7 +37,7 @@ use denote.Triple.Table.{cited}
 use denote.Triple.Clauses.{ensured, lasts}
 use denote.Triple.Walked.{says, Stays, gave-slice, stay-dropped, walkOf, Walks, ends-at, walked, goes-gave-slice}
 use Rattle.retained.specs.Table.{retryStep, tableStepped, outputStepped}
-use Rattle.deciding.specs.Deciding.{effectOn, askStep}
+use Rattle.deciding.specs.Deciding.{stepOn, askStep}
 use Rattle.retained.specs.declared.Retained.{Retained}
 use Rattle.deciding.specs.declared.Ask.{Ask}
 use Rattle.deciding.specs.declared.Effect.{Effect}
@@ -56,9 +56,9 @@ use Rattle.reliable.proofs.Calls.{told}
 use Rattle.reliable.proofs.Locals.{Cell, bare, has, frame, Blocks, locals, begins, freed}
 use Rattle.reliable.proofs.Arguments.{arg, again}
 use Rattle.reliable.proofs.Values.{slice, pointer, oval, qval, fval, IsO, IsQ, IsF, typed-o, typed-q, typed-f, typed-word, typed-slice, own-word, own-o}
-use Rattle.reliable.proofs.Found.{Find, found}
-use Rattle.reliable.proofs.find.Symbol as find-def
-use Rattle.reliable.proofs.find.Met as find-thm
+use Rattle.reliable.proofs.Asking.{effect, Asks as Finds, lent as found}
+use Rattle.reliable.proofs.find_due.Symbol as find-def
+use Rattle.reliable.proofs.find_due.Met as find-thm
 use Rattle.reliable.proofs.Resent.{Resend, resent}
 use Rattle.reliable.proofs.resend.Symbol as resend-def
 use Rattle.reliable.proofs.resend.Met as resend-thm
@@ -82,7 +82,7 @@ module _ {M : Type 1} (𝓤 : URA M) (H : Heap 𝓤) (A : Atoms 𝓤) (mem : Mem
 -- the functions that are called meet their contracts
 pub record Known {M : Type 1} (𝓤 : URA M) (H : Heap 𝓤) (A : Atoms 𝓤) (mem : Memory → SProp 𝓤) (run : Routine → Fun 𝓤) (𝓣 : Tables 𝓤 H) : Type 2 where
   pub asks : Triple 𝓤 (𝓣 .C ask-def.name) (Asks 𝓤 H A mem run)
-  pub find : Triple 𝓤 (𝓣 .C find-def.name) (Find 𝓤 H A mem run)
+  pub find : Triple 𝓤 (𝓣 .C find-def.name) (Finds effect stepOn 𝓤 H A)
   pub resends : Triple 𝓤 (𝓣 .C resend-def.name) (Resend 𝓤 H A mem run)
 
 module _ {M : Type 1} (𝓤 : URA M) (H : Heap 𝓤) (A : Atoms 𝓤) (W : Given 𝓤 H A) (mem : Memory → SProp 𝓤) (run : Routine → Fun 𝓤) (κ κ′ : Lft)
@@ -166,7 +166,7 @@ module _ {M : Type 1} (𝓤 : URA M) (H : Heap 𝓤) (A : Atoms 𝓤) (W : Given
     abbrev fm : FmC 𝓤 H (W .laws) (𝓣 .C)
     fm = fmOf 𝓤 H (W .laws) 𝓣
 
-    -- the result and the parameters; the effect and what `find` was called with; what `resend` was called with
+    -- the result and the parameters; the effect and what `find_due` was called with; what `resend` was called with
     abbrev cells : Cell → List Cell → List Cell
     cells r cs = r ∷ has (slice x) ∷ has (vint w64 last) ∷ has (vint w64 time) ∷ has (vint w64 delay) ∷ has (vint w64 tries) ∷ has (slice y) ∷ cs
 
@@ -186,8 +186,8 @@ module _ {M : Type 1} (𝓤 : URA M) (H : Heap 𝓤) (A : Atoms 𝓤) (W : Given
         go : IsO (e .outcome)
         go = LL.owed F.the-type F′.the-laws e _ ge .1 .1 .0
 
-    -- after `find`: the `&mut` is back
-    resends : (a : Ask) (e : Effect) → IsF e → Asking a → e ≡ effectOn a ys
+    -- after `find_due`: the `&mut` is back
+    resends : (a : Ask) (e : Effect) → IsF e → Asking a → e ≡ stepOn a ys
         → Sq W (‵ Own ∷ ‵ (flft κ q) ∷ ‵ (flft κ′ q′) ∷ ‵ Own′ ∷ frame En (cells bare (lent (has (fval e)) a []))) (Runs mir.t-6)
     resends a e ge e₀ e₁ =
         again ! 4 refl refl refl refl refl refl refl refl (gn .0) $ again ! 4 refl refl refl refl refl refl refl refl (gm .0) $
@@ -200,8 +200,8 @@ module _ {M : Type 1} (𝓤 : URA M) (H : Heap 𝓤) (A : Atoms 𝓤) (W : Given
     searches : (a : Ask) → IsQ a → Asking a
         → Sq W (‵ (flft κ′ q′) ∷ ‵ (flft κ q) ∷ ‵ Own′ ∷ ‵ Own ∷ frame En (cells bare (lent bare a []))) (Runs mir.t-5)
     searches a ga e₀ =
-        move ! (1 ∷ 3 ∷ []) $ found 𝓤 H A W mem run κ q x a ! fm (known .find) ga gn
-        -- [what `find` asks; what is kept; κ′'s token; output's; the locals]
+        move ! (1 ∷ 3 ∷ []) $ found effect stepOn 𝓤 H A W κ q x a ! fm (known .find) ga gn
+        -- [what `find_due` asks; what is kept; κ′'s token; output's; the locals]
         (λ α δ. arg ! 4 refl (arg ! 4 refl (no-more !)))
         (λ e ge e₁. land ! (from ! (stop !)) (init ! 11 refl (typed-f W e ge)) $ resends a e ge e₀ e₁)
 
@@ -260,6 +260,6 @@ mant-retry-spec 𝓤 H 𝓜 𝓖 𝓡 =
     )
     (step-walks 𝓤 H (𝓖 .A) W (𝓜 .mem) (𝓡 .run) (tablesOf 𝓤 H 𝓜 (tables 𝓤 H 𝓜 𝓡 code.env)) (record {
       asks = cited 𝓤 H _ 𝓜 𝓡 code.env ask-def.name ask-def.routine code.calls-deciding·ask-step (ask-thm.met 𝓤 H 𝓜 𝓖 𝓡);
-      find = cited 𝓤 H _ 𝓜 𝓡 code.env find-def.name find-def.routine code.calls-reliable·find (find-thm.met 𝓤 H 𝓜 𝓖 𝓡);
+      find = cited 𝓤 H _ 𝓜 𝓡 code.env find-def.name find-def.routine code.calls-reliable·find-due (find-thm.met 𝓤 H 𝓜 𝓖 𝓡);
       resends = cited 𝓤 H _ 𝓜 𝓡 code.env resend-def.name resend-def.routine code.calls-reliable·resend (resend-thm.met 𝓤 H 𝓜 𝓖 𝓡);
     }))

@@ -1,4 +1,3 @@
-use Rattle.retained.proofs.Used.{names-are}
 use borrow.Author.Needs.{needs}
 use Rattle.retained.proofs.in_use.names_in.Statement.{statement}
 use Rattle.retained.proofs.in_use.names_in.Tie as tie
@@ -25,7 +24,7 @@ array-read-t19 : tie.Need-array-read-t19
 array-read-t19 c = search needs
 
 returns : tie.Need-returns
-returns c = λ used. simp (c .before .word-of .ensures, c .word-of2 .ensures) (names-are (c .before .before .before .args .r) used)
+returns c = simp (c .before .word-of .ensures, c .word-of2 .ensures)
 
 pub names-in-spec : {M : Type 1} → statement M
 names-in-spec =
