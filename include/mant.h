@@ -677,7 +677,7 @@ MantWritten mant_write_exchange(const uint8_t *bytes, size_t bytes_length, uint8
  *     sent_at to now. A record is in use if its length is at most MANT_RETAINED_LIMIT and its PDU could be retained. Every other is free. A call changes one
  *     record at most; "first" means at the lowest place.
  * Numbers: 10, 11, 70 to 75, 77.
- * Stack: mant_retain 656, mant_retry 672, mant_hear_reliably 680, mant_acknowledge 632.
+ * Stack: mant_retain 456, mant_retry 408, mant_hear_reliably 648, mant_acknowledge 552.
  */
 
 /* Records in a table, and bytes of the longest PDU retained. */
