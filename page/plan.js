@@ -43,5 +43,5 @@ export const mostTransmissions = (repeaters, hop) => bound(call('mant_most_trans
 export const mostBytes = (repeaters, hop, size) => bound(call('mant_most_bytes', repeaters, hop, size));
 // The most transmissions of one command and its acknowledgements in the worst network; null where 64 bits do not hold it.
 export const mostForCommand = (tries, repeaters, hop, back) => bound(call('mant_most_for_command', tries, repeaters, hop, repeaters, back));
-// The same from the counts of one sending and of one acknowledgement on a network that is known (`command-heard` in crate `one_command`): arithmetic.
+// The same from the counts of one sending and of one acknowledgement on a network that is known (`command-heard` in crate `planning_one_command`): arithmetic.
 export const commandTotal = (tries, command, acknowledgement) => (BigInt(tries) + 1n) * BigInt(command) * (1n + BigInt(acknowledgement));

@@ -12,9 +12,9 @@ use lib.Bits.{xor-zero-r}
 use lib.ListN.{length, take, drop, set, length-append, List·getD-append}
 use lib.Seq.{take-all, take-length, take-suc, take-suc-set, take-append-seam, take-append-le, getD-take, getD-append-add}
 use Rattle.octets.specs.Octets.{at}
-use Rattle.field.specs.Field.{_⊕_, subByte}
-use Rattle.rounds.specs.Rounds.{listed, word}
-use Rattle.rounds.proofs.Equal.{ap₄}
+use Rattle.aes_field.specs.Field.{_⊕_, subByte}
+use Rattle.aes_rounds.specs.Rounds.{listed, word}
+use Rattle.aes_rounds.proofs.Equal.{ap₄}
 use Rattle.aes.specs.Cipher.{plus, rotWord, subWord, rcon, power, temp, nextKeyWord, expansion}
 
 entry : (n i : ℕ) (f : ℕ → ℕ) (k : ℕ) → k < n → at (listed n i f) k ≡ f (i + k)

@@ -6,7 +6,7 @@ use Prim.Native.Nat.{ℕ, suc, _+_, _-_, _≤_}
 use native.Mathlib.Omega.{arith}
 use lib.ListN.{length, take, drop, length-drop, drop-of-length-le}
 use lib.Seq.{take-length, length-take-le}
-use Rattle.rounds.specs.Rounds.{round}
+use Rattle.aes_rounds.specs.Rounds.{round}
 use Rattle.aes.specs.Cipher.{roundKey, rounds}
 
 -- n bytes from a place on, copied over as many

@@ -6,8 +6,8 @@ use mathlib.Core.List.{List, [], _∷_, _++_}
 use lib.Dec.{eqb}
 use lib.ListN.{take, drop}
 use Rattle.octets.specs.Octets.{at}
-use Rattle.field.specs.Field.{_⊕_, xtime, subByte}
-use Rattle.rounds.specs.Rounds.{listed, word, addRoundKey, round, lastRound}
+use Rattle.aes_field.specs.Field.{_⊕_, xtime, subByte}
+use Rattle.aes_rounds.specs.Rounds.{listed, word, addRoundKey, round, lastRound}
 
 -- 5.1.4: round key n, the words 4 * n to 4 * n + 3 of the expanded key w
 unfoldable pub roundKey : List ℕ → ℕ → List ℕ

@@ -3,12 +3,12 @@ ghost use mathlib.Core.Path.{_≡_};
 ghost use Prim.Native.Nat.{_+_, _*_, _/_, _%_, _≤_, _<_};
 ghost use lib.ListN.{length};
 ghost use Rattle.octets.specs.Octets.{at};
-ghost use Rattle.field.specs.Field.{substitutes};
+ghost use Rattle.aes_field.specs.Field.{substitutes};
 ghost use Rattle.aes.specs.Cipher.{roundKey, cipher, power, temp, keyExpansion};
-use field::all_substitutes;
-use rounds::add_round_key;
-use rounds::last_round;
-use rounds::one_round;
+use aes_field::all_substitutes;
+use aes_rounds::add_round_key;
+use aes_rounds::last_round;
+use aes_rounds::one_round;
 
 // The powers of x, from 1 on. FIPS 197, 5.2, the constants of the rounds.
 const POWERS: [u8; 10] = *b"\x01\x02\x04\x08\x10\x20\x40\x80\x1b\x36";

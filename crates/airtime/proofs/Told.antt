@@ -29,7 +29,7 @@ use Rattle.flood.proofs.Kept.{kept, kept-are, kept-differ}
 use Rattle.flood.proofs.Lists.{apart, nodup-more, no-longer, at-mem, mem-at, at-map}
 use Rattle.flood.proofs.Repeaters.{can-is, is-can, repeaters-are, are-repeaters, repeaters-differ}
 use Rattle.coverage.specs.Marks.{MarksSay}
-use Rattle.coverage.specs.Told.{Says}
+use Rattle.coverage.specs.ByLengths.{Says}
 use Rattle.coverage.proofs.Places.{at-place, one-place}
 use Rattle.coverage.proofs.Schedule.{at-within}
 use Rattle.coverage.proofs.Walks.{last-holds}

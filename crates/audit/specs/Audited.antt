@@ -1,33 +1,33 @@
--- Where an auditor begins: the demands and the requests, by name. Each record is a file of its own, in the crate of that name, to be read beside its place in
--- documents 01 and 02. W-204 claims nothing that is new: no answer, byte or promise changed. What every public function's promise must be, and that it
+-- Where an auditor begins: the demands and the requests, by name. Each record is a file of its own, in the crate that ends in its name, to be read beside its
+-- place in documents 01 and 02. W-204 claims nothing that is new: no answer, byte or promise changed. What every public function's promise must be, and that it
 -- is so, is crate `promises`.
-use Rattle.checked_by_hand.specs.Examples.{CheckedByHand}
-use Rattle.demands.specs.Demands.{Demand1, Demand2, Demand3}
-use Rattle.shut_out.specs.ShutOut.{ShutOut}
-use Rattle.relayed.specs.Relayed.{Relayed}
-use Rattle.stations_heard.specs.StationsHeard.{StationsHeard}
-use Rattle.serial_exchange.specs.SerialExchange.{SerialExchange}
-use Rattle.own_report.specs.OwnReport.{OwnReport}
-use Rattle.last_sender.specs.LastSender.{LastSender}
-use Rattle.transmit_queue.specs.TransmitQueue.{TransmitQueue}
-use Rattle.queue_level.specs.QueueLevel.{QueueLevel}
-use Rattle.least_reach.specs.LeastReach.{LeastReach}
-use Rattle.own_network.specs.OwnNetwork.{OwnNetwork}
-use Rattle.own_network.specs.OwnReach.{OwnReach}
-use Rattle.two_editions.specs.TwoEditions.{TwoEditions}
-use Rattle.reliable_messages.specs.ReliableMessages.{ReliableMessages}
-use Rattle.one_command.specs.OneCommand.{OneCommand}
-use Rattle.two_lists.specs.TwoLists.{TwoLists}
-use Rattle.encrypted_payloads.specs.EncryptedPayloads.{EncryptedPayloads}
+use Rattle.base_worked_examples.specs.WorkedExamples.{WorkedExamples}
+use Rattle.base_demands.specs.Demands.{Demand1, Demand2, Demand3}
+use Rattle.base_wrong_nodes.specs.WrongNodes.{WrongNodes}
+use Rattle.base_relay_output.specs.RelayOutput.{RelayOutput}
+use Rattle.w201_stations_heard.specs.StationsHeard.{StationsHeard}
+use Rattle.w202_serial_exchange.specs.SerialExchange.{SerialExchange}
+use Rattle.w203_own_report.specs.OwnReport.{OwnReport}
+use Rattle.w205_last_sender.specs.LastSender.{LastSender}
+use Rattle.w206_transmit_queue.specs.TransmitQueue.{TransmitQueue}
+use Rattle.w207_queue_level.specs.QueueLevel.{QueueLevel}
+use Rattle.w208_least_reach.specs.LeastReach.{LeastReach}
+use Rattle.planning_own_network.specs.OwnNetwork.{OwnNetwork}
+use Rattle.planning_own_network.specs.OwnReach.{OwnReach}
+use Rattle.w209_two_editions.specs.TwoEditions.{TwoEditions}
+use Rattle.w210_reliable_messages.specs.ReliableMessages.{ReliableMessages}
+use Rattle.planning_one_command.specs.OneCommand.{OneCommand}
+use Rattle.w211_two_lists.specs.TwoLists.{TwoLists}
+use Rattle.w212_encrypted_payloads.specs.EncryptedPayloads.{EncryptedPayloads}
 
 pub record Audited : Type 0 where
   -- the three demands, 01's cases checked by hand, the programs that it wants shut out, and what `relay` prints
   pub total : Demand1
   pub exactly : Demand2
   pub bounded : Demand3
-  pub by-hand : CheckedByHand
-  pub shut-out : ShutOut
-  pub printed : Relayed
+  pub worked-examples : WorkedExamples
+  pub wrong-nodes : WrongNodes
+  pub printed : RelayOutput
   -- 02's requests
   pub w201 : StationsHeard
   pub w202 : SerialExchange

@@ -10,7 +10,7 @@ use borrow.Author.Tests.{ne-eqb, lt-leb}
 use Rattle.pdu.specs.declared.Sender.the-variants.{Unknown}
 use Rattle.editions.specs.Editions.{known}
 use Rattle.decision.specs.Decision.{Node}
-use Rattle.node.specs.Answers.{nodeFault, twice, outputAfter}
+use Rattle.node.specs.Answers.{nodeFault, givenTwice, outputAfter}
 use Rattle.node.proofs.Faults.{fault-unread, fault-taken, fault-answer, fault-output}
 use Rattle.batch.specs.declared.Cursor.{Cursor}
 use Rattle.batch.specs.declared.Stepped.the-variants.{Ended, Answered}
@@ -32,13 +32,13 @@ done-step node room batch cursor output short done = rw (short, done) (refl, ref
 module _ (node : Node) (n : ℕ) (some : n ≡ 0 → ⊥) (fault : nodeFault node ≡ n) (batch : List ℕ)
     (short : isTooLong (node .settings .edition) batch ≡ false) where
   pub fault-step : (room : ℕ) (cursor : Cursor) → isDone batch cursor ≡ false
-      → stepOf node room batch cursor ≡ Answered (twice n 0 Unknown) (record { place = cursor .place; ended = true })
+      → stepOf node room batch cursor ≡ Answered (givenTwice n 0 Unknown) (record { place = cursor .place; ended = true })
   unfolding stepOf
   fault-step room cursor more =
       let rest = drop (cursor .place) batch in
       let same : cursor .place + 0 ≡ cursor .place = omega arith in
       rw (short, more, fault-answer node n some fault rest room, fault-taken node n some fault rest, fault-unread node n some fault rest, ne-eqb n 0 some)
-      (ap (λ (place : ℕ). Answered (twice n 0 Unknown) (record { place = place; ended = true })) same)
+      (ap (λ (place : ℕ). Answered (givenTwice n 0 Unknown) (record { place = place; ended = true })) same)
 
   pub fault-step-output : (cursor : Cursor) (output : List ℕ) → stepOutput node batch cursor output ≡ output
   unfolding stepOutput
@@ -51,7 +51,7 @@ module _ (node : Node) (n : ℕ) (some : n ≡ 0 → ⊥) (fault : nodeFault nod
 -- a walk: the one answer, at the first byte; an empty batch has none
 module _ (node : Node) (n : ℕ) (some : n ≡ 0 → ⊥) (fault : nodeFault node ≡ n) (room byte : ℕ) (bytes : List ℕ)
     (short : isTooLong (node .settings .edition) (byte ∷ bytes) ≡ false) where
-  pub fault-walk : walk node room (byte ∷ bytes) ≡ record { number = 0; offsets = 0 ∷ []; answers = twice n 0 Unknown ∷ []; end = 0 }
+  pub fault-walk : walk node room (byte ∷ bytes) ≡ record { number = 0; offsets = 0 ∷ []; answers = givenTwice n 0 Unknown ∷ []; end = 0 }
   unfolding walk
   fault-walk =
       rw short

@@ -28,17 +28,17 @@ use Rattle.decision.specs.declared.Settings.{Settings}
 use Rattle.decision.specs.Decision.{Node}
 use Rattle.origin.specs.declared.FreshSettings.{FreshSettings}
 use Rattle.node.specs.declared.Answer.{Answer}
-use Rattle.node.specs.Answers.{answerOf, twice, outputAfter}
+use Rattle.node.specs.Answers.{answerOf, givenTwice, outputAfter}
 use Rattle.batch.specs.declared.Cursor.{Cursor}
 use Rattle.batch.specs.declared.Numbers.{Numbers}
 use Rattle.batch.specs.declared.Numbers.the-variants.{Two, Alone, NoAnswer}
 use Rattle.batch.specs.declared.Stepped.{Stepped}
 use Rattle.batch.specs.declared.Stepped.the-variants.{TooLong, Ended, Answered}
 use Rattle.batch.specs.Walk.{batchLimit, stepOf, stepOutput, numbersOf}
-use Rattle.listening.specs.Listening.{answerNumber, memoryAfterAnswer}
+use Rattle.node_stations.specs.CountedAnswers.{answerNumber, memoryAfterAnswer}
 use Rattle.retained.specs.declared.Retained.{Retained}
-use Rattle.answering.specs.declared.Sending.{Sending}
-use Rattle.answering.specs.Hearing.{outcomeHeard, tableHeard, outputHeard}
+use Rattle.acknowledgements.specs.declared.Sending.{Sending}
+use Rattle.acknowledgements.specs.Hearing.{outcomeHeard, tableHeard, outputHeard}
 use Rattle.bound.specs.declared.Bound.{Bound}
 use Rattle.bound.specs.declared.Bound.the-variants.{Exactly, TooLarge, HopRefused}
 use Rattle.bound.specs.Answer.{boundNumber}
@@ -236,9 +236,9 @@ aloneInC (Two delivery repeat) = 255
 abbrev pub stepInC : Cursor → Stepped → MantStep
 stepInC cursor (Answered answer next) = record { kind = 0; answer = answerInC answer; next = next }
 stepInC cursor Ended =
-    record { kind = 1; answer = answerInC (twice (aloneInC (numbersOf Ended)) 0 Unknown); next = record { place = cursor .place; ended = true } }
+    record { kind = 1; answer = answerInC (givenTwice (aloneInC (numbersOf Ended)) 0 Unknown); next = record { place = cursor .place; ended = true } }
 stepInC cursor TooLong =
-    record { kind = 2; answer = answerInC (twice (aloneInC (numbersOf TooLong)) 0 Unknown); next = record { place = cursor .place; ended = true } }
+    record { kind = 2; answer = answerInC (givenTwice (aloneInC (numbersOf TooLong)) 0 Unknown); next = record { place = cursor .place; ended = true } }
 
 -- what a step answers and leaves in the output
 abbrev pub StepsInC : Node → List ℕ → Cursor → List ℕ → MantStep → List ℕ → Type 0
@@ -263,15 +263,15 @@ airtimeInC airtime.NotServed = noAirtime 0 false false
 
 -- and what marks, counts and table are after it, as crate `ways` has them
 abbrev pub CountsInC : List ℕ → List ℕ → ℕ → ℕ → ℕ → ℕ → ℕ → List ℕ → List ℕ → MantAirtime → List ℕ → List ℕ → List ℕ → Type 0
-CountsInC pairs marks from h price growth enough counts table told marksNow countsNow tableNow =
+CountsInC pairs marks from h price growth enough counts table returned marksNow countsNow tableNow =
     let answer = waysAnswer pairs marks from h price growth enough (length counts) (length table) in
-    (told ≡ airtimeInC answer) × Counts pairs marks from h price growth enough counts table answer marksNow countsNow tableNow
+    (returned ≡ airtimeInC answer) × Counts pairs marks from h price growth enough counts table answer marksNow countsNow tableNow
 
 -- the same in bytes, for a fresh message of this size; a size above 65,535 is not served, and nothing is written
 abbrev pub BytesInC : List ℕ → List ℕ → ℕ → ℕ → ℕ → ℕ → List ℕ → List ℕ → MantAirtime → List ℕ → List ℕ → List ℕ → Type 0
-BytesInC pairs marks from h size enough counts table told marksNow countsNow tableNow =
-    (size ≤ 65535 → CountsInC pairs marks from h size 2 enough counts table told marksNow countsNow tableNow)
-    × (65535 < size → (told ≡ airtimeInC (cond (ltb 7 h) airtime.HopRefused airtime.NotServed))
+BytesInC pairs marks from h size enough counts table returned marksNow countsNow tableNow =
+    (size ≤ 65535 → CountsInC pairs marks from h size 2 enough counts table returned marksNow countsNow tableNow)
+    × (65535 < size → (returned ≡ airtimeInC (cond (ltb 7 h) airtime.HopRefused airtime.NotServed))
     × (marksNow ≡ marks) × (countsNow ≡ counts) × (tableNow ≡ table))
 
 -- a least hop limit (document 02, W-208); 8 where none reaches all

@@ -5,7 +5,7 @@ use batch::Cursor;
 use batch::Stepped;
 ghost use mathlib.Core.Path.{_≡_};
 ghost use Rattle.pdu.specs.declared.Sender.the-variants.{Unknown};
-ghost use Rattle.node.specs.Answers.{twice};
+ghost use Rattle.node.specs.Answers.{givenTwice};
 ghost use Rattle.boundary.specs.Boundary.{answerInC, stepInC};
 
 // What the fields for numbers hold where there is no answer.
@@ -22,7 +22,7 @@ pub struct MantStep {
 }
 
 fn number_alone(number: u8) -> MantAnswer
-    ensures { λ r. ⌜ r ≡ answerInC (twice number 0 Unknown) ⌝ }
+    ensures { λ r. ⌜ r ≡ answerInC (givenTwice number 0 Unknown) ⌝ }
 {
     MantAnswer {
         delivery: number,

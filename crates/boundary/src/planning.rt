@@ -58,7 +58,7 @@ pub fn bound_in_c(bound: Bound) -> MantBound
     }
 }
 
-// An answer of `ways`, as C sees it; number 10 for a hop limit above 7. Crate `own_network`, `told`.
+// An answer of `ways`, as C sees it; number 10 for a hop limit above 7. Crate `planning_own_network`, `by-count`.
 pub fn airtime_in_c(airtime: Airtime) -> MantAirtime
     ensures { λ r. ⌜ r ≡ airtimeInC airtime ⌝ }
 {

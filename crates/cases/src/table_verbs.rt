@@ -4,8 +4,8 @@ use crate::telling::list;
 use crate::telling::tell;
 use crate::telling::wide;
 use crate::verb;
-use counting::Heard;
 use stations::Station;
+use stations_update::Heard;
 
 pub(crate) fn ask(line: Line, values: &[u16]) -> bool {
     let mut memory = [0u16; Station::MEMORY];
@@ -33,7 +33,7 @@ fn counts(line: Line, memory: &mut [u16; Station::MEMORY]) -> bool {
         path_bit: line.asked(2) != 0,
         path_count: (line.asked(3) % 256) as u8,
     };
-    let number = counting::count(memory, heard);
+    let number = stations_update::count(memory, heard);
     let found = stations::station_of(memory, heard.source);
     let held = stations::held(memory);
     tell(line, 0o222222, 0, wide(number))
@@ -51,7 +51,7 @@ fn tells_station(line: Line, station: Station) -> bool {
 }
 
 fn forgets(line: Line, memory: &mut [u16; Station::MEMORY]) -> bool {
-    let number = counting::remove(memory, (line.asked(0) % 65536) as u16);
+    let number = stations_update::remove(memory, (line.asked(0) % 65536) as u16);
     let held = stations::held(memory);
     tell(line, 0o22, 0, wide(number)) & tell(line, 0o22, 1, held as u64)
 }

@@ -8,7 +8,7 @@ use native.Mathlib.Omega.{arith}
 use lib.ListN.{length, length-append}
 use Rattle.octets.specs.Octets.{at}
 use Rattle.chains.specs.Chains.{Chain, Along, arrived, onward}
-use Rattle.chains.specs.Lengths.{placesOfNodes, nodeLimit, noChain, noNode, relays, LengthsFound}
+use Rattle.chains.specs.Lengths.{placesOfNodes, nodeLimit, noChain, noNode, usableHearing, LengthsFound}
 use Rattle.chains.proofs.Steps.{sought, chain-none, chain-is-none, chain-next, chain-last}
 use Rattle.chains.proofs.Hearings.{was-relayed, instead}
 use Rattle.chains.proofs.Fewer.{below-places}
@@ -44,8 +44,8 @@ module _ (pairs marks : List ℕ) (from failed : ℕ) (few : length marks ≤ no
   places = placesOfNodes (length marks)
 
   -- a chain of the whole network that does not pass the failed node is one of what is left
-  left-over : {x to : ℕ} {passed : List ℕ} → Along (relays pairs marks from noNode) places x passed to → ¬ List·Memᴰ failed (x ∷ passed)
-      → Along (relays pairs marks from failed) places x passed to
+  left-over : {x to : ℕ} {passed : List ℕ} → Along (usableHearing pairs marks from noNode) places x passed to → ¬ List·Memᴰ failed (x ∷ passed)
+      → Along (usableHearing pairs marks from failed) places x passed to
   left-over arrived new = arrived
   left-over {x} (onward {next = next} m heard rest) new =
       onward m
@@ -53,14 +53,14 @@ module _ (pairs marks : List ℕ) (from failed : ℕ) (few : length marks ≤ no
       (left-over rest (λ k. new (List·Memᴰ·tail k)))
 
   -- and back
-  as-whole : {x to : ℕ} {passed : List ℕ} → x < length marks → Along (relays pairs marks from failed) places x passed to
-      → Along (relays pairs marks from noNode) places x passed to
+  as-whole : {x to : ℕ} {passed : List ℕ} → x < length marks → Along (usableHearing pairs marks from failed) places x passed to
+      → Along (usableHearing pairs marks from noNode) places x passed to
   as-whole inside arrived = arrived
   as-whole {x} inside (onward {next = next} m heard rest) =
       let next-in = below-places (length marks) next m in
       onward m (instead pairs marks from failed x next noNode heard (λ e. omega arith) (λ e. omega arith)) (as-whole next-in rest)
 
-  not-passed : {x to : ℕ} {passed : List ℕ} → to ≢ failed → Along (relays pairs marks from failed) places x passed to → ¬ List·Memᴰ failed (x ∷ passed)
+  not-passed : {x to : ℕ} {passed : List ℕ} → to ≢ failed → Along (usableHearing pairs marks from failed) places x passed to → ¬ List·Memᴰ failed (x ∷ passed)
   not-passed other arrived k = ⊎-elim (λ e. other (sym e)) List·Memᴰ·not-nil (List·Memᴰ·cases-cons k)
   not-passed {x} other (onward {next = next} m heard rest) k =
       ⊎-elim (λ e. was-relayed pairs marks from failed x next heard .sender-apart (sym e)) (not-passed other rest) (List·Memᴰ·cases-cons k)
@@ -72,22 +72,22 @@ module _ (pairs marks : List ℕ) (from failed : ℕ) (before lengths : List ℕ
   served = is-served (length marks) from (length before) (sym (found .answer))
 
   pub cut-off : at lengths to ≡ noChain → (passed : List ℕ)
-      → Along (relays pairs marks from noNode) (placesOfNodes (length marks)) from passed to → List·Memᴰ failed (from ∷ passed)
+      → Along (usableHearing pairs marks from noNode) (placesOfNodes (length marks)) from passed to → List·Memᴰ failed (from ∷ passed)
   cut-off none passed way =
       ⊎-elim (λ m. m)
       (λ new.
       let rest = left-over pairs marks from failed (served .few) way new in
-      let chain = passing-chain (relays pairs marks from failed) (placesOfNodes (length marks)) from (length passed) passed refl rest in
-      ⊎-elim (λ t. absurd (omega (arith, t .0, none))) (λ t. absurd (t .1 (length passed) chain)) (found .told refl to known))
+      let chain = passing-chain (usableHearing pairs marks from failed) (placesOfNodes (length marks)) from (length passed) passed refl rest in
+      ⊎-elim (λ t. absurd (omega (arith, t .0, none))) (λ t. absurd (t .1 (length passed) chain)) (found .lengths refl to known))
       (sought failed (from ∷ passed))
 
-  pub not-reached : ((passed : List ℕ) → Along (relays pairs marks from noNode) (placesOfNodes (length marks)) from passed to
+  pub not-reached : ((passed : List ℕ) → Along (usableHearing pairs marks from noNode) (placesOfNodes (length marks)) from passed to
       → List·Memᴰ failed (from ∷ passed)) → at lengths to ≡ noChain
   not-reached all-pass =
       ⊎-elim
       (λ t.
-      let (passed, long, way) = chain-along (relays pairs marks from failed) (placesOfNodes (length marks)) from (at lengths to) (t .1 .chain) in
+      let (passed, long, way) = chain-along (usableHearing pairs marks from failed) (placesOfNodes (length marks)) from (at lengths to) (t .1 .chain) in
       let whole = as-whole pairs marks from failed (served .few) (served .begins) way in
       absurd (not-passed pairs marks from failed (served .few) other way (all-pass passed whole)))
       (λ t. t .0)
-      (found .told refl to known)
+      (found .lengths refl to known)

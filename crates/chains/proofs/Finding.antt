@@ -12,8 +12,8 @@ use lib.ListN.{length}
 use Rattle.octets.specs.Octets.{at}
 use Rattle.octets.proofs.Tests.{both}
 use Rattle.chains.specs.Chains.{Shortest}
-use Rattle.chains.specs.Lengths.{placesOfNodes, nodeLimit, noChain, isUsable, relays, served, areFound, LengthsFound}
-use Rattle.chains.specs.Rounds.{beforeRounds, afterRound, NoneTold}
+use Rattle.chains.specs.Lengths.{placesOfNodes, nodeLimit, noChain, isUsable, usableHearing, served, areFound, LengthsFound}
+use Rattle.chains.specs.Rounds.{beforeRounds, afterRound, NoneHasLength}
 use Rattle.chains.proofs.Rounds.{Known, known-first, known-after, all-told, none-by-count, none-by-value}
 
 -- a network that is served, test by test
@@ -50,7 +50,7 @@ module _ (pairs marks : List ℕ) (from failed : ℕ) (before : List ℕ) where
 
   pub refused : (t : Bool) → t ≡ areFound n from (length before) → not t ≡ true → LengthsFound pairs marks from failed before false before
   refused t is not-so =
-      record { answer = sym (not-true t not-so) ∙ is; size = refl; told = λ so. absurd (false≢true so); unchanged = λ so. refl }
+      record { answer = sym (not-true t not-so) ∙ is; size = refl; lengths = λ so. absurd (false≢true so); unchanged = λ so. refl }
 
   pub granted : (t : Bool) → t ≡ areFound n from (length before) → not t ≡ false → Served n from (length before)
   granted t is so = is-served n from (length before) (sym is ∙ not-false t so)
@@ -71,13 +71,13 @@ module _ (pairs marks : List ℕ) (from failed : ℕ) (before : List ℕ) where
     same-size k lengths known = known .size ∙ sym (serves .as-many)
 
     found : (k : ℕ) (lengths : List ℕ) → Known pairs marks from failed k lengths
-        → ((to j : ℕ) → k < j → ¬ Shortest (relays pairs marks from failed) (placesOfNodes n) from to j)
+        → ((to j : ℕ) → k < j → ¬ Shortest (usableHearing pairs marks from failed) (placesOfNodes n) from to j)
         → LengthsFound pairs marks from failed before true lengths
     found k lengths known none =
         record {
           answer = served-is n from (length before) serves;
           size = same-size k lengths known;
-          told = λ so. all-told pairs marks from failed (serves .begins) k lengths (serves .few) none known;
+          lengths = λ so. all-told pairs marks from failed (serves .begins) k lengths (serves .few) none known;
           unchanged = λ so. absurd (true≢false so);
         }
 
@@ -86,7 +86,7 @@ module _ (pairs marks : List ℕ) (from failed : ℕ) (before : List ℕ) where
     all-found k lengths enough known = found k lengths known (none-by-count pairs marks from failed (serves .begins) k enough)
 
     -- no node was told a length in the last round
-    pub none-further : (k : ℕ) (lengths : List ℕ) (some : Bool) → k < noChain → (some ≡ false → NoneTold lengths k)
+    pub none-further : (k : ℕ) (lengths : List ℕ) (some : Bool) → k < noChain → (some ≡ false → NoneHasLength lengths k)
         → not some ≡ true → Known pairs marks from failed k lengths → LengthsFound pairs marks from failed before true lengths
     none-further k lengths some low none not-so known =
         found k lengths known
@@ -98,5 +98,5 @@ pub none-next : (lengths : List ℕ) (value i m : ℕ) → m ≡ suc i → ((pla
 none-next lengths value i m next before here place below =
     by-cases (decLt place i) (before place) (λ not-before e. here (ap (at lengths) {x = i} {y = place} (omega arith) ∙ e))
 
-pub none-at-all : (lengths : List ℕ) (value i : ℕ) → length lengths ≤ i → ((place : ℕ) → place < i → at lengths place ≢ value) → NoneTold lengths value
+pub none-at-all : (lengths : List ℕ) (value i : ℕ) → length lengths ≤ i → ((place : ℕ) → place < i → at lengths place ≢ value) → NoneHasLength lengths value
 none-at-all lengths value i all before place below = before place (omega arith)

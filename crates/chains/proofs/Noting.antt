@@ -10,16 +10,16 @@ use lib.Dec.{eqb}
 use lib.ListN.{length, drop, set, drop-of-length-le}
 use Rattle.octets.specs.Octets.{at}
 use Rattle.chains.specs.Lengths.{noChain, isUnmarked, isUsable}
-use Rattle.chains.specs.Rounds.{isTold, noted, afterRound}
+use Rattle.chains.specs.Rounds.{hasLength, noted, afterRound}
 use Rattle.chains.proofs.Bytes.{two}
 use Rattle.chains.proofs.Rounds.{told-is}
 
-pub told-here : (lengths : List ℕ) (place value : ℕ) → place < length lengths → eqb (at lengths place) value ≡ isTold lengths place value
-unfolding isTold
+pub told-here : (lengths : List ℕ) (place value : ℕ) → place < length lengths → eqb (at lengths place) value ≡ hasLength lengths place value
+unfolding hasLength
 told-here lengths place value below = rw (lt-ltb place (length lengths) below) refl
 
-pub told-nowhere : (lengths : List ℕ) (place value : ℕ) → length lengths ≤ place → false ≡ isTold lengths place value
-unfolding isTold
+pub told-nowhere : (lengths : List ℕ) (place value : ℕ) → length lengths ≤ place → false ≡ hasLength lengths place value
+unfolding hasLength
 told-nowhere lengths place value past = rw (le-ltb place (length lengths) past) refl
 
 -- whether a hearing is usable, test by test
@@ -44,26 +44,26 @@ module _ (marks : List ℕ) (from failed sender node : ℕ) where
       rw (ne-eqb sender failed works) (rw (ne-eqb node failed hears) (rw (ne-eqb sender from other) (rw (sym is) (sym (and-true (eqb mark 0))))))
 
 module _ (usable : ℕ → ℕ → Bool) (k a b : ℕ) (lengths : List ℕ) where
-  pub no-sender : (t : Bool) → t ≡ isTold lengths a k → not t ≡ true → lengths ≡ noted usable k a b lengths
+  pub no-sender : (t : Bool) → t ≡ hasLength lengths a k → not t ≡ true → lengths ≡ noted usable k a b lengths
   unfolding noted
   no-sender t is not-so = rw (sym is ∙ not-true t not-so) refl
 
-  pub no-need : (t : Bool) → t ≡ isTold lengths b noChain → not t ≡ true → lengths ≡ noted usable k a b lengths
+  pub no-need : (t : Bool) → t ≡ hasLength lengths b noChain → not t ≡ true → lengths ≡ noted usable k a b lengths
   unfolding noted
-  no-need t is not-so = rw (sym is ∙ not-true t not-so) (rw (and-false (isTold lengths a k)) refl)
+  no-need t is not-so = rw (sym is ∙ not-true t not-so) (rw (and-false (hasLength lengths a k)) refl)
 
   pub not-usable : (t : Bool) → t ≡ usable a b → not t ≡ true → lengths ≡ noted usable k a b lengths
   unfolding noted
   not-usable t is not-so =
-      rw (sym is ∙ not-true t not-so) (rw (and-false (isTold lengths b noChain)) (rw (and-false (isTold lengths a k)) refl))
+      rw (sym is ∙ not-true t not-so) (rw (and-false (hasLength lengths b noChain)) (rw (and-false (hasLength lengths a k)) refl))
 
-  pub one-more : (s t u : Bool) → s ≡ isTold lengths a k → not s ≡ false → t ≡ isTold lengths b noChain → not t ≡ false
+  pub one-more : (s t u : Bool) → s ≡ hasLength lengths a k → not s ≡ false → t ≡ hasLength lengths b noChain → not t ≡ false
       → u ≡ usable a b → not u ≡ false → set lengths b (k + 1) ≡ noted usable k a b lengths
   unfolding noted
   one-more s t u s-is s-yes t-is t-yes u-is u-yes =
       rw (sym s-is ∙ not-false s s-yes) (rw (sym t-is ∙ not-false t t-yes) (rw (sym u-is ∙ not-false u u-yes) refl))
 
-pub told-below : (lengths : List ℕ) (b : ℕ) (t : Bool) → t ≡ isTold lengths b noChain → not t ≡ false → b < length lengths
+pub told-below : (lengths : List ℕ) (b : ℕ) (t : Bool) → t ≡ hasLength lengths b noChain → not t ≡ false → b < length lengths
 told-below lengths b t is so = told-is lengths b noChain (sym is ∙ not-false t so) .0
 
 module _ (usable : ℕ → ℕ → Bool) (k : ℕ) (pairs lengths : List ℕ) where

@@ -8,17 +8,17 @@ use native.Mathlib.Omega.{arith}
 use lib.ListN.{length}
 use lib.Seq.{ext-getD}
 use Rattle.octets.specs.Octets.{at}
-use Rattle.chains.specs.Lengths.{placesOfNodes, relays, Tells, LengthsFound}
+use Rattle.chains.specs.Lengths.{placesOfNodes, usableHearing, IsLength, LengthsFound}
 use Rattle.chains.proofs.Steps.{shortest-one}
 use Rattle.chains.proofs.Finding.{is-served}
 
 module _ (pairs marks : List ℕ) (from failed : ℕ) where
-  pub tells-one : (to v w : ℕ) → Tells pairs marks from failed to v → Tells pairs marks from failed to w → v ≡ w
+  pub tells-one : (to v w : ℕ) → IsLength pairs marks from failed to v → IsLength pairs marks from failed to w → v ≡ w
   tells-one to v w t u =
       ⊎-elim {C = v ≡ w}
       (λ s.
       ⊎-elim {C = v ≡ w}
-      (λ s′. shortest-one (relays pairs marks from failed) (placesOfNodes (length marks)) from v w (s .1) (s′ .1))
+      (λ s′. shortest-one (usableHearing pairs marks from failed) (placesOfNodes (length marks)) from v w (s .1) (s′ .1))
       (λ none. absurd (none .1 v (s .1 .chain)))
       u)
       (λ none.
@@ -43,5 +43,5 @@ module _ (pairs marks : List ℕ) (from failed : ℕ) where
           ext-getD 0 after after′ (f .size ∙ sym (g .size))
           (λ to below.
           let known : to < length marks = omega (arith, below, as-long before after f) in
-          tells-one to (at after to) (at after′ to) (f .told refl to known) (g .told refl to known))
+          tells-one to (at after to) (at after′ to) (f .lengths refl to known) (g .lengths refl to known))
       go false g f = f .unchanged refl ∙ sym (g .unchanged refl)

@@ -13,20 +13,20 @@ use lib.Seq.{getD-set-same, getD-set-other}
 use Rattle.octets.specs.Octets.{at}
 use Rattle.octets.proofs.Tests.{both}
 use Rattle.chains.specs.Chains.{Chain, Shortest, Beyond}
-use Rattle.chains.specs.Lengths.{isHeard, placesOfNodes, noChain, isUsable, relays, Tells}
-use Rattle.chains.specs.Rounds.{beforeRounds, isTold, noted, afterRound, NoneTold}
+use Rattle.chains.specs.Lengths.{isHeard, placesOfNodes, noChain, isUsable, usableHearing, IsLength}
+use Rattle.chains.specs.Rounds.{beforeRounds, hasLength, noted, afterRound, NoneHasLength}
 use Rattle.chains.proofs.Steps.{chain-none, chain-is-none, chain-next, chain-last, chain-known, shortest-before, shortest-one}
 use Rattle.chains.proofs.Hearings.{later, first-heard, rest-heard, relayed-parts, relayed}
 use Rattle.chains.proofs.Fewer.{in-places, below-places, shortest-below}
 
-pub told-is : (lengths : List ℕ) (place value : ℕ) → isTold lengths place value ≡ true → (place < length lengths) × (at lengths place ≡ value)
-unfolding isTold
+pub told-is : (lengths : List ℕ) (place value : ℕ) → hasLength lengths place value ≡ true → (place < length lengths) × (at lengths place ≡ value)
+unfolding hasLength
 told-is lengths place value e =
     let (below, is) = both (ltb place (length lengths)) (eqb (at lengths place) value) e in
     (ltb-true place (length lengths) below, eqb-true (at lengths place) value is)
 
-pub is-told : (lengths : List ℕ) (place value : ℕ) → place < length lengths → at lengths place ≡ value → isTold lengths place value ≡ true
-unfolding isTold
+pub is-told : (lengths : List ℕ) (place value : ℕ) → place < length lengths → at lengths place ≡ value → hasLength lengths place value ≡ true
+unfolding hasLength
 is-told lengths place value below is = rw (lt-ltb place (length lengths) below) (eq-eqb (at lengths place) value is)
 
 module _ (pairs marks : List ℕ) (from failed : ℕ) where
@@ -34,7 +34,7 @@ module _ (pairs marks : List ℕ) (from failed : ℕ) where
   n = length marks
 
   abbrev hears : ℕ → ℕ → Bool
-  hears = relays pairs marks from failed
+  hears = usableHearing pairs marks from failed
 
   abbrev usable : ℕ → ℕ → Bool
   usable = isUsable marks from failed
@@ -174,9 +174,9 @@ module _ (pairs marks : List ℕ) (from failed : ℕ) where
   step : from < n → (k a b : ℕ) (rest lengths : List ℕ) → k + 1 < noChain → isHeard pairs a b ≡ true
       → During k (a ∷ b ∷ rest) lengths → During k rest (noted usable k a b lengths)
   unfolding noted
-  step begins k a b rest lengths few heard d = go (isTold lengths a k) refl (isTold lengths b noChain) refl (usable a b) refl
+  step begins k a b rest lengths few heard d = go (hasLength lengths a k) refl (hasLength lengths b noChain) refl (usable a b) refl
     where
-      go : (p : Bool) → isTold lengths a k ≡ p → (q : Bool) → isTold lengths b noChain ≡ q → (u : Bool) → usable a b ≡ u
+      go : (p : Bool) → hasLength lengths a k ≡ p → (q : Bool) → hasLength lengths b noChain ≡ q → (u : Bool) → usable a b ≡ u
           → During k rest (cond (p && (q && u)) (set lengths b (k + 1)) lengths)
       go true p true q true u =
           let (a-at, a-is) = told-is lengths a k p in
@@ -233,9 +233,9 @@ module _ (pairs marks : List ℕ) (from failed : ℕ) where
 
   -- where no shortest chain is longer, all is told
   pub all-told : from < n → (k : ℕ) (lengths : List ℕ) → n ≤ noChain → ((to j : ℕ) → k < j → ¬ Shortest hears (placesOfNodes n) from to j)
-      → Known k lengths → (to : ℕ) → to < n → Tells pairs marks from failed to (at lengths to)
+      → Known k lengths → (to : ℕ) → to < n → IsLength pairs marks from failed to (at lengths to)
   all-told begins k lengths few none known to below =
-      ⊎-elim {C = Tells pairs marks from failed to (at lengths to)}
+      ⊎-elim {C = IsLength pairs marks from failed to (at lengths to)}
       (λ t. inl (omega (arith, few, shortest-below hears n from begins (at lengths to) to (t .1)), t .1))
       (λ t. inr (t .0, λ j c. never (t .1) j j (omega arith) c))
       (known .each to below)
@@ -258,7 +258,7 @@ module _ (pairs marks : List ℕ) (from failed : ℕ) where
   none-by-count begins k enough to j past s = omega (arith, shortest-below hears n from begins j to s, past, enough)
 
   -- nor where no node has a shortest chain of k hearings, since the one before the last has one of a hearing less
-  pub none-by-value : from < n → (k : ℕ) (lengths : List ℕ) → k ≢ noChain → NoneTold lengths k → Known k lengths
+  pub none-by-value : from < n → (k : ℕ) (lengths : List ℕ) → k ≢ noChain → NoneHasLength lengths k → Known k lengths
       → (to j : ℕ) → k < j → ¬ Shortest hears (placesOfNodes n) from to j
   none-by-value begins k lengths few none known to j past s = descend (j - k) to j (omega arith) s
     where

@@ -40,14 +40,14 @@ unfoldable pub isUsable : List ℕ → ℕ → ℕ → ℕ → ℕ → Bool
 isUsable marks from failed sender node = (eqb sender from || isUnmarked marks sender) && not (eqb sender failed || eqb node failed)
 
 -- the hearings that chains from the originator consist of
-unfoldable pub relays : List ℕ → List ℕ → ℕ → ℕ → ℕ → ℕ → Bool
-relays pairs marks from failed sender node = isHeard pairs sender node && isUsable marks from failed sender node
+unfoldable pub usableHearing : List ℕ → List ℕ → ℕ → ℕ → ℕ → ℕ → Bool
+usableHearing pairs marks from failed sender node = isHeard pairs sender node && isUsable marks from failed sender node
 
--- what is told of a node: the length of its shortest chain from the originator, or that there is none
-abbrev pub Tells : List ℕ → List ℕ → ℕ → ℕ → ℕ → ℕ → Type 0
-Tells pairs marks from failed to value =
-    ((value < noChain) × Shortest (relays pairs marks from failed) (placesOfNodes (length marks)) from to value)
-    ⊎ ((value ≡ noChain) × Unreached (relays pairs marks from failed) (placesOfNodes (length marks)) from to)
+-- a node's value: the length of its shortest chain from the originator, or that there is none
+abbrev pub IsLength : List ℕ → List ℕ → ℕ → ℕ → ℕ → ℕ → Type 0
+IsLength pairs marks from failed to value =
+    ((value < noChain) × Shortest (usableHearing pairs marks from failed) (placesOfNodes (length marks)) from to value)
+    ⊎ ((value ≡ noChain) × Unreached (usableHearing pairs marks from failed) (placesOfNodes (length marks)) from to)
 
 -- at most 255 nodes, the originator one of them
 abbrev pub served : ℕ → ℕ → Bool
@@ -57,9 +57,9 @@ served n from = leb n nodeLimit && ltb from n
 unfoldable pub areFound : ℕ → ℕ → ℕ → Bool
 areFound n from places = served n from && eqb places n
 
--- the outcome of finding the lengths, a byte for each node: all are told where the network is served, else nothing is changed
+-- the outcome of finding the lengths, a byte for each node: all are found where the network is served, else nothing is changed
 pub record LengthsFound (pairs marks : List ℕ) (from failed : ℕ) (before : List ℕ) (done : Bool) (after : List ℕ) : Type 0 where
   pub answer : done ≡ areFound (length marks) from (length before)
   pub size : length after ≡ length before
-  pub told : done ≡ true → (to : ℕ) → to < length marks → Tells pairs marks from failed to (at after to)
+  pub lengths : done ≡ true → (to : ℕ) → to < length marks → IsLength pairs marks from failed to (at after to)
   pub unchanged : done ≡ false → after ≡ before

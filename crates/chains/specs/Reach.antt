@@ -1,4 +1,4 @@
--- What the shortest chains say of a report's reach (document 02, W-208), over the values told of the nodes. Assumes nothing.
+-- What the shortest chains say of a report's reach (document 02, W-208), over the lengths found. Assumes nothing.
 use mathlib.Core.Path.{_≡_}
 use mathlib.Core.Bool.{Bool, true, false, not, cond, _&&_, _||_}
 use mathlib.Core.List.{List, [], _∷_, List·Memᴰ, List·Nodup}
@@ -34,7 +34,7 @@ leastFrom values h (suc more) = cond (eqb (missed h values) 0) (HopLimit h) (lea
 unfoldable pub leastHop : List ℕ → Least
 leastHop values = leastFrom values 0 8
 
--- by the values told, all nodes but the originator, whose value is 0, are delivered a report with that hop limit, from 0 to 7
+-- by the lengths found, all nodes but the originator, whose value is 0, are delivered a report with that hop limit, from 0 to 7
 abbrev pub AllDelivered : ℕ → List ℕ → Type 0
 AllDelivered h values = (place : ℕ) → place < length values → 0 < at values place → isDelivered h (at values place) ≡ true
 

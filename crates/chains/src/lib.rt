@@ -5,7 +5,7 @@ ghost use Prim.Native.Nat.{_<_};
 ghost use lib.ListN.{length, replicate};
 ghost use Rattle.chains.specs.Lengths.{noChain, isUsable, areFound, LengthsFound};
 ghost use Rattle.chains.specs.Reach.{isDelivered, isMissed, missed, leastHop};
-ghost use Rattle.chains.specs.Rounds.{beforeRounds, isTold, noted, afterRound, NoneTold};
+ghost use Rattle.chains.specs.Rounds.{beforeRounds, hasLength, noted, afterRound, NoneHasLength};
 use octets::byte;
 use octets::byte_value;
 use octets::flag;
@@ -118,10 +118,10 @@ fn note(
     requires { ⌜ k < 254 ⌝ }
     ensures { λ _. ⌜ now (lengths .exit) ≡ noted (isUsable (now (marks .entry)) from failed) k sender node (now (lengths .entry)) ⌝ }
 {
-    if !is_told(lengths, sender, k) {
+    if !has_length(lengths, sender, k) {
         return;
     }
-    if !is_told(lengths, node, NO_CHAIN) {
+    if !has_length(lengths, node, NO_CHAIN) {
         return;
     }
     if !is_usable(marks, from, failed, sender, node) {
@@ -145,8 +145,8 @@ fn is_usable(marks: &[u8], from: usize, failed: usize, sender: usize, node: usiz
     byte(marks, sender) == 0
 }
 
-fn is_told(lengths: &[u8], place: usize, value: u8) -> bool
-    ensures { λ r. ⌜ r ≡ isTold (now (lengths .entry)) place value ⌝ }
+fn has_length(lengths: &[u8], place: usize, value: u8) -> bool
+    ensures { λ r. ⌜ r ≡ hasLength (now (lengths .entry)) place value ⌝ }
 {
     if place < lengths.len() {
         lengths[place] == value
@@ -157,7 +157,7 @@ fn is_told(lengths: &[u8], place: usize, value: u8) -> bool
 
 // Whether some node has that length. Where none has, none has a greater one.
 fn is_anywhere(lengths: &[u8], value: u8) -> bool
-    ensures { λ r. ⌜ (r ≡ false → NoneTold (now (lengths .entry)) value) ⌝ }
+    ensures { λ r. ⌜ (r ≡ false → NoneHasLength (now (lengths .entry)) value) ⌝ }
 {
     let mut i: usize = 0;
     while i < lengths.len() {
@@ -177,19 +177,19 @@ pub enum Least {
 
 // Whether a node of that length, as `find_lengths` writes it, is delivered a report with that hop limit: a length of 1 to the hop limit and one more, or
 // any chain at 7, which is never lowered. The originator, of length 0, is not. Meant for hop limits from 0 to 7; any is answered. Document 02, W-208.
-pub fn is_delivered(hop_limit: u8, length: u8) -> bool
-    ensures { λ r. ⌜ r ≡ isDelivered «hop_limit» length ⌝ }
+pub fn is_delivered(hop_limit: u8, hearings: u8) -> bool
+    ensures { λ r. ⌜ r ≡ isDelivered «hop_limit» hearings ⌝ }
 {
-    if length == 0 {
+    if hearings == 0 {
         return false;
     }
-    if length == NO_CHAIN {
+    if hearings == NO_CHAIN {
         return false;
     }
     if hop_limit == 7 {
         return true;
     }
-    length - 1 <= hop_limit
+    hearings - 1 <= hop_limit
 }
 
 // How many nodes other than the originator are not delivered a report with that hop limit. Meant for hop limits from 0 to 7; any is answered. Document 02,
@@ -206,11 +206,11 @@ pub fn missed(hop_limit: u8, lengths: &[u8]) -> usize
     count
 }
 
-fn is_missed(hop_limit: u8, length: u8) -> bool
-    ensures { λ r. ⌜ r ≡ isMissed «hop_limit» length ⌝ }
+fn is_missed(hop_limit: u8, hearings: u8) -> bool
+    ensures { λ r. ⌜ r ≡ isMissed «hop_limit» hearings ⌝ }
 {
-    if length > 0 {
-        !is_delivered(hop_limit, length)
+    if hearings > 0 {
+        !is_delivered(hop_limit, hearings)
     } else {
         false
     }

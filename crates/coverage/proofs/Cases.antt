@@ -27,8 +27,9 @@ use Rattle.flood.proofs.Lists.{nodup-more}
 use Rattle.flood.proofs.Others.{others-are}
 use Rattle.coverage.specs.Hearing.{TakenByAll, ByNoOther}
 use Rattle.coverage.specs.Delivery.{Planned, Delivered}
-use Rattle.coverage.specs.Cases.{reportAsked, reading, repeater, tell, toldAlong, toldOfEach, nextInLine, lineAddresses, lineReceptions, lineAir}
-use Rattle.coverage.specs.Cases.{lineTold, written, twoWays, twoWaysAddresses, longerFirst}
+use Rattle.coverage.specs.Cases.{reportAsked, reading, repeater, answerLine, answersAlong, answersOfEach, nextInLine, lineAddresses, lineReceptions}
+use Rattle.coverage.specs.Cases.{lineAir}
+use Rattle.coverage.specs.Cases.{lineAnswers, written, twoWays, twoWaysAddresses, longerFirst}
 use Rattle.coverage.proofs.Checked.{absent, distinct, all, all-pass, below, below-pass, happens, areTaken, checked}
 use Rattle.coverage.proofs.Planned.{by-shortest, reach}
 use Rattle.coverage.proofs.Schedule.{within}
@@ -98,12 +99,12 @@ line-air =
     each-hop (λ hop. onTheAir (map repeater lineAddresses) (fresh (reportAsked hop) reading) (lineReceptions hop) ≡ lineAir hop) refl refl refl refl refl refl
     refl
 
-pub line-told : (hop : ℕ) → hop ≤ 6 → toldOfEach (map repeater lineAddresses) hop (lineReceptions hop) ≡ lineTold hop
-unfolding toldAlong tell answerOf deliveryNumber taken deliveryFault flood answer sends fresh freshHeader encode headerBytes pathBytes repeated repeatNumber
-    stopFault nodeOrReadingFault nodeFault firstFault faultOf lowAboveHigh readOf headerOf dropFault echoFault passFault repeatFault addressesAt inPath
-    _gives_ _orElse_
-line-told =
-    each-hop (λ hop. toldOfEach (map repeater lineAddresses) hop (lineReceptions hop) ≡ lineTold hop) refl refl refl refl refl refl refl
+pub line-answers : (hop : ℕ) → hop ≤ 6 → answersOfEach (map repeater lineAddresses) hop (lineReceptions hop) ≡ lineAnswers hop
+unfolding answersAlong answerLine answerOf deliveryNumber taken deliveryFault flood answer sends fresh freshHeader encode headerBytes pathBytes repeated
+    repeatNumber stopFault nodeOrReadingFault nodeFault firstFault faultOf lowAboveHigh readOf headerOf dropFault echoFault passFault repeatFault addressesAt
+    inPath _gives_ _orElse_
+line-answers =
+    each-hop (λ hop. answersOfEach (map repeater lineAddresses) hop (lineReceptions hop) ≡ lineAnswers hop) refl refl refl refl refl refl refl
 
 abbrev LineChecked : ℕ → Type 0
 LineChecked hop = areTaken (map repeater lineAddresses) nextInLine (fresh (reportAsked hop) reading) (lineReceptions hop) (lineAir hop) ≡ true
@@ -125,13 +126,13 @@ pub two-ways-planned : Planned (map repeater twoWaysAddresses) (reportAsked 6) r
 unfolding differing inPath all
 two-ways-planned = planned twoWaysAddresses refl refl 6 (omega arith)
 
-pub two-ways-told : toldOfEach (map repeater twoWaysAddresses) 6 longerFirst
+pub two-ways-answers : answersOfEach (map repeater twoWaysAddresses) 6 longerFirst
     ≡ (1 ∷ 0 ∷ 0 ∷ reading) ∷ (1000 ∷ 42 ∷ 1 ∷ []) ∷ (2 ∷ 0 ∷ 1 ∷ reading) ∷ (9 ∷ 0 ∷ 2 ∷ reading) ∷ (4 ∷ 0 ∷ 0 ∷ reading) ∷ (9 ∷ 0 ∷ 1 ∷ reading)
     ∷ (9 ∷ 30 ∷ 3 ∷ []) ∷ (9 ∷ 30 ∷ 2 ∷ []) ∷ []
-unfolding toldAlong tell answerOf deliveryNumber taken deliveryFault flood answer sends fresh freshHeader encode headerBytes pathBytes repeated repeatNumber
-    stopFault nodeOrReadingFault nodeFault firstFault faultOf lowAboveHigh readOf headerOf dropFault echoFault passFault repeatFault addressesAt inPath
-    _gives_ _orElse_
-two-ways-told = refl
+unfolding answersAlong answerLine answerOf deliveryNumber taken deliveryFault flood answer sends fresh freshHeader encode headerBytes pathBytes repeated
+    repeatNumber stopFault nodeOrReadingFault nodeFault firstFault faultOf lowAboveHigh readOf headerOf dropFault echoFault passFault repeatFault addressesAt
+    inPath _gives_ _orElse_
+two-ways-answers = refl
 
 two-ways-checked : areTaken (map repeater twoWaysAddresses) twoWays (fresh (reportAsked 6) reading) longerFirst
     (onTheAir (map repeater twoWaysAddresses) (fresh (reportAsked 6) reading) longerFirst) ≡ true

@@ -22,7 +22,7 @@ use Rattle.flood.specs.Flood.{Reception}
 use Rattle.flood.proofs.Fresh.{originated-begins, fresh-shows, fresh-source, fresh-hop}
 use Rattle.coverage.specs.Hearing.{TakenByAll, ByNoOther}
 use Rattle.coverage.specs.Delivery.{LetsIn, Roomy, Delivered}
-use Rattle.coverage.specs.Reach.{relayed, Lasts, ShortestThrough, ReachThrough}
+use Rattle.coverage.specs.Reach.{hearsThrough, Lasts, ShortestThrough, ReachThrough}
 use Rattle.coverage.proofs.Chaining.{shortest-of}
 use Rattle.coverage.proofs.Reach.{reached, delivered-only, delivered-few, delivered-chain}
 
@@ -58,12 +58,12 @@ module _ (hears : ℕ → ℕ → Bool) (nodes : List Repeater) (all : Nodes nod
   -- what was shown of the first transmission, in the words of the settings
   record Covers (receptions : List Reception) (shown : Header) (source h : ℕ) (part : List ℕ) : Type 0 where
     pub to-all : (n : Repeater) → List·Memᴰ n nodes → address n ≢ source → LetsIn shown n → (k : ℕ) → (h ≡ 7) ⊎ (k ≤ h)
-        → Shortest (relayed hears shown nodes) (map address nodes) source (address n) (suc k) → Delivered nodes first receptions n part k
+        → Shortest (hearsThrough hears shown nodes) (map address nodes) source (address n) (suc k) → Delivered nodes first receptions n part k
     pub only : (n : Repeater) (what : List ℕ) (count : ℕ) → Delivered nodes first receptions n what count
         → (what ≡ part) × (address n ≢ source) × LetsIn shown n
     pub few : (n : Repeater) (what : List ℕ) (count : ℕ) → Delivered nodes first receptions n what count → (h ≡ 7) ⊎ (count ≤ h)
     pub came : ByNoOther hears nodes first receptions → (n : Repeater) (what : List ℕ) (count : ℕ) → Delivered nodes first receptions n what count
-        → Chain (relayed hears shown nodes) (map address nodes) source (address n) (suc count)
+        → Chain (hearsThrough hears shown nodes) (map address nodes) source (address n) (suc count)
 
   module _ (each : Roomy nodes settings payload) (receptions : List Reception) (taken : TakenByAll hears nodes first receptions) where
     roomy : (n : Repeater) → List·Memᴰ n (repeaters (headerOf first) nodes)
@@ -104,17 +104,17 @@ module _ (hears : ℕ → ℕ → Bool) (nodes : List Repeater) (all : Nodes nod
         → (k : ℕ) → Lasts (settings .«hop_limit») k → ShortestThrough hears nodes settings payload receptions n k
         → Delivered nodes (fresh settings payload) receptions n payload (k - 1)
     by-shortest n n-in other lets zero lasts s =
-        absurd (other (chain-is-none (relayed hears header nodes) (map address nodes) (settings .source) (s .chain)))
+        absurd (other (chain-is-none (hearsThrough hears header nodes) (map address nodes) (settings .source) (s .chain)))
     by-shortest n n-in other lets (suc k) lasts s =
         let less : k ≡ suc k - 1 = omega arith in
         subst (λ (c : ℕ). Delivered nodes first receptions n payload c) less (covers .to-all n n-in other lets k (one-less k lasts) s)
 
     came-along : ByNoOther hears nodes first receptions → (n : Repeater) (what : List ℕ) (count : ℕ) → Delivered nodes first receptions n what count
         → Lasts (settings .«hop_limit») (count + 1)
-        × Chain (relayed hears header nodes) (map address nodes) (settings .source) (address n) (count + 1)
+        × Chain (hearsThrough hears header nodes) (map address nodes) (settings .source) (address n) (count + 1)
     came-along only n what count d = (
       ⊎-elim {C = Lasts (settings .«hop_limit») (count + 1)} inl (λ few. inr (omega arith)) (covers .few n what count d),
-      subst (λ (k : ℕ). Chain (relayed hears header nodes) (map address nodes) (settings .source) (address n) k) (omega arith)
+      subst (λ (k : ℕ). Chain (hearsThrough hears header nodes) (map address nodes) (settings .source) (address n) k) (omega arith)
           (covers .came only n what count d),
     )
 
@@ -122,7 +122,7 @@ module _ (hears : ℕ → ℕ → Bool) (nodes : List Repeater) (all : Nodes nod
     reach-through =
         record {
           reached = λ n n-in other lets j lasts c.
-              let (k, less, s) = shortest-of (relayed hears header nodes) (map address nodes) (settings .source) (address n) j c in
+              let (k, less, s) = shortest-of (hearsThrough hears header nodes) (map address nodes) (settings .source) (address n) j c in
               (k, s, by-shortest n n-in other lets k (fewer j k less lasts) s);
           only-let-in = covers .only;
           beyond = λ only n none what count d. let (lasts, chain) = came-along only n what count d in none (count + 1) lasts chain;

@@ -9,7 +9,7 @@ use native.Mathlib.Omega.{arith}
 use lib.ListN.{length, getElem?}
 use Rattle.flood.specs.Air.{Repeater, address, Nodes}
 use Rattle.flood.proofs.Lists.{apart, nodup-more, at-mem, mem-at}
-use Rattle.coverage.specs.Told.{remaining}
+use Rattle.coverage.specs.ByLengths.{remaining}
 
 module _ {A : Type 0} where
   pub is-left : (place i : ℕ) (l : List A) {a : A} → getElem? l i ≡ some a → i ≢ place → List·Memᴰ a (remaining place l)

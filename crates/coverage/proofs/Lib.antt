@@ -9,6 +9,6 @@ pub mod Covered
 pub mod Planned
 pub mod Left
 pub mod Places
-pub mod Told
+pub mod ByLengths
 pub mod Checked
 pub mod Cases

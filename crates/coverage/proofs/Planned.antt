@@ -32,13 +32,13 @@ use Rattle.flood.proofs.Repeaters.{open-passes, open-can, is-can, repeaters-are
 use Rattle.coverage.specs.Hearing.{TakenByAll, ByNoOther}
 use Rattle.coverage.specs.Delivery.{Planned, LetsIn, Roomy, Delivered}
 use Rattle.coverage.specs.Marks.{MarksSay}
-use Rattle.coverage.specs.Reach.{relayed, Reach}
-use Rattle.coverage.specs.Told.{Says, remaining}
+use Rattle.coverage.specs.Reach.{hearsThrough, Reach}
+use Rattle.coverage.specs.ByLengths.{Says, remaining}
 use Rattle.coverage.proofs.Covered.{reach-through}
 use Rattle.coverage.proofs.Reach.{links, linked}
 use Rattle.coverage.proofs.Schedule.{taken-exists, at-within}
 use Rattle.coverage.proofs.Left.{all-left}
-use Rattle.coverage.proofs.Told.{told, told-delivered}
+use Rattle.coverage.proofs.ByLengths.{by-lengths, delivered-by-lengths}
 
 -- chains of one relation are chains of another that has their hearings
 pub chain-also : (one other : ℕ → ℕ → Bool) (known : List ℕ) (source : ℕ)
@@ -99,7 +99,7 @@ module _ (hears : ℕ → ℕ → Bool) (nodes : List Repeater) (settings : Fres
       }
 
   abbrev link : ℕ → ℕ → Bool
-  link = relayed hears header nodes
+  link = hearsThrough hears header nodes
 
   all-link : (x y : ℕ) → (x ≡ settings .source) ⊎ List·Memᴰ x (map address nodes) → hears x y ≡ true → link x y ≡ true
   unfolding freshHeader
@@ -174,21 +174,21 @@ module _ (hears : ℕ → ℕ → Bool) (nodes : List Repeater) (settings : Fres
       roomy-left : Roomy (remaining noNode nodes) settings payload
       roomy-left = subst (λ (l : List Repeater). Roomy l settings payload) (sym same) planned-roomy
 
-      pub planned-told : (isDelivered (settings .«hop_limit») (at lengths place) ≡ true
+      pub planned-by-lengths : (isDelivered (settings .«hop_limit») (at lengths place) ≡ true
           → Delivered nodes (fresh settings payload) receptions n payload (at lengths place - 1))
           × (ByNoOther hears nodes (fresh settings payload) receptions → isDelivered (settings .«hop_limit») (at lengths place) ≡ false
           → (what : List ℕ) (count : ℕ) → ¬ Delivered nodes (fresh settings payload) receptions n what count)
-      planned-told =
+      planned-by-lengths =
           let inside = at-within nodes place n-at in
           let from-in = at-within (map address nodes) from from-at in
           let alive : place ≢ noNode = λ e. omega (arith, served .few, size) in
           let works : from ≢ noNode = λ e. omega (arith, served .few, served .begins) in (
             λ e.
                 subst (λ (l : List Repeater). Delivered l (fresh settings payload) receptions n payload (at lengths place - 1)) same
-                (told-delivered hears nodes (plan .network) settings payload room (plan .originated) noNode roomy-left receptions taken-by-left
+                (delivered-by-lengths hears nodes (plan .network) settings payload room (plan .originated) noNode roomy-left receptions taken-by-left
                 pairs says marks marked from from-at works before lengths found place n n-at alive (lets n (at-mem nodes place n-at)) e),
             λ only e what count d.
-                told hears nodes (plan .network) settings payload room (plan .originated) noNode roomy-left receptions taken-by-left
+                by-lengths hears nodes (plan .network) settings payload room (plan .originated) noNode roomy-left receptions taken-by-left
                 pairs says marks marked from from-at works before lengths found .not-delivered
                 (subst (λ (l : List Repeater). ByNoOther hears l (fresh settings payload) receptions) (sym same) only) place n n-at alive e what count
                 (subst (λ (l : List Repeater). Delivered l (fresh settings payload) receptions n what count) (sym same) d),

@@ -31,7 +31,7 @@ use Rattle.flood.proofs.Lists.{no-longer, nodup-snoc, mem-at, at-mem}
 use Rattle.flood.proofs.Repeaters.{Can, step-six, repeaters-are, are-repeaters}
 use Rattle.coverage.specs.Hearing.{senderOf, TakenByAll, ByNoOther}
 use Rattle.coverage.specs.Delivery.{LetsIn, Delivered}
-use Rattle.coverage.specs.Reach.{relayed}
+use Rattle.coverage.specs.Reach.{hearsThrough}
 use Rattle.coverage.proofs.Carried.{Carries, carried, delivers, not-to-originator, was-let-in, is-payload}
 use Rattle.coverage.proofs.Paths.{fact, path-walk, walk-sent}
 use Rattle.coverage.proofs.Takers.{taker-hears, taken-happens}
@@ -60,17 +60,17 @@ module _ (hears : ℕ → ℕ → Bool) (header : Header) (nodes : List Repeater
   counts = map address (repeaters header nodes)
 
   pub links : (x y : ℕ) → (x ≡ header .source) ⊎ List·Memᴰ x (map address (repeaters header nodes)) → hears x y ≡ true
-      → relayed hears header nodes x y ≡ true
-  unfolding relayed
+      → hearsThrough hears header nodes x y ≡ true
+  unfolding hearsThrough
   links x y from heard =
       ⊎-elim
       (λ e. rw (eq-eqb x (header .source) e, heard))
       (λ m. rw (is-found x counts m, or-true (eqb x (header .source)), heard))
       from
 
-  pub linked : (x y : ℕ) → relayed hears header nodes x y ≡ true
+  pub linked : (x y : ℕ) → hearsThrough hears header nodes x y ≡ true
       → ((x ≡ header .source) ⊎ List·Memᴰ x (map address (repeaters header nodes))) × (hears x y ≡ true)
-  unfolding relayed
+  unfolding hearsThrough
   linked x y e =
       let (from, heard) = both (eqb x (header .source) || inPath x counts) (hears x y) e in
       (go (eqb x (header .source)) refl from, heard)
@@ -105,7 +105,7 @@ module _ (hears : ℕ → ℕ → Bool) (nodes : List Repeater) (all : Nodes nod
   repeating = map address (repeaters (headerOf first) nodes)
 
   abbrev link : ℕ → ℕ → Bool
-  link = relayed hears (headerOf first) nodes
+  link = hearsThrough hears (headerOf first) nodes
 
   abbrev log : List (List ℕ)
   log = onTheAir nodes first receptions
@@ -145,7 +145,7 @@ module _ (hears : ℕ → ℕ → Bool) (nodes : List Repeater) (all : Nodes nod
         inr (omega (arith, path-long, steps)))
 
     pub delivered-chain : ByNoOther hears nodes first receptions
-        → Chain (relayed hears (headerOf first) nodes) (map address nodes) (sourceOf first) (address n) (suc count)
+        → Chain (hearsThrough hears (headerOf first) nodes) (map address nodes) (sourceOf first) (address n) (suc count)
     delivered-chain only =
         let t = d .received in
         let w = path-walk hears nodes all first begins receptions (taken .once) only t delivered-in in
@@ -240,7 +240,7 @@ module _ (hears : ℕ → ℕ → Bool) (nodes : List Repeater) (all : Nodes nod
 
     pub reached : (n : Repeater) → List·Memᴰ n nodes → address n ≢ sourceOf first → LetsIn (headerOf first) n
         → (k : ℕ) → (hopOf first ≡ 7) ⊎ (k ≤ hopOf first)
-        → Shortest (relayed hears (headerOf first) nodes) (map address nodes) (sourceOf first) (address n) (suc k)
+        → Shortest (hearsThrough hears (headerOf first) nodes) (map address nodes) (sourceOf first) (address n) (suc k)
         → Delivered nodes first receptions n (payloadIn (headerOf first) first) k
     reached n n-in not-own lets k lasts s =
         let step = chain-last link known (sourceOf first) k (s .chain) in

@@ -57,19 +57,19 @@ repeater own =
     }
 
 -- what each reception is answered, in turn: the node's address, its delivery number, the path count of what it received, and the delivered part
-unfoldable pub tell : Option Repeater → Option (List ℕ) → List ℕ
-tell none received = []
-tell (some n) none = []
-tell (some n) (some received) =
+unfoldable pub answerLine : Option Repeater → Option (List ℕ) → List ℕ
+answerLine none received = []
+answerLine (some n) none = []
+answerLine (some n) (some received) =
     let answer = answerOf (n .node) (n .room) received in
     address n ∷ answer .delivery ∷ headerOf received .«path_count» ∷ take (answer .«delivered_length») (drop (answer .«delivered_place») received)
 
-unfoldable pub toldAlong : List Repeater → List (List ℕ) → List Reception → List (List ℕ)
-toldAlong nodes air [] = []
-toldAlong nodes air (r ∷ later) = tell (getElem? nodes (r .node)) (getElem? air (r .transmission)) ∷ toldAlong nodes air later
+unfoldable pub answersAlong : List Repeater → List (List ℕ) → List Reception → List (List ℕ)
+answersAlong nodes air [] = []
+answersAlong nodes air (r ∷ later) = answerLine (getElem? nodes (r .node)) (getElem? air (r .transmission)) ∷ answersAlong nodes air later
 
-abbrev pub toldOfEach : List Repeater → ℕ → List Reception → List (List ℕ)
-toldOfEach nodes hop receptions = toldAlong nodes (onTheAir nodes (fresh (reportAsked hop) reading) receptions) receptions
+abbrev pub answersOfEach : List Repeater → ℕ → List Reception → List (List ℕ)
+answersOfEach nodes hop receptions = answersAlong nodes (onTheAir nodes (fresh (reportAsked hop) reading) receptions) receptions
 
 -- The line: the originator 1000, then 1001 to 1007, each of which hears the one before it and no other.
 abbrev pub nextInLine : ℕ → ℕ → Bool
@@ -97,8 +97,8 @@ abbrev pub lineAir : ℕ → List (List ℕ)
 lineAir hop = map (lineSent hop) (take (hop + 1) (0 ∷ 1 ∷ 2 ∷ 3 ∷ 4 ∷ 5 ∷ 6 ∷ []))
 
 -- and how it is answered: delivered by each as far as it goes, with the number of those before it as the path count
-abbrev pub lineTold : ℕ → List (List ℕ)
-lineTold hop = map (λ hops. (1001 + hops) ∷ 0 ∷ hops ∷ reading) (take (hop + 1) (0 ∷ 1 ∷ 2 ∷ 3 ∷ 4 ∷ 5 ∷ 6 ∷ []))
+abbrev pub lineAnswers : ℕ → List (List ℕ)
+lineAnswers hop = map (λ hops. (1001 + hops) ∷ 0 ∷ hops ∷ reading) (take (hop + 1) (0 ∷ 1 ∷ 2 ∷ 3 ∷ 4 ∷ 5 ∷ 6 ∷ []))
 
 -- A relation line by line, as the program `reach` reads it: a sender, and those that hear it.
 pub record Line : Type 0 where

@@ -2,5 +2,5 @@ pub mod Hearing
 pub mod Delivery
 pub mod Reach
 pub mod Marks
-pub mod Told
+pub mod ByLengths
 pub mod Cases

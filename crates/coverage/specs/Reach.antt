@@ -17,8 +17,8 @@ use Rattle.coverage.specs.Hearing.{ByNoOther}
 use Rattle.coverage.specs.Delivery.{LetsIn, Delivered}
 
 -- a hearing that takes a message on: the sender is its source or the address of a node that can repeat it
-unfoldable pub relayed : (ℕ → ℕ → Bool) → Header → List Repeater → ℕ → ℕ → Bool
-relayed hears header nodes sender node = (eqb sender (header .source) || inPath sender (map address (repeaters header nodes))) && hears sender node
+unfoldable pub hearsThrough : (ℕ → ℕ → Bool) → Header → List Repeater → ℕ → ℕ → Bool
+hearsThrough hears header nodes sender node = (eqb sender (header .source) || inPath sender (map address (repeaters header nodes))) && hears sender node
 
 -- a chain that hop limit h lets a message go along: at most h + 1 hearings, and any number at 7, which is never lowered
 abbrev pub Lasts : ℕ → ℕ → Type 0
@@ -27,10 +27,10 @@ Lasts h hearings = (h ≡ 7) ⊎ (hearings ≤ h + 1)
 module _ (hears : ℕ → ℕ → Bool) (nodes : List Repeater) (settings : FreshSettings) (payload : List ℕ) (receptions : List Reception) where
   -- a chain from the originator to a node, through nodes that can repeat the message
   abbrev pub ChainThrough : Repeater → ℕ → Type 0
-  ChainThrough n k = Chain (relayed hears (freshHeader settings (length payload)) nodes) (map address nodes) (settings .source) (address n) k
+  ChainThrough n k = Chain (hearsThrough hears (freshHeader settings (length payload)) nodes) (map address nodes) (settings .source) (address n) k
 
   abbrev pub ShortestThrough : Repeater → ℕ → Type 0
-  ShortestThrough n k = Shortest (relayed hears (freshHeader settings (length payload)) nodes) (map address nodes) (settings .source) (address n) k
+  ShortestThrough n k = Shortest (hearsThrough hears (freshHeader settings (length payload)) nodes) (map address nodes) (settings .source) (address n) k
 
   -- any message that origination wrote with a path, and any nodes
   pub record ReachThrough : Type 0 where

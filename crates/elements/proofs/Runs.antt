@@ -14,10 +14,10 @@ use Rattle.octets.proofs.Numbering.{gives-here, gives-later, gives-zero, orElse
 use Rattle.elements.specs.declared.Only.{Only}
 use Rattle.elements.specs.declared.Only.the-variants.{Once, Not}
 use Rattle.elements.specs.declared.Pair.{Pair}
-use Rattle.elements.specs.declared.Met.{Met}
-use Rattle.elements.specs.declared.Met.the-variants.{Never, Again}
+use Rattle.elements.specs.declared.Occurrences.{Occurrences}
+use Rattle.elements.specs.declared.Occurrences.the-variants.{Never, Again}
 use Rattle.elements.specs.Elements.{numberSize, typeAt, valuePlace, elementEnd, beginnings, elementsIn, isRun, ofType, firstOf, elementFault, runFault}
-use Rattle.elements.specs.Finding.{onlyOne, pairFrom, metMore, metOnce}
+use Rattle.elements.specs.Finding.{onlyOne, pairFrom, withOccurrence, onlyOccurrence}
 
 pub size-least : (bytes : List ℕ) (place : ℕ) → 1 ≤ numberSize bytes place
 unfolding numberSize
@@ -174,16 +174,16 @@ module _ (bytes : List ℕ) (end place : ℕ) where
         rw (e, add-one under, f, v) (sym (gives-later (ltb end (elementEnd bytes place)) 57 _ (le-ltb _ _ (rw f at h)) ∙ rw run))
 
 -- places met one by one
-unfoldable pub metAll : Met → List ℕ → Met
+unfoldable pub metAll : Occurrences → List ℕ → Occurrences
 metAll met [] = met
-metAll met (place ∷ places) = metAll (metMore met true place) places
+metAll met (place ∷ places) = metAll (withOccurrence met true place) places
 
 again-stays : (places : List ℕ) → metAll Again places ≡ Again
 unfolding metAll
 again-stays [] = refl
 again-stays (place ∷ places) = again-stays places
 
-met-once : (places : List ℕ) → metOnce (metAll Never places) ≡ onlyOne places
+met-once : (places : List ℕ) → onlyOccurrence (metAll Never places) ≡ onlyOne places
 unfolding metAll
 met-once [] = refl
 met-once (p ∷ []) = refl
@@ -191,12 +191,12 @@ met-once (p ∷ q ∷ places) = rw (again-stays places)
 
 module _ (bytes : List ℕ) (end type : ℕ) where
   -- what is met from a place on, with what was met before it
-  unfoldable pub metFrom : Met → ℕ → Met
+  unfoldable pub metFrom : Occurrences → ℕ → Occurrences
   metFrom met place = metAll met (sought bytes end type place)
 
-  pub met-next : (met later : Met) (test : Bool) (place kind next : ℕ) → place < end → kind ≡ typeAt bytes place → test ≡ eqb kind type
+  pub met-next : (met later : Occurrences) (test : Bool) (place kind next : ℕ) → place < end → kind ≡ typeAt bytes place → test ≡ eqb kind type
       → next ≡ elementEnd bytes place
-      → later ≡ metMore met test place → metFrom met place ≡ metFrom later next
+      → later ≡ withOccurrence met test place → metFrom met place ≡ metFrom later next
   unfolding metFrom metAll
   met-next met later true place kind next h k t n l =
       let is : typeAt bytes place ≡ type = sym k ∙ eqb-true kind type (sym t) in
@@ -205,12 +205,12 @@ module _ (bytes : List ℕ) (end type : ℕ) where
       let other : typeAt bytes place ≡ type → ⊥ = λ q. eqb-false kind type (sym t) (k ∙ q) in
       rw (l, n, sought-next bytes end type place (elementEnd bytes place) h other refl)
 
-  pub met-all : (start place : ℕ) (met : Met) (found : Only) → end ≤ place → metFrom Never start ≡ metFrom met place → found ≡ metOnce met
+  pub met-all : (start place : ℕ) (met : Occurrences) (found : Only) → end ≤ place → metFrom Never start ≡ metFrom met place → found ≡ onlyOccurrence met
       → found ≡ onlyOne (ofType type bytes (elementsIn bytes start end))
   unfolding metFrom metAll sought
   met-all start place met found h e f =
       let here : metAll Never (sought bytes end type start) ≡ met = e ∙ rw (sought-none bytes end type place h) in
-      f ∙ ap metOnce (sym here) ∙ met-once (sought bytes end type start)
+      f ∙ ap onlyOccurrence (sym here) ∙ met-once (sought bytes end type start)
 
 pub pair-is : (bytes : List ℕ) (place type other : ℕ) (a b : Only) → a ≡ onlyOne (ofType type bytes (elementsIn bytes place (length bytes)))
     → b ≡ onlyOne (ofType other bytes (elementsIn bytes place (length bytes)))

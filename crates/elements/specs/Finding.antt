@@ -6,8 +6,8 @@ use lib.ListN.{length}
 use Rattle.elements.specs.declared.Head.{Head}
 use Rattle.elements.specs.declared.Only.{Only}
 use Rattle.elements.specs.declared.Only.the-variants.{Once, Not}
-use Rattle.elements.specs.declared.Met.{Met}
-use Rattle.elements.specs.declared.Met.the-variants.{Never, Single, Again}
+use Rattle.elements.specs.declared.Occurrences.{Occurrences}
+use Rattle.elements.specs.declared.Occurrences.the-variants.{Never, Single, Again}
 use Rattle.elements.specs.declared.Pair.{Pair}
 use Rattle.elements.specs.Elements.{typeAt, valuePlace, elementEnd, elementsIn, ofType}
 
@@ -33,16 +33,16 @@ pairFrom bytes place first second =
       second = onlyOne (ofType second bytes (elementsIn bytes place (length bytes)));
     }
 
--- the same, met one by one
-abbrev pub metHere : Met → ℕ → Met
-metHere Never place = Single place
-metHere (Single first) place = Again
-metHere Again place = Again
+-- the same, counted one by one
+abbrev pub occurredHere : Occurrences → ℕ → Occurrences
+occurredHere Never place = Single place
+occurredHere (Single first) place = Again
+occurredHere Again place = Again
 
-abbrev pub metMore : Met → Bool → ℕ → Met
-metMore met is place = cond is (metHere met place) met
+abbrev pub withOccurrence : Occurrences → Bool → ℕ → Occurrences
+withOccurrence met is place = cond is (occurredHere met place) met
 
-abbrev pub metOnce : Met → Only
-metOnce Never = Not
-metOnce (Single place) = Once place
-metOnce Again = Not
+abbrev pub onlyOccurrence : Occurrences → Only
+onlyOccurrence Never = Not
+onlyOccurrence (Single place) = Once place
+onlyOccurrence Again = Not

@@ -3,7 +3,7 @@ ghost use mathlib.Core.Path.{_≡_};
 ghost use Prim.Native.Nat.{_+_, _<_, _≤_};
 ghost use lib.ListN.{length};
 ghost use Rattle.elements.specs.Elements.{numberAt, numberSize, typeAt, valuePlace, elementEnd, isRun, elementFault, levelLimit, runFault};
-ghost use Rattle.elements.specs.Finding.{headAt, metMore, metOnce, pairFrom};
+ghost use Rattle.elements.specs.Finding.{headAt, withOccurrence, onlyOccurrence, pairFrom};
 ghost use Rattle.elements.specs.Walking.{cutElement, elementOf};
 
 // The first bytes of an element: its type, where its value begins, and where it ends.
@@ -48,7 +48,7 @@ struct Judged {
 }
 
 // How often an element of a type was met, and where it began.
-enum Met {
+enum Occurrences {
     Never,
     Single(usize),
     Again,
@@ -200,40 +200,40 @@ pub fn pair_from(bytes: &[u8], place: usize, first_type: usize, second_type: usi
     ensures { λ r. ⌜ r ≡ pairFrom (now (bytes .entry)) place «first_type» «second_type» ⌝ }
 {
     let end = bytes.len();
-    let mut first = Met::Never;
-    let mut second = Met::Never;
+    let mut first = Occurrences::Never;
+    let mut second = Occurrences::Never;
     let mut next = place;
     while next < end {
         let head = head_within(bytes, next);
-        first = meet(first, head.type_number == first_type, next);
-        second = meet(second, head.type_number == second_type, next);
+        first = add_occurrence(first, head.type_number == first_type, next);
+        second = add_occurrence(second, head.type_number == second_type, next);
         next = head.end;
     }
     Pair {
-        first: once(first),
-        second: once(second),
+        first: only_occurrence(first),
+        second: only_occurrence(second),
     }
 }
 
-fn meet(met: Met, is: bool, place: usize) -> Met
-    ensures { λ r. ⌜ r ≡ metMore met is place ⌝ }
+fn add_occurrence(occurrences: Occurrences, is: bool, place: usize) -> Occurrences
+    ensures { λ r. ⌜ r ≡ withOccurrence occurrences is place ⌝ }
 {
     if !is {
-        return met;
+        return occurrences;
     }
-    match met {
-        Met::Never => Met::Single(place),
-        Met::Single(_) => Met::Again,
-        Met::Again => Met::Again,
+    match occurrences {
+        Occurrences::Never => Occurrences::Single(place),
+        Occurrences::Single(_) => Occurrences::Again,
+        Occurrences::Again => Occurrences::Again,
     }
 }
 
-fn once(met: Met) -> Only
-    ensures { λ r. ⌜ r ≡ metOnce met ⌝ }
+fn only_occurrence(occurrences: Occurrences) -> Only
+    ensures { λ r. ⌜ r ≡ onlyOccurrence occurrences ⌝ }
 {
-    match met {
-        Met::Never => Only::Not,
-        Met::Single(place) => Only::Once(place),
-        Met::Again => Only::Not,
+    match occurrences {
+        Occurrences::Never => Only::Not,
+        Occurrences::Single(place) => Only::Once(place),
+        Occurrences::Again => Only::Not,
     }
 }

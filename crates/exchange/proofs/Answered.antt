@@ -10,7 +10,7 @@ use Rattle.octets.specs.Numbers.{_gives_, _orElse_}
 use Rattle.octets.specs.Octets.{over}
 use Rattle.pdu.specs.Reading.{readOf, readingNumber}
 use Rattle.elements.specs.Elements.{levelLimit, runFault}
-use Rattle.joined.specs.Joined.{isSplit, joinedNumber}
+use Rattle.split_pdu.specs.SplitPdu.{isSplit, joinedNumber}
 use Rattle.exchange.specs.Exchange.{isExchange, headerElement, payloadElement, headerPart, payloadPart}
 use Rattle.exchange.specs.Exchange.{exchangeNumber, refusedBy, shownAt, exchangeAnswer, exchangeOf}
 use Rattle.exchange.specs.Encoding.{encoding, writeNumber, writtenExchange, exchangeOutput}

@@ -9,7 +9,7 @@ use borrow.Author.Tests.{eq-eqb}
 use Rattle.octets.specs.Octets.{at}
 use Rattle.elements.specs.Elements.{typeAt, valuePlace, elementEnd, valueAt, elementFault, runFault}
 use Rattle.elements.proofs.Runs.{run-none, run-next, element-run, end-after, sought}
-use Rattle.joined.specs.Joined.{joinedNumber}
+use Rattle.split_pdu.specs.SplitPdu.{joinedNumber}
 use Rattle.exchange.specs.Exchange.{held, isExchange, headerPart, payloadPart, exchangeNumber}
 use Rattle.exchange.specs.Encoding.{element, exchangeBytes}
 use Rattle.exchange.specs.Forms.{formBytes, Tlv, tlvBytes, runBytes, tlvsOf, Faultless}

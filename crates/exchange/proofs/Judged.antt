@@ -15,7 +15,7 @@ use Rattle.elements.specs.Finding.{headAt, onlyOne}
 use Rattle.elements.proofs.Numbers.{head-type, head-value, head-end, head-length}
 use Rattle.elements.proofs.Runs.{found-below, once-is, once-not}
 use Rattle.exchange.specs.declared.Exchange.{Exchange}
-use Rattle.joined.specs.Joined.{joinedNumber}
+use Rattle.split_pdu.specs.SplitPdu.{joinedNumber}
 use Rattle.exchange.specs.Exchange.{held, isExchange, headerElement, payloadElement, headerPart, payloadPart}
 use Rattle.exchange.specs.Exchange.{exchangeNumber, refusedBy, shownAt, exchangeAnswer, exchangeOf}
 

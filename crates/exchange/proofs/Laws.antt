@@ -27,10 +27,10 @@ use Rattle.exchange.specs.Encoding.{numberBytes, element}
 use Rattle.exchange.proofs.Written.{written-short, written-long}
 use Rattle.elements.proofs.Runs.{end-after, found-sound, fault-whole, fault-inside, first-sound}
 use Rattle.exchange.proofs.Written.{length-element}
-use Rattle.joined.specs.Joined.{isSplit, joinedNumber}
+use Rattle.split_pdu.specs.SplitPdu.{isSplit, joinedNumber}
 use Rattle.exchange.specs.Exchange.{held, isExchange, headerElement, payloadElement, headerPart, payloadPart, exchangeNumber}
 use Rattle.exchange.specs.Encoding.{exchangeBytes, encoding, exchangeLimit}
-use Rattle.joined.proofs.Joining.{is-joined}
+use Rattle.split_pdu.proofs.Joining.{is-joined}
 use Rattle.exchange.proofs.Putting.{payload-short}
 use Rattle.exchange.proofs.Back.{written-parts, written-back}
 

@@ -6,7 +6,7 @@ use lib.Dec.{eqb}
 use lib.ListN.{length}
 use Rattle.octets.specs.Numbers.{_gives_, _orElse_}
 use Rattle.octets.specs.Octets.{at}
-use Rattle.joined.specs.Joined.{joinedNumber}
+use Rattle.split_pdu.specs.SplitPdu.{joinedNumber}
 use Rattle.elements.specs.Elements.{typeAt, lengthAt, valuePlace, elementEnd, valueAt, elementsIn, ofType, levelLimit, runFault}
 use Rattle.exchange.specs.declared.Exchange.{Exchange}
 

@@ -7,7 +7,7 @@ ghost use mathlib.Core.Path.{_≡_};
 ghost use Prim.Native.Nat.{_≤_};
 ghost use lib.ListN.{length};
 ghost use Rattle.elements.specs.Elements.{valueAt};
-ghost use Rattle.joined.specs.Joined.{joinedNumber};
+ghost use Rattle.split_pdu.specs.SplitPdu.{joinedNumber};
 ghost use Rattle.exchange.specs.Exchange.{refusedBy, exchangeAnswer, exchangeOf};
 ghost use Rattle.exchange.specs.Encoding.{exchangeBytes, roomNumber, writtenBy, outputBy, writtenExchange, exchangeOutput};
 
@@ -72,7 +72,7 @@ fn show(bytes: &[u8], header: usize, payload: usize) -> Exchange
     let header_length = header_head.end - header_head.value_place;
     let payload_place = payload_head.value_place;
     let payload_length = payload_head.end - payload_head.value_place;
-    let number = joined::joined_number(
+    let number = split_pdu::joined_number(
         octets::part(bytes, header_place, header_length),
         octets::part(bytes, payload_place, payload_length),
     );

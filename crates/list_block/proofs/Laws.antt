@@ -11,7 +11,7 @@ use borrow.Author.Tests.{leb-true, leb-false}
 use Rattle.octets.specs.Octets.{over}
 use Rattle.octets.proofs.Numbering.{orElse-zero}
 use Rattle.octets.proofs.Placing.{length-over}
-use Rattle.lists.specs.Lists.{Lists, two, inOrder, laid, listsIn, faultOf, firstFault, firstAtFault, listFault, faultTold}
+use Rattle.lists.specs.Lists.{Lists, two, inOrder, laid, listsIn, faultOf, firstFault, firstAtFault, listFault, faultAndList}
 use Rattle.lists.proofs.Laws.{too-long}
 use Rattle.lists.proofs.Laying.{holds-laid-before}
 use Rattle.list_block.specs.Laying.{cut, cutLists}
@@ -58,10 +58,10 @@ module _ (lists : Lists) (before : List ℕ) where
   block = over (laid (cutLists lists)) before
 
   -- the same number, at the same list, for lists of any length
-  pub same-fault : faultTold (listsIn block) ≡ faultTold lists
+  pub same-fault : faultAndList (listsIn block) ≡ faultAndList lists
   unfolding firstFault firstAtFault
   same-fault =
-      ap faultTold (holds-over (cutLists lists) before)
+      ap faultAndList (holds-over (cutLists lists) before)
       ∙ rw (
         cut-fault (lists .sourcePass .first),
         cut-fault (lists .sourcePass .second),

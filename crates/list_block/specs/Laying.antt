@@ -7,7 +7,7 @@ use denote.Triple.Both.{Both}
 use lib.ListN.{take}
 use Rattle.octets.specs.Octets.{over}
 use Rattle.lists.specs.declared.ListFault.{ListFault}
-use Rattle.lists.specs.Lists.{Lists, ListPair, two, laid, faultTold}
+use Rattle.lists.specs.Lists.{Lists, ListPair, two, laid, faultAndList}
 
 -- what is laid of a list
 abbrev pub mostLaid : ℕ
@@ -42,4 +42,4 @@ eightLent a b c d e f g h =
 
 -- eight lists were laid into a block: what stands in it after, its rest as before, and their first fault
 abbrev pub Lays : Lists → List ℕ → List ℕ → ListFault → Type 0
-Lays lists before after told = (after ≡ over (laid (cutLists lists)) before) × (told ≡ faultTold lists)
+Lays lists before after returned = (after ≡ over (laid (cutLists lists)) before) × (returned ≡ faultAndList lists)

@@ -7,7 +7,7 @@ ghost use Rattle.list_block.specs.Laying.{mostLaid, cut, eightLent, Lays
 use lists::ListFault;
 
 // How many values of a list are laid: one more than it may have, so that a longer one still has its fault (22).
-const MOST: usize = 129;
+const LAID_LIMIT: usize = 129;
 
 // Room for eight lengths and eight such lists.
 pub const BLOCK_LIMIT: usize = 1040;
@@ -15,10 +15,10 @@ pub const BLOCK_LIMIT: usize = 1040;
 fn laid_length(list: &[u16]) -> u16
     ensures { λ r. ⌜ r ≡ length (cut (now (list .entry))) ⌝ }
 {
-    if list.len() < MOST {
+    if list.len() < LAID_LIMIT {
         list.len() as u16
     } else {
-        MOST as u16
+        LAID_LIMIT as u16
     }
 }
 

@@ -74,9 +74,9 @@ listFault lists = firstFault (inOrder lists)
 abbrev pub listAtFault : Lists → ℕ
 listAtFault lists = firstAtFault (inOrder lists)
 
--- both, as a check tells them
-abbrev pub faultTold : Lists → ListFault
-faultTold lists = record { number = listFault lists; list = listAtFault lists }
+-- both, as a check returns them
+abbrev pub faultAndList : Lists → ListFault
+faultAndList lists = record { number = listFault lists; list = listAtFault lists }
 
 -- eight lists in one block, as a caller lends them: first their lengths, in that order, then their values back to back. A length that is not there is 0
 

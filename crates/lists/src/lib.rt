@@ -3,7 +3,7 @@ ghost use mathlib.Core.Path.{_≡_};
 ghost use Prim.Native.Nat.{_<_, _≤_, min};
 ghost use lib.ListN.{length, take, drop};
 ghost use Rattle.octets.specs.Octets.{at};
-ghost use Rattle.lists.specs.Lists.{listsIn, faultTold, holds, startOf, listIn};
+ghost use Rattle.lists.specs.Lists.{listsIn, faultAndList, holds, startOf, listIn};
 
 // How many values a list may have: low and high of 64 ranges. Document 01, "Numbers answered", 22.
 pub const VALUE_LIMIT: usize = 128;
@@ -51,7 +51,7 @@ pub struct ListFault {
 // that before 20 (a low above its high). An empty list has no fault. Lists that are not chosen are checked like the others.
 // Document 01, "One PDU at one node", 1; document 02, W-211.
 pub fn fault(block: &[u16]) -> ListFault
-    ensures { λ r. ⌜ r ≡ faultTold (listsIn (now (block .entry))) ⌝ }
+    ensures { λ r. ⌜ r ≡ faultAndList (listsIn (now (block .entry))) ⌝ }
 {
     let size = block.len();
     let mut fault = ListFault { number: 0, list: 8 };

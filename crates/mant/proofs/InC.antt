@@ -13,17 +13,17 @@ use Rattle.decision.specs.declared.Settings.{Settings}
 use Rattle.decision.specs.Decision.{Node, nodeOf}
 use Rattle.node.specs.declared.Answer.{Answer}
 use Rattle.node.specs.Answers.{deliveryNumber, answerOf, outputAfter, Hears}
-use Rattle.deciding.specs.declared.Ask.{Ask}
-use Rattle.answering.specs.declared.Sending.{Sending}
-use Rattle.answering.specs.Delivered.{outputAcknowledged}
-use Rattle.answering.specs.Hearing.{outputHeard}
-use Rattle.answering.specs.Responding.{askAcknowledge}
-use Rattle.answering.proofs.Room.{same-room}
+use Rattle.retained_operations.specs.declared.Ask.{Ask}
+use Rattle.acknowledgements.specs.declared.Sending.{Sending}
+use Rattle.acknowledgements.specs.Delivered.{outputAcknowledged}
+use Rattle.acknowledgements.specs.Hearing.{outputHeard}
+use Rattle.acknowledgements.specs.Responding.{askAcknowledge}
+use Rattle.acknowledgements.proofs.Room.{same-room}
 use Rattle.batch.specs.declared.Cursor.{Cursor}
 use Rattle.batch.specs.declared.Stepped.{Stepped}
 use Rattle.batch.specs.Walk.{isTooLong, Steps}
 use Rattle.batch.proofs.Stepping.{within-batch, answered}
-use Rattle.listening.specs.Listening.{answerNumber, memoryAfterAnswer}
+use Rattle.node_stations.specs.CountedAnswers.{answerNumber, memoryAfterAnswer}
 use Rattle.ways.specs.declared.Airtime.{Airtime}
 use Rattle.ways.specs.declared.Airtime.the-variants.{HopRefused, NotServed}
 use Rattle.ways.specs.Answer.{Counts}
@@ -31,7 +31,8 @@ use Rattle.boundary.specs.declared.planning.MantAirtime.{MantAirtime}
 use Rattle.boundary.specs.declared.a_node.MantNode.{MantNode}
 use Rattle.boundary.specs.declared.a_node.MantAnswer.{MantAnswer}
 use Rattle.boundary.specs.declared.a_walk.MantStep.{MantStep}
-use Rattle.boundary.specs.Boundary.{hasSender, senderAddress, senderFromC, nodeFromC, answerInC, answerFromC, HearsInC, ListensInC, stepInC, StepsInC, airtimeInC, CountsInC, BytesInC}
+use Rattle.boundary.specs.Boundary.{hasSender, senderAddress, senderFromC, nodeFromC, answerInC, answerFromC, HearsInC, ListensInC, stepInC, StepsInC}
+use Rattle.boundary.specs.Boundary.{airtimeInC, CountsInC, BytesInC}
 
 pub heard-in-c : (given : MantNode) (settings : Settings) (lists : Lists) (received output left : List ℕ) (answer : Answer) (told : MantAnswer)
     → settings ≡ nodeFromC given → Hears (nodeOf settings lists) received output answer left → told ≡ answerInC answer
@@ -100,7 +101,8 @@ counted-in-c node received output left memory after told number heard counted =
     )
 
 -- a PDU heard, and what it then asks of a table
-pub responded-in-c : (given : MantNode) (lists : Lists) (received output left after : List ℕ) (records last : ℕ) (sending : Sending) (told : MantAnswer) (ask : Ask)
+pub responded-in-c : (given : MantNode) (lists : Lists) (received output left after : List ℕ) (records last : ℕ) (sending : Sending) (told : MantAnswer)
+    (ask : Ask)
     → HearsInC (nodeOf (nodeFromC given) lists) received output told left
     → (ask ≡ askAcknowledge last (given .own) (told .delivery) sending (length left) received)
     × (after ≡ outputAcknowledged records (given .own) (told .delivery) sending received left)

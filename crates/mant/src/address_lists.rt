@@ -1,7 +1,7 @@
 // Address lists: the eight lists of a node in one block, what is wrong with them, and whether a list holds an address.
 use lists::ListFault;
 ghost use mathlib.Core.Path.{_≡_};
-ghost use Rattle.lists.specs.Lists.{holds, listsIn, faultTold};
+ghost use Rattle.lists.specs.Lists.{holds, listsIn, faultAndList};
 ghost use Rattle.list_block.specs.Laying.{eightLent, Lays};
 
 // Whether an address is in some range of the list, both ends included. An empty list holds none; a last value without a partner is no range.
@@ -17,7 +17,7 @@ pub extern "C" fn mant_list_holds(list: &[u16], address: u16) -> bool
 // the first list before the second, chosen or not. If no list has a fault, it returns 0 and 8. Document 01, "One PDU at one node", 1; document 02, W-211.
 #[no_mangle]
 pub extern "C" fn mant_list_fault(lists: &[u16]) -> ListFault
-    ensures { λ r. ⌜ r ≡ faultTold (listsIn (now (lists .entry))) ⌝ }
+    ensures { λ r. ⌜ r ≡ faultAndList (listsIn (now (lists .entry))) ⌝ }
 {
     lists::fault(lists)
 }

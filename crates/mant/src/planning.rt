@@ -41,7 +41,7 @@ pub extern "C" fn mant_least_hop_limit(lengths: &[u8]) -> u8
 }
 
 // How often one fresh message with a path goes out on a network, as `ways::transmissions` counts it. `counts` gets how often each node sends it. Crate
-// `own_network`, `within`, `exact` and `told`.
+// `planning_own_network`, `within`, `exact` and `by-count`.
 #[no_mangle]
 pub extern "C" fn mant_network_transmissions(
     pairs: &[u8],

@@ -1,21 +1,21 @@
 // Reliable messages: PDUs that are sent again until they are acknowledged.
 use super::a_node::mant_hear;
-use answering::Sending;
+use acknowledgements::Sending;
 use boundary::MantAnswer;
 use boundary::MantHeardReliably;
 use boundary::MantNode;
-use deciding::Ask;
 use retained::Outcome;
 use retained::Retained;
+use retained_operations::Ask;
 ghost use mathlib.Core.Path.{_≡_};
 ghost use lib.ListN.{length};
 ghost use Rattle.retained.specs.Table.{retain, tableRetained, retryStep, tableStepped, outputStepped};
 ghost use Rattle.lists.specs.Lists.{listsIn};
 ghost use Rattle.decision.specs.Decision.{nodeOf};
 ghost use Rattle.node.specs.Answers.{deliveryNumber, answerOf};
-ghost use Rattle.answering.specs.Delivered.{acknowledge, tableAcknowledged, outputAcknowledged};
-ghost use Rattle.answering.specs.Hearing.{outputHeard};
-ghost use Rattle.answering.specs.Responding.{askAcknowledge};
+ghost use Rattle.acknowledgements.specs.Delivered.{acknowledge, tableAcknowledged, outputAcknowledged};
+ghost use Rattle.acknowledgements.specs.Hearing.{outputHeard};
+ghost use Rattle.acknowledgements.specs.Responding.{askAcknowledge};
 ghost use Rattle.boundary.specs.Boundary.{nodeFromC, answerInC, HearsReliablyInC};
 
 // Retains a PDU in the first free record of the table, with the time and count 0, and writes nothing. Refusals: 74, 73, 75, 72, 71, 70, in that order.
@@ -25,7 +25,7 @@ pub extern "C" fn mant_retain(table: &mut [Retained], last: u64, time: u64, pdu:
     ensures { λ r. ⌜ (r ≡ retain (now (table .entry)) last time (now (pdu .entry)))
         × (now (table .exit) ≡ tableRetained (now (table .entry)) last time (now (pdu .entry))) ⌝ }
 {
-    let effect = reliable::find_room(table, deciding::ask_retain(last, time, pdu));
+    let effect = reliable::find_room(table, retained_operations::ask_retain(last, time, pdu));
     reliable::store(table, effect.place, retained::retained_record(time, pdu));
     effect.outcome
 }
@@ -48,7 +48,7 @@ pub extern "C" fn mant_retry(
 {
     let effect = reliable::find_due(
         table,
-        deciding::ask_step(last, time, delay, tries, output.len()),
+        retained_operations::ask_step(last, time, delay, tries, output.len()),
     );
     reliable::resend(table, effect, output);
     effect.outcome
@@ -73,7 +73,7 @@ pub extern "C" fn mant_acknowledge(
         × (now (output .exit) ≡ outputAcknowledged (length (now (table .entry))) own (answer .delivery) sending (now (received .entry))
         (now (output .entry))) ⌝ }
 {
-    let ask = answering::respond(
+    let ask = acknowledgements::respond(
         output,
         table.len(),
         last,
@@ -108,7 +108,7 @@ fn hear_and_respond(
         (now (output .entry))) ⌝ }
 {
     let answer = mant_hear(node, &lists[..], &received[..], output);
-    let ask = answering::respond(
+    let ask = acknowledgements::respond(
         output,
         records,
         last,

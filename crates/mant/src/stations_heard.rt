@@ -3,18 +3,18 @@ use super::a_node::mant_hear;
 use boundary::MantAnswer;
 use boundary::MantListened;
 use boundary::MantNode;
-use counting::Heard;
 use stations::Found;
 use stations::Station;
+use stations_update::Heard;
 ghost use mathlib.Core.Path.{_≡_};
 ghost use lib.ListN.{length};
 ghost use Rattle.lists.specs.Lists.{listsIn};
 ghost use Rattle.decision.specs.Decision.{nodeOf};
 ghost use Rattle.stations.specs.Table.{tableIn};
 ghost use Rattle.stations.specs.Asking.{stationOf, foundAt};
-ghost use Rattle.counting.specs.Counting.{countNumber, memoryAfterCount};
-ghost use Rattle.counting.specs.Removing.{removalNumber, memoryAfterRemoval};
-ghost use Rattle.listening.specs.Listening.{answerNumber, memoryAfterAnswer};
+ghost use Rattle.stations_update.specs.Counting.{countNumber, memoryAfterCount};
+ghost use Rattle.stations_update.specs.Removing.{removalNumber, memoryAfterRemoval};
+ghost use Rattle.node_stations.specs.CountedAnswers.{answerNumber, memoryAfterAnswer};
 ghost use Rattle.boundary.specs.Boundary.{nodeFromC, answerFromC, ListensInC};
 
 // How many stations a table holds. A memory that says more than 128 is a full table. Document 02, W-201.
@@ -47,7 +47,7 @@ pub extern "C" fn mant_remove_station(table: &mut [u16; Station::MEMORY], addres
     ensures { λ r. ⌜ (r ≡ removalNumber address (tableIn (now (table .entry))))
         × (now (table .exit) ≡ memoryAfterRemoval address (now (table .entry))) ⌝ }
 {
-    counting::remove(table, address)
+    stations_update::remove(table, address)
 }
 
 // Counts a PDU that was read: 0, or 55 where its source is new while 128 stations are held, and the table stays as it was. Document 02, W-201.
@@ -55,7 +55,7 @@ pub extern "C" fn mant_remove_station(table: &mut [u16; Station::MEMORY], addres
 pub extern "C" fn mant_count_heard(table: &mut [u16; Station::MEMORY], heard: Heard) -> u8
     ensures { λ r. ⌜ (r ≡ countNumber heard (now (table .entry))) × (now (table .exit) ≡ memoryAfterCount heard (now (table .entry))) ⌝ }
 {
-    counting::count(table, heard)
+    stations_update::count(table, heard)
 }
 
 // Counts the PDU at the start of `received` by what a node answered for it, as after a step of a walk; nothing where no PDU was read. Answers the
@@ -69,7 +69,7 @@ pub extern "C" fn mant_count_answer(
     ensures { λ r. ⌜ (r ≡ answerNumber (answerFromC answer) (now (received .entry)) (now (table .entry)))
         × (now (table .exit) ≡ memoryAfterAnswer (answerFromC answer) (now (received .entry)) (now (table .entry))) ⌝ }
 {
-    listening::count_answer(table, received, boundary::answer_from_c(answer))
+    node_stations::count_answer(table, received, boundary::answer_from_c(answer))
 }
 
 // What `mant_hear` answers and leaves, whatever the table holds; and the PDU counted in the table as by `mant_count_answer`, if it was read, so nothing with

@@ -5,7 +5,7 @@ use mathlib.Core.Path.{_≡_, ap, ap₂, _∙_}
 use lib.ListN.{take, drop}
 use Rattle.octets.specs.Octets.{at}
 use Rattle.pdu.specs.Header.{pathCountPlace}
-use Rattle.compression.specs.declared.Five.{Five}
+use Rattle.sha1_block.specs.declared.Five.{Five}
 use Rattle.sha1.specs.declared.Running.{Running}
 use Rattle.sha1.specs.Sha1.{fourBytes, hashBegun, fed, finalHash, finished}
 use Rattle.sha1.proofs.Feeding.{fed-append, finished-fed}

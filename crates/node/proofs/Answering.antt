@@ -26,7 +26,7 @@ use Rattle.node.specs.declared.Answer.{Answer}
 use Rattle.decision.specs.Decision.{Node, dropFault, deliveryFault, repeatFault}
 use Rattle.node.specs.Repeat.{repeated, repeatedLength}
 use Rattle.node.specs.Answers.{nodeFault, roomFault, nodeOrReadingFault, stopFault, deliveryNumber, repeatNumber, taken, heardFrom}
-use Rattle.node.specs.Answers.{answerOf, twice, outputAfter, Hears}
+use Rattle.node.specs.Answers.{answerOf, givenTwice, outputAfter, Hears}
 
 -- the answer for a PDU with this header
 abbrev pub whole : Header → Sender → ℕ → ℕ → ℕ → Answer
@@ -100,23 +100,23 @@ module _ (node : Node) (received output : List ℕ) where
   -- a number that is given twice
   pub given-twice : (n bytes : ℕ) (sender : Sender) → (n ≡ 0 → ⊥) → stopFault node room received ≡ n → taken node received ≡ bytes
       → heardFrom node received ≡ sender
-      → Hears node received output (twice n bytes sender) output
+      → Hears node received output (givenTwice n bytes sender) output
   unfolding answerOf outputAfter
   given-twice n bytes sender ne e et es = rw (twice-delivery n e ne, twice-repeat n e ne, et, es, ne-eqb n 0 ne) (refl, refl)
 
   -- a fault of the lists, or a PDU that can't be read
-  unreadable : (n : ℕ) → (n ≡ 0 → ⊥) → nodeOrReadingFault node received ≡ n → Hears node received output (twice n 0 Unknown) output
+  unreadable : (n : ℕ) → (n ≡ 0 → ⊥) → nodeOrReadingFault node received ≡ n → Hears node received output (givenTwice n 0 Unknown) output
   unfolding stopFault taken
   unreadable n ne e =
       given-twice n 0 Unknown ne (rw e (orElse-first n _ ne)) (rw (e, ne-eqb n 0 ne)) (unread-sender (λ z. ne (sym e ∙ z)))
 
-  pub fault-given : (n : ℕ) → (n ≡ 0 → ⊥) → n ≡ nodeFault node → Hears node received output (twice n 0 Unknown) output
+  pub fault-given : (n : ℕ) → (n ≡ 0 → ⊥) → n ≡ nodeFault node → Hears node received output (givenTwice n 0 Unknown) output
   unfolding nodeOrReadingFault
   fault-given n ne e = unreadable n ne (rw (← e) (orElse-first n _ ne))
 
   module _ (clean : nodeFault node ≡ 0) where
     pub refusal-given : (n : ℕ) → (n ≡ 0 → ⊥) → n ≡ readingNumber (readOf received)
-        → Hears node received output (twice n 0 Unknown) output
+        → Hears node received output (givenTwice n 0 Unknown) output
     unfolding nodeOrReadingFault
     refusal-given n ne e = unreadable n ne (orElse-later (nodeFault node) _ clean ∙ sym e)
 
@@ -127,7 +127,7 @@ module _ (node : Node) (received output : List ℕ) where
 
       pub stopped : (n bytes : ℕ) (sender : Sender) → (n ≡ 0 → ⊥) → n ≡ dropFault node header received → bytes ≡ pduLength header
           → sender ≡ lastSender header received
-          → Hears node received output (twice n bytes sender) output
+          → Hears node received output (givenTwice n bytes sender) output
       unfolding stopFault taken
       stopped n bytes sender ne ep eb es =
           let is = shown received header e .is in
@@ -185,7 +185,7 @@ module _ (node : Node) (received output : List ℕ) (header : Header) (e : readO
 
   pub no-room : (bytes : ℕ) (sender : Sender) → sender ≡ lastSender header received → repeatFault (node .settings) header ≡ 0
       → length output < repeatedLength header → bytes ≡ pduLength header
-      → Hears node received output (twice 40 bytes sender) output
+      → Hears node received output (givenTwice 40 bytes sender) output
   no-room bytes sender es er short eb =
       given-twice node received output 40 bytes sender (omega arith) (only-room ∙ gives-last _ 40 (rw (er, lt-ltb _ _ short))) (took ∙ sym eb)
       (from ∙ sym es)

@@ -15,7 +15,8 @@ use Rattle.pdu.specs.Reading.{readOf, refusalNumber}
 use Rattle.editions.specs.Editions.{known}
 use Rattle.lists.specs.Lists.{listFault}
 use Rattle.decision.specs.Decision.{Node}
-use Rattle.node.specs.Answers.{nodeFault, nodeOrReadingFault, stopFault, deliveryNumber, repeatNumber, taken, heardFrom, answerOf, twice, outputAfter}
+use Rattle.node.specs.Answers.{nodeFault, nodeOrReadingFault, stopFault, deliveryNumber, repeatNumber, taken, heardFrom, answerOf, givenTwice}
+use Rattle.node.specs.Answers.{outputAfter}
 
 -- 17 for an edition that is not known, whatever the lists are; else the fault of the lists
 pub unknown-fault : (node : Node) → known (node .settings .edition) ≡ false → nodeFault node ≡ 17
@@ -56,7 +57,7 @@ module _ (node : Node) (n : ℕ) (some : n ≡ 0 → ⊥) (received : List ℕ) 
   unfolding repeatNumber
   unread-repeat room = rw (stops room) (orElse-first n _ some)
 
-  pub unread-answer : (room : ℕ) → answerOf node room received ≡ twice n 0 Unknown
+  pub unread-answer : (room : ℕ) → answerOf node room received ≡ givenTwice n 0 Unknown
   unfolding answerOf
   unread-answer room = rw (delivery room, unread-repeat room, unread-taken, heard, ne-eqb n 0 some)
 
@@ -76,7 +77,7 @@ module _ (node : Node) (n : ℕ) (some : n ≡ 0 → ⊥) (fault : nodeFault nod
   pub fault-repeat : (room : ℕ) → repeatNumber node room received ≡ n
   fault-repeat = unread-repeat node n some received fault-unread
 
-  pub fault-answer : (room : ℕ) → answerOf node room received ≡ twice n 0 Unknown
+  pub fault-answer : (room : ℕ) → answerOf node room received ≡ givenTwice n 0 Unknown
   fault-answer = unread-answer node n some received fault-unread
 
   pub fault-output : (output : List ℕ) → outputAfter node received output ≡ output

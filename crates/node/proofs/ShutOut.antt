@@ -21,7 +21,7 @@ use Rattle.node.specs.declared.Answer.{Answer}
 use Rattle.decision.specs.Decision.{Node, echoFault, passFault, dropFault, deliveryFault, repeatFault}
 use Rattle.node.specs.Repeat.{repeated}
 use Rattle.node.specs.Answers.{nodeFault, nodeOrReadingFault, stopFault, deliveryNumber, repeatNumber, taken, heardFrom}
-use Rattle.node.specs.Answers.{answerOf, twice, outputAfter, Hears}
+use Rattle.node.specs.Answers.{answerOf, givenTwice, outputAfter, Hears}
 
 -- a node of an address, repeating, echo on or off, its source pass list on or off, no other list on, and all of them empty
 abbrev nodeWith : ℕ → Bool → Bool → Node
@@ -91,13 +91,13 @@ record Given : Type 0 where
         «last_sender» = Known 1000;
       }
   is-copied : take 22 (outputAfter (nodeAt 2000) example zeros) ≡ exampleRepeated
-  is-echo : answerOf (nodeAt 2000) 100 exampleRepeated ≡ twice 30 22 (Known 2000)
-  is-unread : answerOf (nodeAt 2000) 100 [] ≡ twice 1 0 Unknown
+  is-echo : answerOf (nodeAt 2000) 100 exampleRepeated ≡ givenTwice 30 22 (Known 2000)
+  is-unread : answerOf (nodeAt 2000) 100 [] ≡ givenTwice 1 0 Unknown
   is-another's : answerOf (nodeAt 2000) 100 addedHeader .delivery ≡ 39
-  is-own : answerOf (nodeAt 2000) 100 ownReport ≡ twice 42 6 Unknown
-  is-own-with-path : answerOf (nodeAt 2000) 100 ownReportWithPath ≡ twice 42 9 (Known 5)
-  is-echo-and-own : answerOf (nodeAt 2000) 100 ownReportEchoed ≡ twice 30 9 (Known 2000)
-  is-own-and-listed : answerOf (nodeWith 2000 true true) 100 ownReport ≡ twice 42 6 Unknown
+  is-own : answerOf (nodeAt 2000) 100 ownReport ≡ givenTwice 42 6 Unknown
+  is-own-with-path : answerOf (nodeAt 2000) 100 ownReportWithPath ≡ givenTwice 42 9 (Known 5)
+  is-echo-and-own : answerOf (nodeAt 2000) 100 ownReportEchoed ≡ givenTwice 30 9 (Known 2000)
+  is-own-and-listed : answerOf (nodeWith 2000 true true) 100 ownReport ≡ givenTwice 42 6 Unknown
   is-own-with-echo-off : answerOf (nodeWith 2000 false false) 100 ownReport .repeat ≡ 0
   is-for-own : answerOf (nodeAt 2000) 100 forOwn .repeat ≡ 41
 

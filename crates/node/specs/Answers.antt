@@ -75,8 +75,8 @@ answerOf node room received =
     }
 
 -- one number given twice: nothing is delivered and nothing repeated
-abbrev pub twice : ℕ → ℕ → Sender → Answer
-twice number next sender =
+abbrev pub givenTwice : ℕ → ℕ → Sender → Answer
+givenTwice number next sender =
     record {
       delivery = number;
       repeat = number;

@@ -10,7 +10,7 @@ ghost use Rattle.pdu.specs.Reading.{readOf};
 ghost use Rattle.pdu.specs.Parts.{lastSender};
 ghost use Rattle.lists.specs.Lists.{Lists, listsIn};
 ghost use Rattle.decision.specs.Decision.{nodeOf, dropFault};
-ghost use Rattle.node.specs.Answers.{nodeFault, nodeOrReadingFault, twice, Hears};
+ghost use Rattle.node.specs.Answers.{nodeFault, nodeOrReadingFault, givenTwice, Hears};
 use decision::Settings;
 use pdu::Header;
 use pdu::Reading;
@@ -41,16 +41,16 @@ pub fn hear(settings: Settings, lists: &[u16], received: &[u8], output: &mut [u8
 {
     let fault = node_fault(settings, &lists[..]);
     if fault != 0 {
-        return twice(fault, 0, Sender::Unknown);
+        return given_twice(fault, 0, Sender::Unknown);
     }
     let reading = pdu::read(&received[..]);
     let Reading::Pdu(header) = reading else {
-        return twice(pdu::reading_number(reading), 0, Sender::Unknown);
+        return given_twice(pdu::reading_number(reading), 0, Sender::Unknown);
     };
     let sender = pdu::parts::last_sender(&received[..], header);
     let number = decision::drop_fault(settings, &lists[..], header, &received[..]);
     if number != 0 {
-        return twice(number, header.pdu_length(), sender);
+        return given_twice(number, header.pdu_length(), sender);
     }
     decide(settings, &received[..], header, sender, output)
 }
@@ -85,15 +85,15 @@ fn decide(
     }
     let size = repeat::repeated_length(header);
     if output.len() < size {
-        return twice(40, header.pdu_length(), sender);
+        return given_twice(40, header.pdu_length(), sender);
     }
     repeat::put_repeat(settings, received, header, output);
     answered(header, sender, delivery, 0, size)
 }
 
 // One number given twice: nothing is delivered and nothing repeated. The next PDU begins at `next`.
-fn twice(number: u8, next: usize, sender: Sender) -> Answer
-    ensures { λ r. ⌜ r ≡ twice number next sender ⌝ }
+fn given_twice(number: u8, next: usize, sender: Sender) -> Answer
+    ensures { λ r. ⌜ r ≡ givenTwice number next sender ⌝ }
 {
     Answer {
         delivery: number,

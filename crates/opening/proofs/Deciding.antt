@@ -12,7 +12,7 @@ use Rattle.pdu.specs.declared.Header.{Header}
 use Rattle.pdu.specs.Header.{headerOf, sourceOf}
 use Rattle.sources.specs.Sources.{sourceFault}
 use Rattle.message.specs.Protection.{addedLength}
-use Rattle.genuine.specs.Genuine.{plainLength}
+use Rattle.verify.specs.Verify.{plainLength}
 use Rattle.opening.specs.Opening.{genuine, keylessFault, openNumber}
 use Rattle.opening.proofs.Sealed.{negated, affirmed}
 

@@ -12,7 +12,7 @@ use Rattle.octets.specs.Numbers.{_gives_}
 use Rattle.octets.specs.Octets.{over}
 use Rattle.octets.proofs.Numbering.{orElse-zero, gives-zero, orElse-first}
 use Rattle.aes.specs.Cipher.{keyExpansion}
-use Rattle.counter.specs.Counter.{stream, added}
+use Rattle.ctr.specs.Ctr.{stream, added}
 use Rattle.pdu.specs.declared.Header.{Header}
 use Rattle.pdu.specs.declared.Written.{Written}
 use Rattle.pdu.specs.Header.{headerOf, sourceOf}
@@ -21,8 +21,8 @@ use Rattle.pdu.specs.Parts.{payloadIn}
 use Rattle.pdu.proofs.Inversion.{shown}
 use Rattle.sources.specs.Sources.{sourceFault, memoryAccepted}
 use Rattle.message.specs.Protection.{numberIn, nonceOf}
-use Rattle.genuine.specs.Genuine.{messageNumber, plainLength, decipheredUnder, plainUnder, genuineUnder}
-use Rattle.genuine.proofs.Deciphering.{take-added}
+use Rattle.verify.specs.Verify.{messageNumber, plainLength, decipheredUnder, plainUnder, genuineUnder}
+use Rattle.verify.proofs.Deciphering.{take-added}
 use Rattle.opening.specs.Opening.{plainPayload, genuine, keylessFault, openNumber, openWritten, openOutput, memoryAfterOpening}
 use Rattle.opening.proofs.Sealed.{is-sealed}
 use Rattle.opening.proofs.Deciding.{late, open-late}

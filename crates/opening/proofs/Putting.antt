@@ -11,8 +11,8 @@ use borrow.Author.Tests.{eq-eqb, ne-eqb}
 use borrow.Rule.Slice.PartMut.{putMid}
 use Rattle.octets.specs.Octets.{over, placed}
 use Rattle.octets.proofs.Placing.{placed-start}
-use Rattle.counter.specs.Counter.{added}
-use Rattle.counter.proofs.Streams.{length-added}
+use Rattle.ctr.specs.Ctr.{added}
+use Rattle.ctr.proofs.Streams.{length-added}
 
 -- what is done where nothing is refused, and what stays where something is
 pub done : {A : Type 0} (refused : ℕ) (x y : A) → refused ≡ 0 → x ≡ cond (eqb refused 0) x y

@@ -14,7 +14,7 @@ use Rattle.pdu.specs.Parts.{payloadIn}
 use Rattle.pdu.proofs.Number.{read-0}
 use Rattle.sources.specs.Sources.{recordIn, numberFault}
 use Rattle.message.specs.Protection.{numberIn}
-use Rattle.genuine.specs.Genuine.{messageNumber}
+use Rattle.verify.specs.Verify.{messageNumber}
 use Rattle.opening.specs.Opening.{sealedFault, numberedAs, keylessFault}
 
 pub negated : (test : Bool) → test ≡ false → not test ≡ true

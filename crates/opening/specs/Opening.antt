@@ -13,7 +13,7 @@ use Rattle.pdu.specs.Reading.{readOf, readingNumber}
 use Rattle.sources.specs.Sources.{recordIn, numberFault, sourceFault, memoryAccepted}
 use Rattle.message.specs.Protection.{addedLength}
 use Rattle.opening.specs.declared.Numbered.{Numbered}
-use Rattle.genuine.specs.Genuine.{messageNumber, plainLength, decipheredUnder, plainUnder, genuineUnder}
+use Rattle.verify.specs.Verify.{messageNumber, plainLength, decipheredUnder, plainUnder, genuineUnder}
 
 -- under a key: what follows the number deciphered, the plain payload, and whether the hash is right
 unfoldable pub deciphered : List ℕ → List ℕ → List ℕ

@@ -9,10 +9,10 @@ ghost use lib.Dec.{eqb, ltb};
 ghost use lib.ListN.{length, take, drop};
 ghost use Rattle.octets.specs.Numbers.{_gives_, _orElse_};
 ghost use Rattle.octets.specs.Octets.{over};
-ghost use Rattle.counter.specs.Counter.{stream, added};
+ghost use Rattle.ctr.specs.Ctr.{stream, added};
 ghost use Rattle.pdu.specs.Header.{headerOf, sourceOf};
 ghost use Rattle.sources.specs.Sources.{sourceFault, memoryAccepted};
-ghost use Rattle.genuine.specs.Genuine.{plainLength, genuineUnder};
+ghost use Rattle.verify.specs.Verify.{plainLength, genuineUnder};
 ghost use Rattle.opening.specs.Opening.{sealedFault, numberedAs, keylessFault, openWritten, openOutput, memoryAfterOpening};
 
 // The message number of a sealed PDU, or why there is none.
@@ -83,7 +83,7 @@ fn keyed_fault(
         orElse sourceFault (sourceOf (now (pdu .entry))) (now (memory .entry))
         orElse ltb room (plainLength (now (pdu .entry))) gives 87) ⌝ }
 {
-    if !genuine::is_genuine(keys, pdu) {
+    if !verify::is_genuine(keys, pdu) {
         return 83;
     }
     let full = sources::source_fault(memory, header.source);
@@ -115,7 +115,7 @@ fn put_plain(
     }
     let size = sealed.len() - Key::ADDED_LENGTH;
     octets::put(output, 0, octets::part(sealed, 3, size));
-    counter::add_stream(keys, nonce, 0, &mut output[0..size]);
+    ctr::add_stream(keys, nonce, 0, &mut output[0..size]);
     size
 }
 

@@ -1,8 +1,8 @@
 -- Every public function of `retained`: its promise asks nothing of the caller and determines what the caller sees.
 use mathlib.Core.Path.{sym, _∙_}
 use Rattle.promises.specs.Promise.{Promised}
-use Rattle.retained.proofs.unfit.Reads as unfit-reads
-use Rattle.retained.proofs.unfit.Kinds as unfit-kinds
+use Rattle.retained.proofs.retain_fault.Reads as retain-fault-reads
+use Rattle.retained.proofs.retain_fault.Kinds as retain-fault-kinds
 use Rattle.retained.proofs.names_of.Reads as names-of-reads
 use Rattle.retained.proofs.names_of.Kinds as names-of-kinds
 use Rattle.retained.proofs.exchange.Reads as exchange-reads
@@ -20,8 +20,8 @@ use Rattle.retained.proofs.in_use.is_named.Kinds as is-named-kinds
 use Rattle.retained.proofs.in_use.is_due.Reads as is-due-reads
 use Rattle.retained.proofs.in_use.is_due.Kinds as is-due-kinds
 
-pub unfit : Promised 1 unfit-kinds.ps unfit-kinds.r unfit-reads.Asked unfit-reads.Post (λ κs x. x)
-unfit = (λ κs a. tt, λ κs a x y s t p q. p ∙ sym q)
+pub retain-fault : Promised 1 retain-fault-kinds.ps retain-fault-kinds.r retain-fault-reads.Asked retain-fault-reads.Post (λ κs x. x)
+retain-fault = (λ κs a. tt, λ κs a x y s t p q. p ∙ sym q)
 
 pub names-of : Promised 1 names-of-kinds.ps names-of-kinds.r names-of-reads.Asked names-of-reads.Post (λ κs x. x)
 names-of = (λ κs a. tt, λ κs a x y s t p q. p ∙ sym q)

@@ -11,7 +11,7 @@ use borrow.Author.Tests.{eqb-true}
 use Rattle.octets.specs.Octets.{at, over}
 use Rattle.octets.proofs.Numbering.{orElse-zero}
 use Rattle.octets.proofs.Tests.{both}
-use Rattle.counter.specs.Counter.{counterMode}
+use Rattle.ctr.specs.Ctr.{counterMode}
 use Rattle.pdu.specs.declared.Header.{Header}
 use Rattle.pdu.specs.declared.Reading.the-variants.{Pdu}
 use Rattle.pdu.specs.Header.{headerOf, sourceOf}
@@ -26,7 +26,7 @@ use Rattle.message.specs.Sealable.{sealNumber}
 use Rattle.message.proofs.Sealable.{sealable}
 use Rattle.sealing.specs.Sealing.{sealedHeader, sealedPayload, sealedPdu, sealWritten, sealOutput}
 use Rattle.sealing.proofs.Laying.{length-hash, length-enciphered}
-use Rattle.genuine.specs.Genuine.{messageNumber, plainLength, decipheredUnder, plainUnder, sameFour, genuineUnder}
+use Rattle.verify.specs.Verify.{messageNumber, plainLength, decipheredUnder, plainUnder, sameFour, genuineUnder}
 use Rattle.opening.specs.Opening.{deciphered, plainPayload, genuine, keylessFault, openNumber, openWritten, openOutput}
 use Rattle.opening.proofs.Sealed.{is-sealed}
 use Rattle.protection.proofs.RoundTrip.{same-self}

@@ -12,11 +12,11 @@ use lib.Seq.{take-append-seam}
 use Rattle.octets.specs.Octets.{at, AllBytes}
 use Rattle.octets.proofs.Words.{bytes-none, bytes-more, bytes-four, bytes-joined, bytes-take, bytes-drop}
 use Rattle.octets.proofs.Tests.{flag-small}
-use Rattle.field.specs.Field.{_⊕_, bit, xtime, inverse, affineBit, gathered, affine, subByte}
-use Rattle.rounds.specs.Rounds.{listed, cell, word, subBytes, shiftRows, addRoundKey, lastRound}
+use Rattle.aes_field.specs.Field.{_⊕_, bit, xtime, inverse, affineBit, gathered, affine, subByte}
+use Rattle.aes_rounds.specs.Rounds.{listed, cell, word, subBytes, shiftRows, addRoundKey, lastRound}
 use Rattle.aes.specs.Cipher.{roundKey, rounds, cipher, plus, rotWord, subWord, power, rcon, temp, nextKeyWord, expansion, keyExpansion}
-use Rattle.counter.specs.Counter.{counterBlock, stream, added, counterMode}
-use Rattle.compression.specs.declared.Five.{Five}
+use Rattle.ctr.specs.Ctr.{counterBlock, stream, added, counterMode}
+use Rattle.sha1_block.specs.declared.Five.{Five}
 use Rattle.sha1.specs.Sha1.{fourBytes, padded, hashed, digest, sha1}
 use Rattle.pdu.specs.declared.Header.{Header}
 use Rattle.pdu.specs.Header.{headerOf}

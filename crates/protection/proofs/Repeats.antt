@@ -14,7 +14,7 @@ use Rattle.node.specs.Repeat.{repeated, repeatedHeader}
 use Rattle.node.proofs.Encoded.{repeat-reads, repeat-payload, repeat-bytes}
 use Rattle.node.proofs.Heard.{repeats}
 use Rattle.message.specs.Protection.{numberIn, hashedHeader, hashBytes}
-use Rattle.genuine.specs.Genuine.{messageNumber, decipheredUnder, plainUnder, genuineUnder}
+use Rattle.verify.specs.Verify.{messageNumber, decipheredUnder, plainUnder, genuineUnder}
 use Rattle.opening.specs.Opening.{deciphered, plainPayload, genuine, sealedFault, keylessFault, openNumber, memoryAfterOpening}
 use Rattle.protection.specs.Histories.{Repeat, heardAfter, heardAtLast, RepeatedBy, AllRepeat}
 use Rattle.protection.proofs.Hashed.{hashedFields, hashed-shown}

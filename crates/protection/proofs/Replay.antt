@@ -11,7 +11,7 @@ use Rattle.octets.proofs.Numbering.{orElse-zero}
 use Rattle.pdu.specs.Header.{sourceOf}
 use Rattle.sources.specs.Sources.{memoryLength, recordIn, numberFault, sourceFault, withAccepted, memoryAccepted}
 use Rattle.sources.proofs.Noting.{nextNumber, record-accepted, length-memory, taken-from, next-accepted, never-falls}
-use Rattle.genuine.specs.Genuine.{messageNumber}
+use Rattle.verify.specs.Verify.{messageNumber}
 use Rattle.opening.specs.Opening.{openNumber, memoryAfterOpening}
 use Rattle.opening.proofs.Sealed.{is-sealed}
 use Rattle.protection.specs.Histories.{Opening, memoryAfterOne, memoryAfterAll}

@@ -11,8 +11,8 @@ use borrow.Author.Tests.{le-ltb, eq-eqb}
 use Rattle.octets.specs.Octets.{at, AllBytes}
 use Rattle.octets.proofs.Numbering.{orElse-later, gives-later, gives-none}
 use Rattle.aes.specs.Cipher.{keyExpansion}
-use Rattle.counter.specs.Counter.{stream, counterMode}
-use Rattle.counter.proofs.Twice.{added-twice}
+use Rattle.ctr.specs.Ctr.{stream, counterMode}
+use Rattle.ctr.proofs.Twice.{added-twice}
 use Rattle.sha1.specs.Sha1.{sha1}
 use Rattle.pdu.specs.declared.Header.{Header}
 use Rattle.pdu.specs.declared.Reading.{Reading}
@@ -30,7 +30,7 @@ use Rattle.message.specs.Sealable.{sealNumber}
 use Rattle.message.proofs.Sealable.{Sealable, sealable}
 use Rattle.sealing.specs.Sealing.{sealedHeader, sealedPayload, sealedPdu}
 use Rattle.sealing.proofs.Laying.{length-hash, length-enciphered, hashed-header}
-use Rattle.genuine.specs.Genuine.{messageNumber, plainLength, decipheredUnder, plainUnder, sameFour, genuineUnder}
+use Rattle.verify.specs.Verify.{messageNumber, plainLength, decipheredUnder, plainUnder, sameFour, genuineUnder}
 use Rattle.opening.proofs.Sealed as keyless
 use Rattle.opening.specs.Opening.{deciphered, plainPayload, genuine, keylessFault, openNumber}
 

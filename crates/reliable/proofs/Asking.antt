@@ -46,13 +46,13 @@ use denote.Triple.Clauses.{Clauses, Ended, closing, ensured, lasts}
 use denote.Triple.Walked.{says, Stays, stay-dropped, walkOf, ends-at, walked}
 use Rattle.retained.specs.Table.{recordAt}
 use Rattle.retained.specs.declared.Retained.{Retained}
-use Rattle.deciding.specs.declared.Ask.{Ask}
+use Rattle.retained_operations.specs.declared.Ask.{Ask}
 use Rattle.retained.proofs.Retained as T
 use Rattle.retained.proofs.Retained.Laws as T′
-use Rattle.deciding.proofs.Ask as Q
-use Rattle.deciding.proofs.Ask.Laws as Q′
-use Rattle.deciding.proofs.Effect as F
-use Rattle.deciding.proofs.Effect.Laws as F′
+use Rattle.retained_operations.proofs.Ask as Q
+use Rattle.retained_operations.proofs.Ask.Laws as Q′
+use Rattle.retained_operations.proofs.Effect as F
+use Rattle.retained_operations.proofs.Effect.Laws as F′
 use Rattle.reliable.proofs.Meeting.{meets}
 use Rattle.reliable.proofs.Shared.{LentShared, lends-shared, back-shared}
 use Rattle.reliable.proofs.Calls.{told}

@@ -26,8 +26,8 @@ use denote.Triple.Spec.{tripleOf}
 use denote.Triple.Clauses.{lasts}
 use Rattle.retained.specs.declared.Retained.{Retained}
 use Rattle.retained.specs.declared.Outcome.{Outcome}
-use Rattle.deciding.specs.declared.Ask.{Ask}
-use Rattle.deciding.specs.Deciding.{hearOn, tableFreed}
+use Rattle.retained_operations.specs.declared.Ask.{Ask}
+use Rattle.retained_operations.specs.Operations.{hearOn, tableFreed}
 use Rattle.retained.proofs.Retained as T
 use Rattle.retained.proofs.Outcome as O
 use Rattle.retained.proofs.Outcome.Laws as O′

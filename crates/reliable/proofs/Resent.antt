@@ -29,8 +29,8 @@ use denote.Steps.{only, facts, nothing, heard}
 use denote.Triple.Spec.{tripleOf}
 use denote.Triple.Clauses.{ensured, lasts}
 use Rattle.retained.specs.declared.Retained.{Retained}
-use Rattle.deciding.specs.declared.Effect.{Effect}
-use Rattle.deciding.specs.Deciding.{tableResent, outputResent}
+use Rattle.retained_operations.specs.declared.Effect.{Effect}
+use Rattle.retained_operations.specs.Operations.{tableResent, outputResent}
 use Rattle.retained.proofs.Retained as T
 use Rattle.reliable.proofs.Values.{slice, fval, IsF, own-f}
 use Rattle.reliable.proofs.resend as resend

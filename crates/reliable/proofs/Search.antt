@@ -45,14 +45,14 @@ use denote.Triple.Clauses.{Clauses, closing, ensured, lasts}
 use Rattle.retained.specs.Table.{first, recordAt}
 use Rattle.retained.specs.Records.{freedRecord}
 use Rattle.retained.specs.declared.Retained.{Retained}
-use Rattle.deciding.specs.Deciding.{seeks, searchStart, placeOf}
-use Rattle.deciding.specs.declared.Ask.{Ask}
+use Rattle.retained_operations.specs.Operations.{seeks, searchStart, placeOf}
+use Rattle.retained_operations.specs.declared.Ask.{Ask}
 use Rattle.retained.proofs.Retained as T
 use Rattle.retained.proofs.Retained.Laws as T′
-use Rattle.deciding.proofs.Ask.Laws as Q′
-use Rattle.deciding.proofs.start as start
-use Rattle.deciding.proofs.start.Symbol as start-def
-use Rattle.deciding.proofs.is_due as tested
+use Rattle.retained_operations.proofs.Ask.Laws as Q′
+use Rattle.retained_operations.proofs.start as start
+use Rattle.retained_operations.proofs.start.Symbol as start-def
+use Rattle.retained_operations.proofs.is_due as tested
 use Rattle.reliable.proofs.get.Symbol as get-def
 use Rattle.reliable.proofs.Asking.{number, Token, Own, Asks, End, ends, asks-spec, Get, got}
 use Rattle.reliable.proofs.Calls.{told}

@@ -21,16 +21,16 @@ use denote.Steps.{owned}
 use denote.Struct.Laws as LL
 use Rattle.retained.specs.declared.Retained.{Retained}
 use Rattle.retained.specs.declared.Outcome.{Outcome}
-use Rattle.deciding.specs.declared.Ask.{Ask}
-use Rattle.deciding.specs.declared.Effect.{Effect}
+use Rattle.retained_operations.specs.declared.Ask.{Ask}
+use Rattle.retained_operations.specs.declared.Effect.{Effect}
 use Rattle.retained.proofs.Retained as T
 use Rattle.retained.proofs.Retained.Laws as T′
 use Rattle.retained.proofs.Outcome as O
 use Rattle.retained.proofs.Outcome.Laws as O′
-use Rattle.deciding.proofs.Ask as Q
-use Rattle.deciding.proofs.Ask.Laws as Q′
-use Rattle.deciding.proofs.Effect as F
-use Rattle.deciding.proofs.Effect.Laws as F′
+use Rattle.retained_operations.proofs.Ask as Q
+use Rattle.retained_operations.proofs.Ask.Laws as Q′
+use Rattle.retained_operations.proofs.Effect as F
+use Rattle.retained_operations.proofs.Effect.Laws as F′
 
 -- of a slice, and of its pointer alone
 abbrev pub slice : {X : Type 0} → RefT (List X) → Val

@@ -1,13 +1,13 @@
 // The table of retained PDUs: records side by side in memory that the caller lends.
-use deciding::Ask;
-use deciding::Effect;
 use retained::Outcome;
 use retained::Retained;
+use retained_operations::Ask;
+use retained_operations::Effect;
 ghost use mathlib.Core.Path.{_≡_};
 ghost use lib.ListN.{set};
 ghost use Rattle.retained.specs.Records.{isFree, isNamed, isDue};
 ghost use Rattle.retained.specs.Table.{recordAt};
-ghost use Rattle.deciding.specs.Deciding.{placeOf, retainOn, stepOn, hearOn, tableFreed, tableResent, outputResent};
+ghost use Rattle.retained_operations.specs.Operations.{placeOf, retainOn, stepOn, hearOn, tableFreed, tableResent, outputResent};
 
 // The record at a place; a free one where there is none.
 fn get(recs: &[Retained], place: usize) -> Retained
@@ -22,9 +22,9 @@ fn get(recs: &[Retained], place: usize) -> Retained
 fn first_due(recs: &[Retained], a: Ask) -> usize
     ensures { λ r. ⌜ r ≡ placeOf (isDue (a .time) (a .delay)) a (now (recs .entry)) ⌝ }
 {
-    let mut i = deciding::start(a, recs.len());
+    let mut i = retained_operations::start(a, recs.len());
     while i < recs.len() {
-        if deciding::is_due(a, get(recs, i)) {
+        if retained_operations::is_due(a, get(recs, i)) {
             return i;
         }
         i += 1;
@@ -35,9 +35,9 @@ fn first_due(recs: &[Retained], a: Ask) -> usize
 fn first_named(recs: &[Retained], a: Ask) -> usize
     ensures { λ r. ⌜ r ≡ placeOf (isNamed (a .names)) a (now (recs .entry)) ⌝ }
 {
-    let mut i = deciding::start(a, recs.len());
+    let mut i = retained_operations::start(a, recs.len());
     while i < recs.len() {
-        if deciding::is_named(a, get(recs, i)) {
+        if retained_operations::is_named(a, get(recs, i)) {
             return i;
         }
         i += 1;
@@ -48,9 +48,9 @@ fn first_named(recs: &[Retained], a: Ask) -> usize
 fn first_free(recs: &[Retained], a: Ask) -> usize
     ensures { λ r. ⌜ r ≡ placeOf isFree a (now (recs .entry)) ⌝ }
 {
-    let mut i = deciding::start(a, recs.len());
+    let mut i = retained_operations::start(a, recs.len());
     while i < recs.len() {
-        if deciding::is_free(a, get(recs, i)) {
+        if retained_operations::is_free(a, get(recs, i)) {
             return i;
         }
         i += 1;
@@ -64,7 +64,7 @@ pub fn find_room(recs: &[Retained], a: Ask) -> Effect
 {
     let named = first_named(recs, a);
     let free = first_free(recs, a);
-    deciding::retain(a, recs.len(), named, free)
+    retained_operations::retain(a, recs.len(), named, free)
 }
 
 // What a step does to the table. Nothing is stored. Document 02, W-210.
@@ -72,7 +72,7 @@ pub fn find_due(recs: &[Retained], a: Ask) -> Effect
     ensures { λ x. ⌜ x ≡ stepOn a (now (recs .entry)) ⌝ }
 {
     let place = first_due(recs, a);
-    deciding::step(a, recs.len(), place, get(recs, place))
+    retained_operations::step(a, recs.len(), place, get(recs, place))
 }
 
 // Stores a record; nothing where there is no such place. Document 02, W-210.
@@ -90,7 +90,7 @@ pub fn free(recs: &mut [Retained], a: Ask) -> Outcome
         × (now (recs .exit) ≡ tableFreed (hearOn a (now (recs .entry))) (now (recs .entry))) ⌝ }
 {
     let place = first_named(recs, a);
-    let effect = deciding::hear(a, recs.len(), place);
+    let effect = retained_operations::hear(a, recs.len(), place);
     store(recs, effect.place, retained::freed_record());
     effect.outcome
 }
@@ -102,6 +102,6 @@ pub fn resend(recs: &mut [Retained], e: Effect, output: &mut [u8])
 {
     if e.place < recs.len() {
         let r = recs[e.place];
-        recs[e.place] = deciding::send(output, e, r);
+        recs[e.place] = retained_operations::send(output, e, r);
     }
 }

@@ -12,7 +12,7 @@ use Rattle.pdu.specs.declared.Header.{Header}
 use Rattle.pdu.specs.Header.{headerOf}
 use Rattle.pdu.specs.Sizes.{pathEntries, pduLength}
 use Rattle.pdu.specs.Reading.{readOf, readingNumber, exactlyOne}
-use Rattle.retained.specs.Records.{isFirstSending, isRetainable, unfit}
+use Rattle.retained.specs.Records.{isFirstSending, isRetainable, retainFault}
 
 pub by-test : (a b : Bool) → (b ≡ true → a ≡ true) → (b ≡ false → a ≡ false) → a ≡ b
 by-test a true f g = f refl
@@ -67,14 +67,14 @@ same-3 a b c d e f p q = simp (eq-eqb a b p, eq-eqb e f q) (by (eqb c d))
     by false = refl
 
 module _ (bytes : List ℕ) (t : Bool) (told : t ≡ isRetainable bytes) where
-  pub unfit-75 : t ≡ false → 75 ≡ unfit bytes
-  unfolding unfit _gives_ _orElse_
+  pub unfit-75 : t ≡ false → 75 ≡ retainFault bytes
+  unfolding retainFault _gives_ _orElse_
   unfit-75 e = simp (sym told ∙ e)
 
-  pub unfit-72 : t ≡ true → 256 < length bytes → 72 ≡ unfit bytes
-  unfolding unfit _gives_ _orElse_
+  pub unfit-72 : t ≡ true → 256 < length bytes → 72 ≡ retainFault bytes
+  unfolding retainFault _gives_ _orElse_
   unfit-72 e h = simp (sym told ∙ e, lt-ltb 256 (length bytes) h)
 
-  pub unfit-0 : t ≡ true → length bytes ≤ 256 → 0 ≡ unfit bytes
-  unfolding unfit _gives_ _orElse_
+  pub unfit-0 : t ≡ true → length bytes ≤ 256 → 0 ≡ retainFault bytes
+  unfolding retainFault _gives_ _orElse_
   unfit-0 e h = simp (sym told ∙ e, le-ltb 256 (length bytes) h)

@@ -19,7 +19,7 @@ use Rattle.pdu.proofs.Inversion.{Whole, read-whole, shown}
 use Rattle.pdu.proofs.Exact.{exact, is-exact}
 use Rattle.retained.specs.declared.Retained.{Retained}
 use Rattle.retained.proofs.Laws.{by-path, unfit-0}
-use Rattle.retained.specs.Records.{isFirstSending, isRetainable, unfit, isUsed, pduOf, namesOf, placedNames, isDue}
+use Rattle.retained.specs.Records.{isFirstSending, isRetainable, retainFault, isUsed, pduOf, namesOf, placedNames, isDue}
 
 same : (a b : Bool) → (a ≡ true → b ≡ true) → (b ≡ true → a ≡ true) → a ≡ b
 same true b f g = sym (f refl)
@@ -99,7 +99,7 @@ module _ (bytes : List ℕ) where
   ack-is = refl
 
   -- what begins so and has that size can be retained
-  fits : Begins bytes → length bytes ≡ sizeBy bytes → length bytes ≤ 256 → unfit bytes ≡ 0
+  fits : Begins bytes → length bytes ≡ sizeBy bytes → length bytes ≤ 256 → retainFault bytes ≡ 0
   unfolding isRetainable
   fits b l h =
       let one : at bytes 0 / 8 % 8 ≡ 1 = omega (arith, b .first) in
@@ -118,8 +118,8 @@ module _ (bytes : List ℕ) where
       sym (unfit-0 bytes true (sym (simp (sole, first))) refl h)
 
   -- and what can be retained begins so and has that size
-  fitting : unfit bytes ≡ 0 → Begins bytes × (length bytes ≡ sizeBy bytes)
-  unfolding unfit isRetainable
+  fitting : retainFault bytes ≡ 0 → Begins bytes × (length bytes ≡ sizeBy bytes)
+  unfolding retainFault isRetainable
   fitting u =
       let kept = both (exactlyOne bytes) (isFirstSending (headerOf bytes)) (not-false _ (gives-zero _ 75 (omega arith) (orElse-zero _ _ u .0))) in
       let sole = exact bytes (kept .0) in
@@ -172,7 +172,7 @@ module _ (n : ℕ) (p : List ℕ) where
     long : n ≤ 256 → length bytes ≡ n
     long h = length-take-le n p (omega (arith, h, whole))
 
-    to-used : byPlaces ≡ true → (leb n 256 && eqb (unfit bytes) 0) ≡ true
+    to-used : byPlaces ≡ true → (leb n 256 && eqb (retainFault bytes) 0) ≡ true
     to-used e =
         let a = both (eqb (at p 0 / 8) 1) _ e in
         let b = both (eqb (at p 0 % 2) 1) _ (a .1) in
@@ -186,9 +186,9 @@ module _ (n : ℕ) (p : List ℕ) where
         let begins = starts nine (λ t. omega (arith, l, sym (ap pathBit (there 0 (omega (arith, nine)))) ∙ t)) (eqb-true _ 1 (a .0)) (eqb-true _ 1 (b .0))
         (eqb-true _ 0 (c .0)) (none-counted (pathBit (at p 0)) (at p 9) z) in
         let u = fits bytes begins (long h ∙ sym l ∙ sym (size-there nine)) (omega (arith, long h, h)) in
-        simp (d .0, eq-eqb (unfit bytes) 0 u)
+        simp (d .0, eq-eqb (retainFault bytes) 0 u)
 
-    of-used : (leb n 256 && eqb (unfit bytes) 0) ≡ true → byPlaces ≡ true
+    of-used : (leb n 256 && eqb (retainFault bytes) 0) ≡ true → byPlaces ≡ true
     of-used e =
         let a = both (leb n 256) _ e in
         let h : n ≤ 256 = leb-true n 256 (a .0) in

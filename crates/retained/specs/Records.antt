@@ -28,8 +28,8 @@ unfoldable pub isRetainable : List ℕ → Bool
 isRetainable bytes = exactlyOne bytes && isFirstSending (headerOf bytes)
 
 -- why bytes can't be retained: 75, then 72; 0 where they can
-unfoldable pub unfit : List ℕ → ℕ
-unfit bytes = not (isRetainable bytes) gives 75 orElse ltb recordLimit (length bytes) gives 72
+unfoldable pub retainFault : List ℕ → ℕ
+retainFault bytes = not (isRetainable bytes) gives 75 orElse ltb recordLimit (length bytes) gives 72
 
 -- the PDU that a record holds
 abbrev pub pduOf : Retained → List ℕ
@@ -37,7 +37,7 @@ pduOf record′ = take (record′ .length) (record′ .pdu)
 
 -- a record whose PDU 75 or 72 would refuse is free; lent memory may hold anything, also a length above 256
 unfoldable pub isUsed : Retained → Bool
-isUsed record′ = leb (record′ .length) recordLimit && eqb (unfit (pduOf record′)) 0
+isUsed record′ = leb (record′ .length) recordLimit && eqb (retainFault (pduOf record′)) 0
 
 abbrev pub isFree : Retained → Bool
 isFree record′ = not (isUsed record′)

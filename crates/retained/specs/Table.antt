@@ -9,7 +9,7 @@ use Rattle.octets.specs.Octets.{over}
 use Rattle.retained.specs.declared.Names.{Names}
 use Rattle.retained.specs.declared.Retained.{Retained}
 use Rattle.retained.specs.declared.Outcome.{Outcome}
-use Rattle.retained.specs.Records.{unfit, pduOf, isFree, namesOf, isNamed, isDue, retainedRecord, sentRecord, freedRecord}
+use Rattle.retained.specs.Records.{retainFault, pduOf, isFree, namesOf, isNamed, isDue, retainedRecord, sentRecord, freedRecord}
 
 -- 16 retained PDUs
 abbrev pub tableSize : ℕ
@@ -73,7 +73,7 @@ unfoldable pub retainNumber : List Retained → ℕ → ℕ → List ℕ → ℕ
 retainNumber table last now bytes =
     tableFault table
     orElse timeFault last now
-    orElse unfit bytes
+    orElse retainFault bytes
     orElse has (isNamed (namesOf bytes)) table gives 71
     orElse not (has isFree table) gives 70
 

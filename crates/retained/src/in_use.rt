@@ -31,9 +31,9 @@ fn payload_length(byte2: u8, byte3: u8) -> u16
 }
 
 // Version 0, protocol 1, a destination, ACK clear; at most 256 bytes; no path address; as long as header and payload.
-fn is_whole(length: usize, byte0: u8, byte1: u8, entries: u8, payload: u16) -> bool
-    ensures { λ r. ⌜ r ≡ (eqb (byte0 / 8) 1 && (eqb (byte0 % 2) 1 && (eqb (byte1 % 2) 0 && (leb length 256
-        && (eqb entries 0 && eqb (9 + pathBit byte0 + payload) length))))) ⌝ }
+fn is_whole(size: usize, byte0: u8, byte1: u8, entries: u8, payload: u16) -> bool
+    ensures { λ r. ⌜ r ≡ (eqb (byte0 / 8) 1 && (eqb (byte0 % 2) 1 && (eqb (byte1 % 2) 0 && (leb size 256
+        && (eqb entries 0 && eqb (9 + pathBit byte0 + payload) size))))) ⌝ }
 {
     if byte0 / 8 != 1 {
         return false;
@@ -44,13 +44,13 @@ fn is_whole(length: usize, byte0: u8, byte1: u8, entries: u8, payload: u16) -> b
     if byte1 % 2 != 0 {
         return false;
     }
-    if 256 < length {
+    if 256 < size {
         return false;
     }
     if entries != 0 {
         return false;
     }
-    9 + octets::byte_value(byte0 / 2 % 2) + octets::word_value(payload) == length
+    9 + octets::byte_value(byte0 / 2 % 2) + octets::word_value(payload) == size
 }
 
 fn same_names(a: Names, b: Names) -> bool

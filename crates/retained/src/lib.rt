@@ -4,7 +4,7 @@ pub mod in_use;
 use pdu::Destination;
 use pdu::Header;
 ghost use mathlib.Core.Path.{_≡_};
-ghost use Rattle.retained.specs.Records.{isFirstSending, isRetainable, unfit, addressOf, namesOf, exchanged, retainedRecord, freedRecord};
+ghost use Rattle.retained.specs.Records.{isFirstSending, isRetainable, retainFault, addressOf, namesOf, exchanged, retainedRecord, freedRecord};
 
 // The PDU in its first `length` bytes, when it was last sent, in seconds, and how often it was sent again.
 #[repr(C)]
@@ -35,8 +35,8 @@ pub struct Outcome {
 }
 
 // Why bytes can't be retained: 75, then 72; 0 where they can. Document 02, W-210.
-pub fn unfit(bytes: &[u8]) -> u8
-    ensures { λ r. ⌜ r ≡ unfit (now (bytes .entry)) ⌝ }
+pub fn retain_fault(bytes: &[u8]) -> u8
+    ensures { λ r. ⌜ r ≡ retainFault (now (bytes .entry)) ⌝ }
 {
     if !is_retainable(bytes) {
         return 75;

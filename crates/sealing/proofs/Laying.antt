@@ -14,8 +14,8 @@ use Rattle.octets.specs.Octets.{at, AllBytes, over, placed, placeAfter}
 use Rattle.octets.proofs.Placing.{Begins, more, length-over}
 use Rattle.octets.proofs.Tests.{flag-small}
 use Rattle.aes.specs.Cipher.{keyExpansion}
-use Rattle.counter.specs.Counter.{stream, added, counterMode}
-use Rattle.counter.proofs.Streams.{length-added}
+use Rattle.ctr.specs.Ctr.{stream, added, counterMode}
+use Rattle.ctr.proofs.Streams.{length-added}
 use Rattle.sha1.specs.Sha1.{sha1}
 use Rattle.sha1.proofs.Feeding.{twenty}
 use Rattle.pdu.specs.declared.Header.{Header}

@@ -6,7 +6,7 @@ ghost use mathlib.Core.List.{_++_};
 ghost use Prim.Native.Nat.{_+_, _-_, _≤_};
 ghost use lib.ListN.{length, take, drop};
 ghost use Rattle.octets.specs.Octets.{over};
-ghost use Rattle.counter.specs.Counter.{counterMode};
+ghost use Rattle.ctr.specs.Ctr.{counterMode};
 ghost use Rattle.pdu.specs.declared.Reading.the-variants.{Pdu};
 ghost use Rattle.pdu.specs.Header.{headerOf};
 ghost use Rattle.pdu.specs.Sizes.{headerLength, pduLength};
@@ -18,11 +18,11 @@ ghost use Rattle.message.specs.Sealable.{sealedLength};
 ghost use Rattle.sealing.specs.Sealing.{sealedHeader, sealedPdu, sealWritten, sealOutput};
 
 // The length of a payload with number and hash.
-fn longer(length: u16) -> u16
-    requires { ⌜ length ≤ 4088 ⌝ }
-    ensures { λ r. ⌜ r ≡ length + addedLength ⌝ }
+fn longer(size: u16) -> u16
+    requires { ⌜ size ≤ 4088 ⌝ }
+    ensures { λ r. ⌜ r ≡ size + addedLength ⌝ }
 {
-    length + 7
+    size + 7
 }
 
 fn sealed_header(header: Header) -> Header
@@ -69,7 +69,7 @@ fn encipher(key: [u8; 16], nonce: [u8; 5], output: &mut [u8], place: usize, end:
         ++ (counterMode key nonce (take (end - place) (drop place (now (output .entry)))) ++ drop (end - place) (drop place (now (output .entry)))) ⌝ }
 {
     let keys = aes::expand(key);
-    counter::add_stream(&keys, nonce, 0, &mut output[place..end]);
+    ctr::add_stream(&keys, nonce, 0, &mut output[place..end]);
 }
 
 // Seals the PDU at the start of `pdu` under a key, with a message number: writes the sealed PDU at the start of the output and answers 0 and its

@@ -14,8 +14,8 @@ use lib.Dec.{eqb}
 use lib.ListN.{length, replicate, take, drop, set, length-append, length-set, length-drop, drop-of-length-le}
 use lib.Seq.{append-snoc, take-suc, take-all, take-suc-set, take-append-le, drop-append-le}
 use Rattle.octets.specs.Octets.{at}
-use Rattle.compression.specs.declared.Five.{Five}
-use Rattle.compression.specs.Compression.{compressed}
+use Rattle.sha1_block.specs.declared.Five.{Five}
+use Rattle.sha1_block.specs.Sha1Block.{compressed}
 use Rattle.sha1.specs.declared.Running.{Running}
 use Rattle.sha1.specs.Sha1.{eightBytes, zeros, padding, padded, blockAt, hashed, digest, sha1, hashBegun, fedByte, fed, finalHash, finished}
 

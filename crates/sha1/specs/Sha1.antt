@@ -5,8 +5,8 @@ use mathlib.Core.Bool.{cond}
 use mathlib.Core.List.{List, [], _∷_, _++_}
 use lib.Dec.{eqb}
 use lib.ListN.{length, replicate, set, take, drop}
-use Rattle.compression.specs.declared.Five.{Five}
-use Rattle.compression.specs.Compression.{compressed}
+use Rattle.sha1_block.specs.declared.Five.{Five}
+use Rattle.sha1_block.specs.Sha1Block.{compressed}
 use Rattle.sha1.specs.declared.Running.{Running}
 
 -- the four bytes of a word, the most significant first

@@ -2,7 +2,7 @@
 ghost use mathlib.Core.Path.{_≡_};
 ghost use Prim.Native.Nat.{_*_, _%_, _^_};
 ghost use Rattle.sha1.specs.Sha1.{eightBytes, hashBegun, fed, finalHash};
-use compression::Five;
+use sha1_block::Five;
 use std::num::wrapping_add_u64;
 
 // A message that comes part by part: the hash value of its full blocks, the block that is being filled, and how many bytes came, modulo 2^64.
@@ -41,7 +41,7 @@ pub fn feed(running: Running, part: &[u8]) -> Running
         let place = (total % 64) as usize;
         block[place] = part[i];
         if place == 63 {
-            let next = compression::compress(hash, block);
+            let next = sha1_block::compress(hash, block);
             hash = next;
         }
         total = wrapping_add_u64(total, 1);

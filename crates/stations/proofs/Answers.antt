@@ -11,9 +11,9 @@ use Rattle.octets.specs.Octets.{at}
 use Rattle.octets.proofs.Tests.{both}
 use Rattle.stations.specs.declared.Station.{Station}
 use Rattle.stations.specs.declared.Found.{Found}
-use Rattle.stations.specs.declared.Sought.{Sought}
+use Rattle.stations.specs.declared.FoundPlace.{FoundPlace}
 use Rattle.stations.specs.Table.{stationFrom, tableIn, addresses, stationAt, placeOf, isAt}
-use Rattle.stations.specs.Asking.{sought, foundIf, stationOf, foundAt}
+use Rattle.stations.specs.Asking.{foundPlace, foundIf, stationOf, foundAt}
 use Rattle.stations.proofs.Memory.{length-addresses, table-station}
 
 -- a place where an address stands is one of the table's
@@ -49,7 +49,7 @@ found-past memory place found h ef = rw (le-ltb _ _ h) ef
 
 pub sought-so : (memory : List ℕ) (address place : ℕ) (held : Bool) → place ≡ placeOf address (addresses (tableIn memory))
     → held ≡ isAt address (addresses (tableIn memory)) place
-    → _≡_ {A = Sought} (record { place = place; «is_held» = held }) (sought address (addresses (tableIn memory)))
+    → _≡_ {A = FoundPlace} (record { place = place; «is_held» = held }) (foundPlace address (addresses (tableIn memory)))
 sought-so memory address place held ep eh =
     ap₂ (λ (p : ℕ) (h : Bool). record { place = p; «is_held» = h }) ep (eh ∙ ap (isAt address (addresses (tableIn memory))) ep)
 

@@ -6,12 +6,12 @@ use lib.Dec.{ltb}
 use lib.ListN.{length}
 use Rattle.stations.specs.declared.Station.{Station}
 use Rattle.stations.specs.declared.Found.{Found}
-use Rattle.stations.specs.declared.Sought.{Sought}
+use Rattle.stations.specs.declared.FoundPlace.{FoundPlace}
 use Rattle.stations.specs.Table.{addresses, newStation, stationAt, placeOf, isHeld}
 
 -- where an address stands, and whether it is held
-abbrev pub sought : ℕ → List ℕ → Sought
-sought address known = record { place = placeOf address known; «is_held» = isHeld address known }
+abbrev pub foundPlace : ℕ → List ℕ → FoundPlace
+foundPlace address known = record { place = placeOf address known; «is_held» = isHeld address known }
 
 -- the station at a place, if it is to be shown; else 56
 abbrev pub foundIf : Bool → List Station → ℕ → Found

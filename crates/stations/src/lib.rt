@@ -6,7 +6,7 @@ ghost use Prim.Native.Nat.{_+_, _-_, _*_, _/_, _<_, _≤_};
 ghost use lib.ListN.{length, drop};
 ghost use Rattle.octets.specs.Octets.{at};
 ghost use Rattle.stations.specs.Table.{memoryLength, tableIn, stationFrom, addresses, nextPlace, placeOf, isAt};
-ghost use Rattle.stations.specs.Asking.{sought, foundIf, stationOf, foundAt};
+ghost use Rattle.stations.specs.Asking.{foundPlace, foundIf, stationOf, foundAt};
 
 impl Station {
     // The most stations that a table holds.
@@ -35,7 +35,7 @@ pub struct Found {
 }
 
 // Where an address stands in the rising order, or would stand, and whether it is held.
-pub struct Sought {
+pub struct FoundPlace {
     pub place: usize,
     pub is_held: bool,
 }
@@ -143,11 +143,11 @@ fn is_at(table: &[u16; Station::MEMORY], address: u16, place: usize) -> bool
 }
 
 // The place of an address, found in eight halved steps. Document 02, W-201: listing by rising address.
-pub fn seek(table: &[u16; Station::MEMORY], address: u16) -> Sought
-    ensures { λ r. ⌜ r ≡ sought address (addresses (tableIn (now (table .entry)))) ⌝ }
+pub fn find_place(table: &[u16; Station::MEMORY], address: u16) -> FoundPlace
+    ensures { λ r. ⌜ r ≡ foundPlace address (addresses (tableIn (now (table .entry)))) ⌝ }
 {
     let place = place_of(table, address);
-    Sought {
+    FoundPlace {
         place,
         is_held: is_at(table, address, place),
     }

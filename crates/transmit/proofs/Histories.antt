@@ -18,7 +18,7 @@ use Rattle.queue.proofs.Memory.{holds, kept-pdus, kept-bytes, kept-claimed, now
 use Rattle.queue.proofs.Memory.{empty-held, empty-kept, clear-kept, clear-held}
 use Rattle.transmit.specs.Adding.{isFull, addNumber, withAdded, memoryAfterAdd}
 use Rattle.transmit.specs.Taking.{released, memoryAfterTake}
-use Rattle.transmit.specs.History.{Deed, Adding, Taking, Clearing, memoryAfter, accepted, takenAndCleared}
+use Rattle.transmit.specs.History.{QueueOperation, Adding, Taking, Clearing, memoryAfter, accepted, takenAndCleared}
 use Rattle.transmit.proofs.Laying.{same-placed, part-back, behind-gone, held-split, first-within}
 
 -- an add that was not refused
@@ -170,12 +170,12 @@ module _ (room : ℕ) (memory : List ℕ) (long : length memory ≡ memoryLength
       }
 
 -- what holds after any history
-pub record Queued (memory : List ℕ) (deeds : List Deed) : Type 0 where
+pub record Queued (memory : List ℕ) (deeds : List QueueOperation) : Type 0 where
   pub level : Kept (memoryAfter memory deeds)
   pub kept : accepted memory deeds ≡ takenAndCleared memory deeds ++ heldIn (memoryAfter memory deeds)
 
 -- one more deed
-module _ (memory : List ℕ) (earlier : List Deed) (q : Queued memory earlier) where
+module _ (memory : List ℕ) (earlier : List QueueOperation) (q : Queued memory earlier) where
   abbrev was : List ℕ
   was = memoryAfter memory earlier
 
@@ -220,7 +220,7 @@ module _ (memory : List ℕ) (earlier : List Deed) (q : Queued memory earlier) w
         kept = q .kept ∙ sym (append-nil gone) ∙ ap (λ (pdus : List (List ℕ)). gone ++ pdus) (sym (clear-held was (q .level .long)));
       }
 
-pub queued : (memory : List ℕ) → Empty memory → (deeds : List Deed) → Queued memory deeds
+pub queued : (memory : List ℕ) → Empty memory → (deeds : List QueueOperation) → Queued memory deeds
 unfolding memoryAfter accepted takenAndCleared
 queued memory empty [] = record { level = empty-kept memory empty; kept = sym (empty-held memory empty) }
 queued memory empty (Adding pdu ∷ earlier) = after-adding memory earlier (queued memory empty earlier) pdu

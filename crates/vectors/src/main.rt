@@ -1,6 +1,6 @@
 // Published vectors, run: what is printed is compared with the file `stdout`.
-use compression::Five;
 use libc::STDOUT_FILENO;
+use sha1_block::Five;
 
 // The bytes in hexadecimal, and the end of a line.
 fn show(bytes: &[u8]) {
@@ -58,10 +58,10 @@ fn show_stream() {
     let keys = aes::expand(*b"keep me secret!!");
     let nonce = *b"\x03\xe8\x00\x03\x52";
     let mut whole = *b"\x70\x01\x08\x12\x12\x03\x24\x13\x22\x02\x76\x72\x5d\xb2\xb2";
-    counter::add_stream(&keys, nonce, 0, &mut whole);
+    ctr::add_stream(&keys, nonce, 0, &mut whole);
     show(&whole);
     let mut hash = *b"\x72\x5d\xb2\xb2";
-    counter::add_stream(&keys, nonce, 11, &mut hash);
+    ctr::add_stream(&keys, nonce, 11, &mut hash);
     show(&hash);
 }
 
@@ -70,10 +70,10 @@ fn show_counted() {
     let keys = aes::expand(*b"\xae\x68\x52\xf8\x12\x10\x67\xcc\x4b\xf7\xa5\x76\x55\x77\xf3\x9e");
     let nonce = *b"\x00\x00\x00\x30\x00";
     let mut alone = *b"Single block msg";
-    counter::add_stream(&keys, nonce, 16, &mut alone);
+    ctr::add_stream(&keys, nonce, 16, &mut alone);
     show(&alone);
     let mut behind = *b"This goes first.Single block msg";
-    counter::add_stream(&keys, nonce, 0, &mut behind);
+    ctr::add_stream(&keys, nonce, 0, &mut behind);
     show(&behind[16..32]);
 }
 

@@ -19,7 +19,7 @@ use Rattle.ways.specs.declared.Airtime.the-variants.{Exactly, Enough, Ho
 use Rattle.ways.specs.Ways.{waysFrom, ofAll, ofOne}
 use Rattle.ways.specs.Answer.{upTo, hopsOf, isServed, whether, eachBelow, ways, waysAnswer, countsAfter, Counts}
 use Rattle.ways.specs.Table.{isHeardIn, Rows, Filled}
-use Rattle.ways.specs.Tally.{most, Counted}
+use Rattle.ways.specs.Tally.{countLimit, Counted}
 use Rattle.ways.proofs.Sums.{ways-same, ways-no-more}
 
 pub hops-seven : (n h : ℕ) → h ≡ 7 → n ≡ hopsOf n h
@@ -151,7 +151,7 @@ module _ (pairs marks : List ℕ) (from h price growth enough : ℕ) (counts tab
     one-no-more y = ways-no-more (isHeard pairs) (ofOne y) ofAll growth (one-below y) (hopsOf (length marks) h) (set marks from 1) from price
 
     -- each node's count, where all together are not enough; none of 64 bits overflows
-    each-now : enough ≤ most → count < enough → countsNow ≡ eachBelow (λ node. ways pairs marks from h price growth (ofOne node)) (length marks)
+    each-now : enough ≤ countLimit → count < enough → countsNow ≡ eachBelow (λ node. ways pairs marks from h price growth (ofOne node)) (length marks)
     each-now fits below =
         let long : length cleared ≡ length marks = ap length clear-is ∙ length-replicate (length counts) 0 ∙ here .places-are in
         each-is countsNow (λ node. ways pairs marks from h price growth (ofOne node)) (length marks) (c .size ∙ long)
@@ -161,7 +161,7 @@ module _ (pairs marks : List ℕ) (from h price growth enough : ℕ) (counts tab
         let one = c .each below y (omega arith) in
         omega (arith, by-pairs (ofOne y), one-no-more y, counted))
 
-    pub exactly : (tableNow : List ℕ) (k : ℕ) → tableNow ≡ replicate k 0 → k ≡ length table → enough ≤ most → count < enough
+    pub exactly : (tableNow : List ℕ) (k : ℕ) → tableNow ≡ replicate k 0 → k ≡ length table → enough ≤ countLimit → count < enough
         → Counts pairs marks from h price growth enough counts table (Exactly count) marksNow countsNow tableNow
     unfolding waysAnswer countsAfter whether upTo
     exactly tableNow k table-cleared long fits below =

@@ -14,40 +14,40 @@ use Rattle.octets.specs.Octets.{at}
 use Rattle.chains.specs.Lengths.{isUnmarked}
 use Rattle.ways.specs.Ways.{sumBelow, waysFrom, ofAll, ofOne}
 use Rattle.ways.specs.Table.{isHeardIn, Rows}
-use Rattle.ways.specs.Tally.{most, increased, waysTo, Counted}
+use Rattle.ways.specs.Tally.{countLimit, increased, waysTo, Counted}
 use Rattle.ways.proofs.Sums.{sum-more, sum-over}
 
-pub fits-most : (x : ℕ) → x < 18446744073709551616 → x ≤ most
+pub fits-most : (x : ℕ) → x < 18446744073709551616 → x ≤ countLimit
 fits-most x h = omega arith
 
 -- what is added to one node's count
-pub added-is : (counts : List ℕ) (sender amount : ℕ) → ((y : ℕ) → at counts y ≤ most) → sender < length counts
-    → (y : ℕ) → at (increased counts sender amount) y ≡ min most (at counts y + ofOne y sender amount)
+pub added-is : (counts : List ℕ) (sender amount : ℕ) → ((y : ℕ) → at counts y ≤ countLimit) → sender < length counts
+    → (y : ℕ) → at (increased counts sender amount) y ≡ min countLimit (at counts y + ofOne y sender amount)
 unfolding increased ofOne
 added-is counts sender amount small inside y =
     by-cases (ℕ-discrete sender y)
     (λ same.
-    ap (at (set counts sender (min most (at counts sender + amount)))) (sym same)
-    ∙ getD-set-same counts sender (min most (at counts sender + amount)) 0 inside
-    ∙ (λ i. min most (at counts (same i) + amount)) ∙ ap (λ (k : ℕ). min most (at counts y + k))
+    ap (at (set counts sender (min countLimit (at counts sender + amount)))) (sym same)
+    ∙ getD-set-same counts sender (min countLimit (at counts sender + amount)) 0 inside
+    ∙ (λ i. min countLimit (at counts (same i) + amount)) ∙ ap (λ (k : ℕ). min countLimit (at counts y + k))
     (sym (ap (λ (t : Bool). cond t amount 0) (eq-eqb sender y same))))
     (λ other.
     let none : cond (eqb sender y) amount 0 ≡ 0 = ap (λ (t : Bool). cond t amount 0) (ne-eqb sender y other) in
-    let kept = getD-set-other counts sender y (min most (at counts sender + amount)) 0 (λ e. other (sym e)) in
+    let kept = getD-set-other counts sender y (min countLimit (at counts sender + amount)) 0 (λ e. other (sym e)) in
     omega (arith, small y))
 
-pub added-by : (counts : List ℕ) (node amount was now : ℕ) → was ≡ at counts node → now ≡ min most (was + amount)
+pub added-by : (counts : List ℕ) (node amount was now : ℕ) → was ≡ at counts node → now ≡ min countLimit (was + amount)
     → set counts node now ≡ increased counts node amount
 unfolding increased
-added-by counts node amount was now is sum = ap (set counts node) (sum ∙ ap (λ (k : ℕ). min most (k + amount)) is)
+added-by counts node amount was now is sum = ap (set counts node) (sum ∙ ap (λ (k : ℕ). min countLimit (k + amount)) is)
 
-pub added-small : (counts : List ℕ) (sender amount : ℕ) → ((y : ℕ) → at counts y ≤ most) → sender < length counts
-    → (y : ℕ) → at (increased counts sender amount) y ≤ most
+pub added-small : (counts : List ℕ) (sender amount : ℕ) → ((y : ℕ) → at counts y ≤ countLimit) → sender < length counts
+    → (y : ℕ) → at (increased counts sender amount) y ≤ countLimit
 added-small counts sender amount small inside y = omega (arith, added-is counts sender amount small inside y)
 
 pub length-added : (counts : List ℕ) (sender amount : ℕ) → length (increased counts sender amount) ≡ length counts
 unfolding increased
-length-added counts sender amount = length-set counts sender (min most (at counts sender + amount))
+length-added counts sender amount = length-set counts sender (min countLimit (at counts sender + amount))
 
 -- one node that hears a sender
 module _ (hears : ℕ → ℕ → Bool) (growth hops : ℕ) (marks : List ℕ) (next price : ℕ) where
@@ -62,7 +62,7 @@ module _ (hears : ℕ → ℕ → Bool) (growth hops : ℕ) (marks : List ℕ) (
   is-free none weigh =
       sym (ap (λ (t : Bool). cond t (waysFrom hears weigh growth hops (set marks next 1) next price) 0) (eq-eqb (at marks next) 0 (omega arith)))
 
-  pub adds-nothing : (counts : List ℕ) (counted enough : ℕ) → ((y : ℕ) → at counts y ≤ most) → counted ≤ enough → 0 < at marks next
+  pub adds-nothing : (counts : List ℕ) (counted enough : ℕ) → ((y : ℕ) → at counts y ≤ countLimit) → counted ≤ enough → 0 < at marks next
       → Counted (λ weigh. waysTo hears weigh growth hops marks next price) marks counts counted enough counted marks counts
   adds-nothing counts counted enough small room some =
       record {
@@ -82,7 +82,7 @@ module _ (hears : ℕ → ℕ → Bool) (growth hops : ℕ) (marks : List ℕ) (
             ap (λ (l : List ℕ). set l next 0) (c .marks-kept) ∙ set-set marks next 1 0
             ∙ ap (set marks next) {x = 0} {y = at marks next} (omega arith) ∙ set-getD marks next 0;
         size = c .size;
-        each = λ below y inside. c .each below y inside ∙ ap (λ (k : ℕ). min most (at counts y + k)) (is-free none (ofOne y));
+        each = λ below y inside. c .each below y inside ∙ ap (λ (k : ℕ). min countLimit (at counts y + k)) (is-free none (ofOne y));
       }
 
 -- the originator's mark, set and taken back
@@ -142,7 +142,7 @@ module _ (hears : ℕ → ℕ → Bool) (growth hops : ℕ) (marks : List ℕ) (
           each = λ below y inside. absurd (omega arith);
         }
 
-    module _ (small : (y : ℕ) → at counts y ≤ most) (inside : sender < length counts) (little : price < enough - counted) where
+    module _ (small : (y : ℕ) → at counts y ≤ countLimit) (inside : sender < length counts) (little : price < enough - counted) where
       -- no hops are left
       pub no-more-hops : (countsNow : List ℕ) → countsNow ≡ increased counts sender price → hops ≡ 0
           → Counted (λ weigh. waysFrom hears weigh growth hops marks sender price) marks counts counted enough (counted + price) marks countsNow
@@ -154,7 +154,7 @@ module _ (hears : ℕ → ℕ → Bool) (growth hops : ℕ) (marks : List ℕ) (
             size = ap length is ∙ length-added counts sender price;
             each = λ below y within.
                 ap (λ (l : List ℕ). at l y) is ∙ added-is counts sender price small inside y
-                ∙ ap (λ (k : ℕ). min most (at counts y + k)) (sym (ways-none (ofOne y) none));
+                ∙ ap (λ (k : ℕ). min countLimit (at counts y + k)) (sym (ways-none (ofOne y) none));
           }
 
 -- from hearer to hearer
@@ -166,7 +166,7 @@ module _ (table : List ℕ) (growth hops : ℕ) (marks : List ℕ) (sender price
     pub within : count ≤ enough
     pub is : count ≡ min enough (count₀ + so-far ofAll next)
     pub size : length counts ≡ length counts₀
-    pub each : count < enough → (y : ℕ) → y < length counts₀ → at counts y ≡ min most (at counts₀ y + so-far (ofOne y) next)
+    pub each : count < enough → (y : ℕ) → y < length counts₀ → at counts y ≡ min countLimit (at counts₀ y + so-far (ofOne y) next)
     pub hears-it : next < length marks → isHeardIn table sender next ≡ true
     pub narrow : next < 256
 
@@ -188,7 +188,7 @@ module _ (table : List ℕ) (growth hops : ℕ) (marks : List ℕ) (sender price
     heard-there place next inside is below =
         ap (isHeardIn table sender) is ∙ rows .named-hears sender place known inside (omega arith)
 
-    pub loop-begins : (next : ℕ) → next ≡ at table (sender * 256 + 0) → next < 256 → count₀ ≤ enough → ((y : ℕ) → at counts₀ y ≤ most)
+    pub loop-begins : (next : ℕ) → next ≡ at table (sender * 256 + 0) → next < 256 → count₀ ≤ enough → ((y : ℕ) → at counts₀ y ≤ countLimit)
         → Looping next count₀ counts₀
     unfolding sumBelow
     loop-begins next is narrow room small =
@@ -239,7 +239,7 @@ module _ (table : List ℕ) (growth hops : ℕ) (marks : List ℕ) (sender price
 
   pub loop-ends : (counts : List ℕ) (counted next count : ℕ) (marksNow countsNow : List ℕ) → marksNow ≡ marks → Looping next count countsNow
       → length marks ≤ next
-      → counted ≤ enough → ((y : ℕ) → at counts y ≤ most) → sender < length counts → count₀ ≡ counted + price → counts₀ ≡ increased counts sender price
+      → counted ≤ enough → ((y : ℕ) → at counts y ≤ countLimit) → sender < length counts → count₀ ≡ counted + price → counts₀ ≡ increased counts sender price
       → hops ≢ 0
       → Counted (λ weigh. waysFrom (isHeardIn table) weigh growth hops marks sender price) marks counts counted enough count marksNow countsNow
   unfolding ofAll
@@ -256,7 +256,7 @@ module _ (table : List ℕ) (growth hops : ℕ) (marks : List ℕ) (sender price
         size = l .size ∙ long;
         each = λ below y within.
             let grown = l .each below y (omega arith) in
-            let begun : at counts₀ y ≡ min most (at counts y + ofOne y sender price) =
+            let begun : at counts₀ y ≡ min countLimit (at counts y + ofOne y sender price) =
             ap (λ (c : List ℕ). at c y) counts-were ∙ added-is counts sender price small inside y in
             omega (arith, whole (ofOne y));
       }

@@ -9,11 +9,11 @@ use Rattle.chains.specs.Lengths.{isUnmarked}
 use Rattle.ways.specs.Ways.{waysFrom, ofAll, ofOne}
 
 -- a node's count has 64 bits, and stops there
-abbrev pub most : ℕ
-most = 18446744073709551615
+abbrev pub countLimit : ℕ
+countLimit = 18446744073709551615
 
 unfoldable pub increased : List ℕ → ℕ → ℕ → List ℕ
-increased counts node amount = set counts node (min most (at counts node + amount))
+increased counts node amount = set counts node (min countLimit (at counts node + amount))
 
 -- what a node adds that hears a sender
 unfoldable pub waysTo : (ℕ → ℕ → Bool) → (ℕ → ℕ → ℕ) → ℕ → ℕ → List ℕ → ℕ → ℕ → ℕ
@@ -24,4 +24,4 @@ pub record Counted (amount : (ℕ → ℕ → ℕ) → ℕ) (marks counts : List
   pub is : r ≡ min enough (counted + amount ofAll)
   pub marks-kept : marksAfter ≡ marks
   pub size : length countsAfter ≡ length counts
-  pub each : r < enough → (node : ℕ) → node < length counts → at countsAfter node ≡ min most (at counts node + amount (ofOne node))
+  pub each : r < enough → (node : ℕ) → node < length counts → at countsAfter node ≡ min countLimit (at counts node + amount (ofOne node))

@@ -6,7 +6,7 @@ ghost use Rattle.octets.specs.Octets.{at};
 ghost use Rattle.ways.specs.Ways.{waysFrom};
 ghost use Rattle.ways.specs.Answer.{isServed, hopsOf, Counts};
 ghost use Rattle.ways.specs.Table.{marked, linkOf, Linked, isHeardIn, Rows, Filled};
-ghost use Rattle.ways.specs.Tally.{most, increased, waysTo, Counted};
+ghost use Rattle.ways.specs.Tally.{countLimit, increased, waysTo, Counted};
 use octets::byte;
 use octets::byte_value;
 
@@ -24,12 +24,12 @@ pub const NODE_LIMIT: usize = 255;
 
 pub const ROW: usize = 256;
 
-// How many transmissions one fresh message with that hop limit and a path leads to, its own counted, where every node takes what it hears: one for each
-// path of hearings from the originator, through nodes that repeat the message. There are never more where each node has echo on and an address of its own,
-// takes a transmission at most once, and hears none but those that `pairs` says (`within` in crate `own_network`). The network has as many nodes as `marks`
-// has bytes, and a node whose byte is not 0 does not repeat the message; `pairs` says who hears whom, as for `chains::find_lengths`. `counts`
-// has a number for each node and gets how often it sends; `table`, of 256 bytes for each node or more, is the caller's to lend and is left cleared.
-// The count stops at `enough`, which bounds the time that this takes; `counts` is then cleared. `marks` is as before in the end.
+// How many transmissions one fresh message with that hop limit and a path leads to, its own counted, where every node takes what it hears: one for each path of
+// hearings from the originator, through nodes that repeat the message. There are never more where each node has echo on and an address of its own, takes a
+// transmission at most once, and hears none but those that `pairs` says (`within` in crate `planning_own_network`). The network has as many nodes as `marks`
+// has bytes, and a node whose byte is not 0 does not repeat the message; `pairs` says who hears whom, as for `chains::find_lengths`. `counts` has a number for
+// each node and gets how often it sends; `table`, of 256 bytes for each node or more, is the caller's to lend and is left cleared. The count stops at `enough`,
+// which bounds the time that this takes; `counts` is then cleared. `marks` is as before in the end.
 pub fn transmissions(
     pairs: &[u8],
     from: usize,
@@ -344,7 +344,7 @@ fn add(counts: &mut [u64], node: usize, amount: u64)
 }
 
 fn sum(count: u64, amount: u64) -> u64
-    ensures { λ r. ⌜ r ≡ min most (count + amount) ⌝ }
+    ensures { λ r. ⌜ r ≡ min countLimit (count + amount) ⌝ }
 {
     if amount > 18446744073709551615 - count {
         18446744073709551615

@@ -3,7 +3,7 @@
 use mathlib.Core.Path.{_≡_, refl, ap, ap₂, _∙_}
 use Prim.Native.Nat.{_-_, _≤_}
 use native.Mathlib.Omega.{arith}
-use Rattle.rounds.specs.Rounds.{addRoundKey, lastRound}
+use Rattle.aes_rounds.specs.Rounds.{addRoundKey, lastRound}
 use Rattle.aes.specs.Cipher.{rounds, cipher}
 use Rattle.aes.proofs.Rounds.{rounds-on, rounds-all}
 use borrow.Author.Needs.{needs}

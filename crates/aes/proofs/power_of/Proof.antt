@@ -2,8 +2,8 @@
 -- Assumes nothing.
 use mathlib.Core.Path.{refl}
 use borrow.Table.Row as Row
-use Rattle.field.specs.Field.{xtime}
-use Rattle.field.proofs.Table.{follows, ruled}
+use Rattle.aes_field.specs.Field.{xtime}
+use Rattle.aes_field.proofs.Table.{follows, ruled}
 use Rattle.aes.specs.Cipher.{power}
 use borrow.Author.Needs.{needs}
 use Rattle.aes.proofs.power_of.Statement.{statement}

@@ -2,8 +2,8 @@
 -- Assumes nothing.
 use mathlib.Core.Path.{ap, _∙_}
 use borrow.Author.Tests.{ne-eqb}
-use Rattle.field.specs.Field.{subByte}
-use Rattle.field.proofs.Substitutes.{substituted}
+use Rattle.aes_field.specs.Field.{subByte}
+use Rattle.aes_field.proofs.Substitutes.{substituted}
 use Rattle.aes.specs.Cipher.{temp}
 use Rattle.aes.proofs.Expanding.{scrambled-past, scrambled-first}
 use borrow.Author.Needs.{needs}

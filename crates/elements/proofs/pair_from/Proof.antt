@@ -1,5 +1,5 @@
 use Rattle.elements.proofs.Runs.{end-after, metFrom, met-next, met-all, pair-is}
-use Rattle.elements.specs.declared.Met.the-variants.{Never}
+use Rattle.elements.specs.declared.Occurrences.the-variants.{Never}
 use Prim.Native.Nat.{_-_}
 use denote.Ref.{now}
 use mathlib.Core.Path.{_≡_, refl, _∙_}
@@ -22,11 +22,11 @@ loop-holds c = (refl, refl)
 head-within-requires : tie.Need-head-within-requires Inv-loop μ-loop
 head-within-requires c κs = search needs
 
-meet-requires : tie.Need-meet-requires Inv-loop μ-loop
-meet-requires c κs = search needs
+add-occurrence-requires : tie.Need-add-occurrence-requires Inv-loop μ-loop
+add-occurrence-requires c κs = search needs
 
-meet-requires-2 : tie.Need-meet-requires-2 Inv-loop μ-loop
-meet-requires-2 c κs = search needs
+add-occurrence-requires-2 : tie.Need-add-occurrence-requires-2 Inv-loop μ-loop
+add-occurrence-requires-2 c κs = search needs
 
 loop-less : tie.Need-loop-less Inv-loop μ-loop
 loop-less c =
@@ -35,29 +35,29 @@ loop-less c =
 
 loop-again : tie.Need-loop-again Inv-loop μ-loop
 loop-again c =
-    let at-meet = c .before .before in
-    let at-head = at-meet .before .before in
+    let at-add-occurrence = c .before .before in
+    let at-head = at-add-occurrence .before .before in
     let at-loop = at-head .before .before in
     let head = at-head .head-within .ensures in
     let inside = at-head .before .loop-test .taken in (
-      at-loop .loop .inv .0 ∙ met-next _ _ _ _ _ _ _ _ _ inside (head .0) refl (head .2) (at-meet .meet .ensures),
-      at-loop .loop .inv .1 ∙ met-next _ _ _ _ _ _ _ _ _ inside (head .0) refl (head .2) (c .meet2 .ensures),
+      at-loop .loop .inv .0 ∙ met-next _ _ _ _ _ _ _ _ _ inside (head .0) refl (head .2) (at-add-occurrence .add-occurrence .ensures),
+      at-loop .loop .inv .1 ∙ met-next _ _ _ _ _ _ _ _ _ inside (head .0) refl (head .2) (c .add-occurrence2 .ensures),
     )
 
-once-requires : tie.Need-once-requires Inv-loop μ-loop
-once-requires c κs = search needs
+only-occurrence-requires : tie.Need-only-occurrence-requires Inv-loop μ-loop
+only-occurrence-requires c κs = search needs
 
-once-requires-2 : tie.Need-once-requires-2 Inv-loop μ-loop
-once-requires-2 c κs = search needs
+only-occurrence-requires-2 : tie.Need-only-occurrence-requires-2 Inv-loop μ-loop
+only-occurrence-requires-2 c κs = search needs
 
 returns : tie.Need-returns Inv-loop μ-loop
 returns c =
-    let at-once = c .before in
-    let at-end = at-once .before in
+    let at-only-occurrence = c .before in
+    let at-end = at-only-occurrence .before in
     let at-loop = at-end .before in
     pair-is _ _ _ _ _ _
-    (met-all _ _ _ _ _ _ _ (at-end .loop-test .left) (at-loop .loop .inv .0) (at-once .once .ensures))
-    (met-all _ _ _ _ _ _ _ (at-end .loop-test .left) (at-loop .loop .inv .1) (c .once2 .ensures))
+    (met-all _ _ _ _ _ _ _ (at-end .loop-test .left) (at-loop .loop .inv .0) (at-only-occurrence .only-occurrence .ensures))
+    (met-all _ _ _ _ _ _ _ (at-end .loop-test .left) (at-loop .loop .inv .1) (c .only-occurrence2 .ensures))
 
 pub pair-from-spec : {M : Type 1} → statement M
 pair-from-spec =
@@ -67,10 +67,10 @@ pair-from-spec =
     μ-loop
     loop-holds
     head-within-requires
-    meet-requires
-    meet-requires-2
+    add-occurrence-requires
+    add-occurrence-requires-2
     loop-less
     loop-again
-    once-requires
-    once-requires-2
+    only-occurrence-requires
+    only-occurrence-requires-2
     returns)

@@ -3,7 +3,7 @@ use mathlib.Core.List.{List, [], _∷_, map}
 use mathlib.Core.Path.{_≡_, refl, ap, _∙_}
 use denote.Ref.{now}
 use lib.ListN.{length}
-use Rattle.lists.specs.Lists.{listsIn, faultTold}
+use Rattle.lists.specs.Lists.{listsIn, faultAndList}
 use Rattle.list_block.specs.Laying.{cut, eight}
 use Rattle.list_block.proofs.Putting.{room-start, room-next, laid-over}
 use Rattle.list_block.proofs.Laws.{same-fault}
@@ -114,7 +114,7 @@ returns c =
     λ j. l1 .laid-length .ensures j ∷ l2 .laid-length2 .ensures j ∷ l3 .laid-length3 .ensures j ∷ l4 .laid-length4 .ensures j
     ∷ l5 .laid-length5 .ensures j ∷ l6 .laid-length6 .ensures j ∷ l7 .laid-length7 .ensures j ∷ l8 .laid-length8 .ensures j ∷ [] in
     let done = laid-over (cut a) (cut b) (cut c) (cut d) (cut e) (cut f) (cut g) (cut h) lengths before _ _ is r8 in
-    (done, told ∙ ap (λ (block : List ℕ). faultTold (listsIn block)) done ∙ same-fault (eight a b c d e f g h) before)
+    (done, told ∙ ap (λ (block : List ℕ). faultAndList (listsIn block)) done ∙ same-fault (eight a b c d e f g h) before)
 
 pub lay-spec : {M : Type 1} → statement M
 lay-spec =

@@ -3,7 +3,7 @@ use mathlib.Core.Path.{_≡_, refl, _∙_, sym, ap₂}
 use denote.Ref.{now}
 use lib.ListN.{length}
 use Rattle.octets.specs.Octets.{at}
-use Rattle.lists.specs.Lists.{faultOf, inOrder, faultTold, listsIn, listAt, startOf}
+use Rattle.lists.specs.Lists.{faultOf, inOrder, faultAndList, listsIn, listAt, startOf}
 use Rattle.lists.proofs.Laws.{rangeFaultFrom, toldFrom, too-long, odd-number, only-ranges, ranges-end}
 use Rattle.lists.proofs.Laws.{lists-start, list-right, list-wrong, lists-end, nth-list, nothing-left}
 use Rattle.lists.proofs.Laws.{first-start, start-next, list-length, block-right, block-wrong}
@@ -22,7 +22,7 @@ abbrev μ-loop : tie.MeasureT-loop
 abbrev Inv-lists : tie.InvT-lists
 Inv-lists block size fault₀ start₀ k₀ fault start k =
     (k ≤ 8) × (fault ≡ record { number = 0; list = 8 }) × (start ≡ startOf block k) × (start ≤ 8 + k * 65535)
-    × (faultTold (listsIn block) ≡ toldFrom (inOrder (listsIn block)) k) × (8 ≤ start)
+    × (faultAndList (listsIn block) ≡ toldFrom (inOrder (listsIn block)) k) × (8 ≤ start)
 
 abbrev μ-lists : tie.MeasureT-lists
 μ-lists block size fault₀ start₀ k₀ fault start k = 8 - k

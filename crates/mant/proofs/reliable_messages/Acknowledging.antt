@@ -31,19 +31,19 @@ use denote.Triple.Call.{calls-at}
 use denote.Steps.{owned, nothing}
 use denote.Triple.Spec.{tripleOf}
 use denote.Triple.Clauses.{lasts}
-use Rattle.answering.specs.Delivered.{outputAcknowledged}
-use Rattle.answering.specs.Responding.{askAcknowledge}
-use Rattle.deciding.specs.declared.Ask.{Ask}
-use Rattle.answering.specs.declared.Sending.{Sending}
+use Rattle.acknowledgements.specs.Delivered.{outputAcknowledged}
+use Rattle.acknowledgements.specs.Responding.{askAcknowledge}
+use Rattle.retained_operations.specs.declared.Ask.{Ask}
+use Rattle.acknowledgements.specs.declared.Sending.{Sending}
 use Rattle.boundary.specs.declared.a_node.MantAnswer.{MantAnswer}
-use Rattle.deciding.proofs.Ask as Q
-use Rattle.deciding.proofs.Ask.Laws as Q′
-use Rattle.answering.proofs.Sending as G
-use Rattle.answering.proofs.Sending.Laws as G′
+use Rattle.retained_operations.proofs.Ask as Q
+use Rattle.retained_operations.proofs.Ask.Laws as Q′
+use Rattle.acknowledgements.proofs.Sending as G
+use Rattle.acknowledgements.proofs.Sending.Laws as G′
 use Rattle.boundary.proofs.a_node.MantAnswer as N
 use Rattle.boundary.proofs.a_node.MantAnswer.Laws as N′
-use Rattle.answering.proofs.respond as respond
-use Rattle.answering.proofs.respond.Symbol as respond-def
+use Rattle.acknowledgements.proofs.respond as respond
+use Rattle.acknowledgements.proofs.respond.Symbol as respond-def
 use Rattle.reliable.proofs.Calls.{left}
 use Rattle.reliable.proofs.Values.{slice, qval, IsQ, own-word}
 

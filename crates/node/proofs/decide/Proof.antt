@@ -38,8 +38,8 @@ repeated-length-requires c κs = search needs
 pdu-length-requires : tie.Need-pdu-length-requires
 pdu-length-requires c κs = search needs
 
-twice-requires : tie.Need-twice-requires
-twice-requires c κs = search needs
+given-twice-requires : tie.Need-given-twice-requires
+given-twice-requires c κs = search needs
 
 returns-2 : tie.Need-returns-2
 returns-2 c =
@@ -54,7 +54,7 @@ returns-2 c =
     let right =
     no-room (nodeOf (a .settings) lists) (now (a .received)) (now (a .output)) (a .header) (start .pre .0) clean passes (size .pdu-length .result)
     (a .sender) (start .pre .1) again short (size .pdu-length .ensures .0) in
-    (c .twice .ensures ∙ right .0, right .1)
+    (c .given-twice .ensures ∙ right .0, right .1)
 
 put-repeat-requires : tie.Need-put-repeat-requires
 put-repeat-requires c κs =
@@ -98,7 +98,7 @@ decide-spec =
     returns
     repeated-length-requires
     pdu-length-requires
-    twice-requires
+    given-twice-requires
     returns-2
     put-repeat-requires
     answered-requires-2

@@ -1,5 +1,5 @@
 use Rattle.opening.proofs.Putting.{done, stays, plain-put}
-use Rattle.counter.specs.Counter.{stream}
+use Rattle.ctr.specs.Ctr.{stream}
 use Prim.Native.Nat.{_-_}
 use lib.ListN.{length}
 use mathlib.Core.Path.{_∙_}

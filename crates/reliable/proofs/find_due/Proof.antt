@@ -30,15 +30,15 @@ use denote.Triple.Clauses.{ensured, lasts}
 use Rattle.retained.specs.Records.{isDue}
 use Rattle.retained.specs.Table.{recordAt}
 use Rattle.retained.specs.declared.Retained.{Retained}
-use Rattle.deciding.specs.Deciding.{placeOf, stepAt, stepOn}
-use Rattle.deciding.specs.declared.Ask.{Ask}
-use Rattle.deciding.specs.declared.Effect.{Effect}
+use Rattle.retained_operations.specs.Operations.{placeOf, stepAt, stepOn}
+use Rattle.retained_operations.specs.declared.Ask.{Ask}
+use Rattle.retained_operations.specs.declared.Effect.{Effect}
 use Rattle.retained.proofs.Retained as T
-use Rattle.deciding.proofs.Effect as F
-use Rattle.deciding.proofs.Effect.Laws as F′
-use Rattle.deciding.proofs.step as decide
-use Rattle.deciding.proofs.step.Symbol as decide-def
-use Rattle.deciding.proofs.step.Met as decide-thm
+use Rattle.retained_operations.proofs.Effect as F
+use Rattle.retained_operations.proofs.Effect.Laws as F′
+use Rattle.retained_operations.proofs.step as decide
+use Rattle.retained_operations.proofs.step.Symbol as decide-def
+use Rattle.retained_operations.proofs.step.Met as decide-thm
 use Rattle.reliable.proofs.first_due.Symbol as due-def
 use Rattle.reliable.proofs.first_due.Met as due-thm
 use Rattle.reliable.proofs.get.Symbol as get-def
@@ -85,7 +85,8 @@ module _ {M : Type 1} (𝓤 : URA M) (H : Heap 𝓤) (A : Atoms 𝓤) (W : Given
 
   pre-decide : (p : ℕ) (r : Retained) → p < 2 ^ 64 → IsT r → ent 𝓤 (⋆ 𝓤 H A (‵ ftrue ∷ [])) (Decide 𝓤 H A mem run .pre (to-decide p r))
   pre-decide p r gp gr =
-      qed W (‵ ftrue ∷ []) ∵ own-t ! r gr $ fjoin ! $ own-word ! p gp $ fjoin ! $ own-word ! n (gn .0) $ fjoin ! $ own-q ! a ga $ fjoin ! $ nothing ! $ join ! $ framed ! $ done !
+      qed W (‵ ftrue ∷ []) ∵ own-t ! r gr $ fjoin ! $ own-word ! p gp $ fjoin ! $ own-word ! n
+      (gn .0) $ fjoin ! $ own-q ! a ga $ fjoin ! $ nothing ! $ join ! $ framed ! $ done !
 
   decide-said : (p : ℕ) (r : Retained) (e : Effect) → ent 𝓤 (ensured 𝓤 H A decide.ended (decide.clauses 𝓤 H A mem run) tt (a, (n, (p, (r, tt)))) tt e)
       (fact 𝓤 (e ≡ stepAt a n p r))
@@ -97,15 +98,18 @@ module _ {M : Type 1} (𝓤 : URA M) (H : Heap 𝓤) (A : Atoms 𝓤) (W : Given
   starts =
       called number due 𝓤 H A W κ q x a ! fm (known .finds-due) ga (arg ! 2 refl (arg ! 2 refl (no-more !))) (λ p gp e₁.
       land ! (from ! (stop !)) (init ! 5 refl (typed-word (gp .1))) $
-      assigns ! (of-opd ! (load ! (from ! (fld ! refl (stop !))) (look-in ! 3 (sub ! 1 refl (whole !))))) (from ! (stop !)) (init ! 6 refl (typed-word (gn .0))) $
+      assigns ! (of-opd ! (load ! (from ! (fld ! refl (stop !))) (look-in ! 3 (sub ! 1 refl (whole !))))) (from ! (stop !))
+      (init ! 6 refl (typed-word (gn .0))) $
       got 𝓤 H A W mem run κ q x p ! fm (known .gets) (gp .1) (arg ! 2 refl (arg ! 2 refl (no-more !))) (λ r gr e₂.
       land ! (from ! (stop !)) (init ! 7 refl (typed-t W r gr)) $
       nothing ! $ use1 W (raw (Decide 𝓤 H A mem run .pre (to-decide p r))) (pre-decide p r (gp .1) gr) $
       calls-at ! fm (Decide 𝓤 H A mem run) (known .decides) (to-decide p r) (arg ! 3 refl (arg ! 3 refl (arg ! 3 refl (arg ! 3 refl (no-more !))))) (λ u.
       told ! F.the-row fval (LL.tells F.the-type F′.the-laws) (‵ ftrue) _ (λ e. e ≡ stepAt a n p r) (decide-said p r) u (id⊢ 𝓤 _) (λ e ge e₃. drop ! $
       land ! (from ! (stop !)) (init ! 2 refl (typed-f W e ge)) $ returns ! (look ! 2 refl) $
-      freed W En (has (fval e) ∷ has (slice x) ∷ has (qval a) ∷ has (vint w64 p) ∷ has (vint w64 n) ∷ has (tval r) ∷ []) (Token 𝓤 κ q x ∷ ‵ (Own 𝓤 κ q x) ∷ []) $
-      by ! (ends effect stepOn 𝓤 H A W κ q x a e ge (e₃ ∙ ap (stepAt a n p) (e₂ ∙ ap (recordAt ys) e₁) ∙ ap (λ (i : ℕ). stepAt a n i (recordAt ys (due a ys))) e₁))))))
+      freed W En (has (fval e) ∷ has (slice x) ∷ has (qval a) ∷ has (vint w64 p) ∷ has (vint w64 n) ∷ has (tval r) ∷ [])
+      (Token 𝓤 κ q x ∷ ‵ (Own 𝓤 κ q x) ∷ []) $
+      by ! (ends effect stepOn 𝓤 H A W κ q x a e ge
+      (e₃ ∙ ap (stepAt a n p) (e₂ ∙ ap (recordAt ys) e₁) ∙ ap (λ (i : ℕ). stepAt a n i (recordAt ys (due a ys))) e₁))))))
 
 pub find-due-spec : {M : Type 1} → stated.statement M
 unfolding code.routine tablesOf
@@ -115,7 +119,7 @@ find-due-spec 𝓤 H 𝓜 𝓖 𝓡 =
     let known : Known 𝓤 H (𝓖 .A) (𝓜 .mem) (𝓡 .run) 𝓣 = record {
       finds-due = cited 𝓤 H _ 𝓜 𝓡 code.env due-def.name due-def.routine code.calls-reliable·first-due (due-thm.met 𝓤 H 𝓜 𝓖 𝓡);
       gets = cited 𝓤 H _ 𝓜 𝓡 code.env get-def.name get-def.routine code.calls-reliable·get (get-thm.met 𝓤 H 𝓜 𝓖 𝓡);
-      decides = cited 𝓤 H _ 𝓜 𝓡 code.env decide-def.name decide-def.routine code.calls-deciding·step (decide-thm.met 𝓤 H 𝓜 𝓖 𝓡);
+      decides = cited 𝓤 H _ 𝓜 𝓡 code.env decide-def.name decide-def.routine code.calls-retained-operations·step (decide-thm.met 𝓤 H 𝓜 𝓖 𝓡);
     } in
     asks-spec effect stepOn 𝓤 H 𝓜 𝓖 𝓡 code.env #find code.function (code.unfolded 𝓤 H 𝓜 𝓡) (λ κ q x a gn ga.
     qed W (Token 𝓤 κ q x ∷ ‵ (Own 𝓤 κ q x) ∷ []) ∵ begins ! (𝓣 .C) (𝓣 .Λ) code.function (slice x ∷ qval a ∷ [])

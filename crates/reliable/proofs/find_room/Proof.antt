@@ -1,4 +1,5 @@
--- `reliable::find_room` meets its contract: a walk of its MIR, by hand. The first record with the names and the first free one are sought, and `retain` decides. Assumes nothing.
+-- `reliable::find_room` meets its contract: a walk of its MIR, by hand. The first record with the names and the first free one are sought, and `retain`
+-- decides. Assumes nothing.
 use mathlib.Core.Path.{_≡_, refl, _∙_, ap₂}
 use Prim.Native.Nat.{ℕ, _<_, _^_}
 use mathlib.Core.List.{List, [], _∷_}
@@ -29,15 +30,15 @@ use denote.Triple.Table.{cited}
 use denote.Triple.Clauses.{ensured, lasts}
 use Rattle.retained.specs.Records.{isFree, isNamed}
 use Rattle.retained.specs.declared.Retained.{Retained}
-use Rattle.deciding.specs.Deciding.{placeOf, retainAt, retainOn}
-use Rattle.deciding.specs.declared.Ask.{Ask}
-use Rattle.deciding.specs.declared.Effect.{Effect}
+use Rattle.retained_operations.specs.Operations.{placeOf, retainAt, retainOn}
+use Rattle.retained_operations.specs.declared.Ask.{Ask}
+use Rattle.retained_operations.specs.declared.Effect.{Effect}
 use Rattle.retained.proofs.Retained as T
-use Rattle.deciding.proofs.Effect as F
-use Rattle.deciding.proofs.Effect.Laws as F′
-use Rattle.deciding.proofs.retain as decide
-use Rattle.deciding.proofs.retain.Symbol as decide-def
-use Rattle.deciding.proofs.retain.Met as decide-thm
+use Rattle.retained_operations.proofs.Effect as F
+use Rattle.retained_operations.proofs.Effect.Laws as F′
+use Rattle.retained_operations.proofs.retain as decide
+use Rattle.retained_operations.proofs.retain.Symbol as decide-def
+use Rattle.retained_operations.proofs.retain.Met as decide-thm
 use Rattle.reliable.proofs.first_named.Symbol as named-def
 use Rattle.reliable.proofs.first_named.Met as named-thm
 use Rattle.reliable.proofs.first_free.Symbol as free-def
@@ -87,7 +88,8 @@ module _ {M : Type 1} (𝓤 : URA M) (H : Heap 𝓤) (A : Atoms 𝓤) (W : Given
 
   pre-decide : (p : ℕ) (f : ℕ) → p < 2 ^ 64 → f < 2 ^ 64 → ent 𝓤 (⋆ 𝓤 H A (‵ ftrue ∷ [])) (Decide 𝓤 H A mem run .pre (to-decide p f))
   pre-decide p f gp gf =
-      qed W (‵ ftrue ∷ []) ∵ own-word ! f gf $ fjoin ! $ own-word ! p gp $ fjoin ! $ own-word ! n (gn .0) $ fjoin ! $ own-q ! a ga $ fjoin ! $ nothing ! $ join ! $ framed ! $ done !
+      qed W (‵ ftrue ∷ []) ∵ own-word ! f gf $ fjoin ! $ own-word ! p gp $ fjoin ! $ own-word ! n
+      (gn .0) $ fjoin ! $ own-q ! a ga $ fjoin ! $ nothing ! $ join ! $ framed ! $ done !
 
   decide-said : (p : ℕ) (f : ℕ) (e : Effect) → ent 𝓤 (ensured 𝓤 H A decide.ended (decide.clauses 𝓤 H A mem run) tt (a, (n, (p, (f, tt)))) tt e)
       (fact 𝓤 (e ≡ retainAt a n p f))
@@ -101,12 +103,14 @@ module _ {M : Type 1} (𝓤 : URA M) (H : Heap 𝓤) (A : Atoms 𝓤) (W : Given
       land ! (from ! (stop !)) (init ! 5 refl (typed-word (gp .1))) $
       called number free 𝓤 H A W κ q x a ! fm (known .finds-free) ga (arg ! 2 refl (arg ! 2 refl (no-more !))) (λ f gf e₂.
       land ! (from ! (stop !)) (init ! 6 refl (typed-word (gf .1))) $
-      assigns ! (of-opd ! (load ! (from ! (fld ! refl (stop !))) (look-in ! 3 (sub ! 1 refl (whole !))))) (from ! (stop !)) (init ! 7 refl (typed-word (gn .0))) $
+      assigns ! (of-opd ! (load ! (from ! (fld ! refl (stop !))) (look-in ! 3 (sub ! 1 refl (whole !))))) (from ! (stop !))
+      (init ! 7 refl (typed-word (gn .0))) $
       nothing ! $ use1 W (raw (Decide 𝓤 H A mem run .pre (to-decide p f))) (pre-decide p f (gp .1) (gf .1)) $
       calls-at ! fm (Decide 𝓤 H A mem run) (known .decides) (to-decide p f) (arg ! 3 refl (arg ! 3 refl (arg ! 3 refl (arg ! 3 refl (no-more !))))) (λ u.
       told ! F.the-row fval (LL.tells F.the-type F′.the-laws) (‵ ftrue) _ (λ e. e ≡ retainAt a n p f) (decide-said p f) u (id⊢ 𝓤 _) (λ e ge e₃. drop ! $
       land ! (from ! (stop !)) (init ! 2 refl (typed-f W e ge)) $ returns ! (look ! 2 refl) $
-      freed W En (has (fval e) ∷ has (slice x) ∷ has (qval a) ∷ has (vint w64 p) ∷ has (vint w64 f) ∷ has (vint w64 n) ∷ []) (Token 𝓤 κ q x ∷ ‵ (Own 𝓤 κ q x) ∷ []) $
+      freed W En (has (fval e) ∷ has (slice x) ∷ has (qval a) ∷ has (vint w64 p) ∷ has (vint w64 f) ∷ has (vint w64 n) ∷ [])
+      (Token 𝓤 κ q x ∷ ‵ (Own 𝓤 κ q x) ∷ []) $
       by ! (ends effect retainOn 𝓤 H A W κ q x a e ge (e₃ ∙ ap₂ (retainAt a n) e₁ e₂))))))
 
 pub find-room-spec : {M : Type 1} → stated.statement M
@@ -117,7 +121,7 @@ find-room-spec 𝓤 H 𝓜 𝓖 𝓡 =
     let known : Known 𝓤 H (𝓖 .A) (𝓜 .mem) (𝓡 .run) 𝓣 = record {
       finds-named = cited 𝓤 H _ 𝓜 𝓡 code.env named-def.name named-def.routine code.calls-reliable·first-named (named-thm.met 𝓤 H 𝓜 𝓖 𝓡);
       finds-free = cited 𝓤 H _ 𝓜 𝓡 code.env free-def.name free-def.routine code.calls-reliable·first-free (free-thm.met 𝓤 H 𝓜 𝓖 𝓡);
-      decides = cited 𝓤 H _ 𝓜 𝓡 code.env decide-def.name decide-def.routine code.calls-deciding·retain (decide-thm.met 𝓤 H 𝓜 𝓖 𝓡);
+      decides = cited 𝓤 H _ 𝓜 𝓡 code.env decide-def.name decide-def.routine code.calls-retained-operations·retain (decide-thm.met 𝓤 H 𝓜 𝓖 𝓡);
     } in
     asks-spec effect retainOn 𝓤 H 𝓜 𝓖 𝓡 code.env #find code.function (code.unfolded 𝓤 H 𝓜 𝓡) (λ κ q x a gn ga.
     qed W (Token 𝓤 κ q x ∷ ‵ (Own 𝓤 κ q x) ∷ []) ∵ begins ! (𝓣 .C) (𝓣 .Λ) code.function (slice x ∷ qval a ∷ [])

@@ -2,11 +2,11 @@
 use contract.Running.{tablesOf}
 use denote.Triple.Table.{cited}
 use Rattle.retained.specs.Records.{isDue}
-use Rattle.deciding.specs.declared.Ask.{Ask}
-use Rattle.deciding.proofs.start.Symbol as start-def
-use Rattle.deciding.proofs.start.Met as start-thm
-use Rattle.deciding.proofs.is_due.Symbol as test-def
-use Rattle.deciding.proofs.is_due.Met as test-thm
+use Rattle.retained_operations.specs.declared.Ask.{Ask}
+use Rattle.retained_operations.proofs.start.Symbol as start-def
+use Rattle.retained_operations.proofs.start.Met as start-thm
+use Rattle.retained_operations.proofs.is_due.Symbol as test-def
+use Rattle.retained_operations.proofs.is_due.Met as test-thm
 use Rattle.reliable.proofs.get.Symbol as get-def
 use Rattle.reliable.proofs.get.Met as get-thm
 use Rattle.reliable.proofs.Search.{search-spec}
@@ -18,7 +18,7 @@ pub first-due-spec : {M : Type 1} → stated.statement M
 unfolding code.routine tablesOf
 first-due-spec 𝓤 H 𝓜 𝓖 𝓡 =
     search-spec (λ (a : Ask). isDue (a .time) (a .delay)) _ test-def.name 𝓤 H 𝓜 𝓖 𝓡 code.env #first (code.unfolded 𝓤 H 𝓜 𝓡) (record {
-      starts = cited 𝓤 H _ 𝓜 𝓡 code.env start-def.name start-def.routine code.calls-deciding·start (start-thm.met 𝓤 H 𝓜 𝓖 𝓡);
+      starts = cited 𝓤 H _ 𝓜 𝓡 code.env start-def.name start-def.routine code.calls-retained-operations·start (start-thm.met 𝓤 H 𝓜 𝓖 𝓡);
       gets = cited 𝓤 H _ 𝓜 𝓡 code.env get-def.name get-def.routine code.calls-reliable·get (get-thm.met 𝓤 H 𝓜 𝓖 𝓡);
-      tests = cited 𝓤 H _ 𝓜 𝓡 code.env test-def.name test-def.routine code.calls-deciding·is-due (test-thm.met 𝓤 H 𝓜 𝓖 𝓡);
+      tests = cited 𝓤 H _ 𝓜 𝓡 code.env test-def.name test-def.routine code.calls-retained-operations·is-due (test-thm.met 𝓤 H 𝓜 𝓖 𝓡);
     })

@@ -34,20 +34,20 @@ use denote.Triple.Table.{cited}
 use denote.Triple.Clauses.{ensured, lasts}
 use denote.Triple.Walked.{says, Stays, gave-slice, stay-dropped, walkOf, Walks, ends-at, walked, goes-gave-slice}
 use Rattle.retained.specs.Records.{freedRecord, isNamed}
-use Rattle.deciding.specs.Deciding.{placeOf, hearAt, hearOn, tableFreed}
+use Rattle.retained_operations.specs.Operations.{placeOf, hearAt, hearOn, tableFreed}
 use Rattle.retained.specs.declared.Retained.{Retained}
 use Rattle.retained.specs.declared.Outcome.{Outcome}
-use Rattle.deciding.specs.declared.Ask.{Ask}
-use Rattle.deciding.specs.declared.Effect.{Effect}
+use Rattle.retained_operations.specs.declared.Ask.{Ask}
+use Rattle.retained_operations.specs.declared.Effect.{Effect}
 use Rattle.retained.proofs.Retained as T
 use Rattle.retained.proofs.Retained.Laws as T′
-use Rattle.deciding.proofs.Ask as Q
-use Rattle.deciding.proofs.Ask.Laws as Q′
-use Rattle.deciding.proofs.Effect as F
-use Rattle.deciding.proofs.Effect.Laws as F′
-use Rattle.deciding.proofs.hear as hear
-use Rattle.deciding.proofs.hear.Symbol as hear-def
-use Rattle.deciding.proofs.hear.Met as hear-thm
+use Rattle.retained_operations.proofs.Ask as Q
+use Rattle.retained_operations.proofs.Ask.Laws as Q′
+use Rattle.retained_operations.proofs.Effect as F
+use Rattle.retained_operations.proofs.Effect.Laws as F′
+use Rattle.retained_operations.proofs.hear as hear
+use Rattle.retained_operations.proofs.hear.Symbol as hear-def
+use Rattle.retained_operations.proofs.hear.Met as hear-thm
 use Rattle.retained.proofs.freed_record as freed-of
 use Rattle.retained.proofs.freed_record.Symbol as freed-def
 use Rattle.retained.proofs.freed_record.Met as freed-thm
@@ -55,7 +55,8 @@ use Rattle.reliable.proofs.Meeting.{meets}
 use Rattle.reliable.proofs.Calls.{told}
 use Rattle.reliable.proofs.Locals.{Cell, bare, has, frame, Blocks, locals, begins, freed}
 use Rattle.reliable.proofs.Arguments.{arg, again}
-use Rattle.reliable.proofs.Values.{slice, pointer, tval, oval, qval, fval, IsO, IsQ, IsF, typed-t, typed-o, typed-q, typed-f, typed-word, typed-slice, own-word, own-o, own-q}
+use Rattle.reliable.proofs.Values.{slice, pointer, tval, oval, qval, fval, IsO, IsQ, IsF, typed-t, typed-o, typed-q, typed-f, typed-word, typed-slice}
+use Rattle.reliable.proofs.Values.{own-word, own-o, own-q}
 use Rattle.reliable.proofs.Asking.{number, Asks, lent}
 use Rattle.reliable.proofs.first_named.Symbol as first-def
 use Rattle.reliable.proofs.first_named.Met as first-thm
@@ -237,7 +238,7 @@ free-spec 𝓤 H 𝓜 𝓖 𝓡 =
     (goes-gave-slice 𝓤 H (𝓖 .A) W 1 0 tt (plain (λ _. T.the-row)), (λ κs x f vs g. quiet, tt))
     (free-walks 𝓤 H (𝓖 .A) W (𝓜 .mem) (𝓡 .run) (tablesOf 𝓤 H 𝓜 (tables 𝓤 H 𝓜 𝓡 code.env)) (record {
       seeks = cited 𝓤 H _ 𝓜 𝓡 code.env first-def.name first-def.routine code.calls-reliable·first-named (first-thm.met 𝓤 H 𝓜 𝓖 𝓡);
-      hears = cited 𝓤 H _ 𝓜 𝓡 code.env hear-def.name hear-def.routine code.calls-deciding·hear (hear-thm.met 𝓤 H 𝓜 𝓖 𝓡);
+      hears = cited 𝓤 H _ 𝓜 𝓡 code.env hear-def.name hear-def.routine code.calls-retained-operations·hear (hear-thm.met 𝓤 H 𝓜 𝓖 𝓡);
       frees = cited 𝓤 H _ 𝓜 𝓡 code.env freed-def.name freed-def.routine code.calls-retained·freed-record (freed-thm.met 𝓤 H 𝓜 𝓖 𝓡);
       store = cited 𝓤 H _ 𝓜 𝓡 code.env store-def.name store-def.routine code.calls-reliable·store (store-thm.met 𝓤 H 𝓜 𝓖 𝓡);
     }))

@@ -48,15 +48,15 @@ use denote.Exit.{yes}
 use borrow.Author.Needs.{scaled-fits}
 use Rattle.retained.specs.Records.{freedRecord as none}
 use Rattle.retained.specs.declared.Retained.{Retained}
-use Rattle.deciding.specs.Deciding.{leftOf, emitted, tableResent, outputResent}
-use Rattle.deciding.specs.declared.Effect.{Effect}
+use Rattle.retained_operations.specs.Operations.{leftOf, emitted, tableResent, outputResent}
+use Rattle.retained_operations.specs.declared.Effect.{Effect}
 use Rattle.retained.proofs.Retained as T
 use Rattle.retained.proofs.Retained.Laws as T′
-use Rattle.deciding.proofs.Effect as F
-use Rattle.deciding.proofs.Effect.Laws as F′
-use Rattle.deciding.proofs.send as send
-use Rattle.deciding.proofs.send.Symbol as send-def
-use Rattle.deciding.proofs.send.Met as send-thm
+use Rattle.retained_operations.proofs.Effect as F
+use Rattle.retained_operations.proofs.Effect.Laws as F′
+use Rattle.retained_operations.proofs.send as send
+use Rattle.retained_operations.proofs.send.Symbol as send-def
+use Rattle.retained_operations.proofs.send.Met as send-thm
 use Rattle.reliable.proofs.Meeting.{meets}
 use Rattle.reliable.proofs.Calls.{left}
 use Rattle.reliable.proofs.Locals.{Cell, bare, has, frame, Blocks, locals, begins, freed}
@@ -283,4 +283,4 @@ resend-spec 𝓤 H 𝓜 𝓖 𝓡 =
       (λ κs x f vs g. quiet, (goes-gave-slice 𝓤 H (𝓖 .A) W 2 1 tt (plain (λ _. u8)), tt)),
     )
     (resend-walks 𝓤 H (𝓖 .A) W (𝓜 .mem) (𝓡 .run) (tablesOf 𝓤 H 𝓜 (tables 𝓤 H 𝓜 𝓡 code.env))
-    (cited 𝓤 H _ 𝓜 𝓡 code.env send-def.name send-def.routine code.calls-deciding·send (send-thm.met 𝓤 H 𝓜 𝓖 𝓡)))
+    (cited 𝓤 H _ 𝓜 𝓡 code.env send-def.name send-def.routine code.calls-retained-operations·send (send-thm.met 𝓤 H 𝓜 𝓖 𝓡)))

@@ -3,7 +3,7 @@ use denote.Ref.{now}
 use mathlib.Core.Path.{_≡_, refl, sym, ap, subst, _∙_}
 use Rattle.octets.specs.Octets.{at}
 use Rattle.ways.specs.Table.{isHeardIn, Rows}
-use Rattle.ways.specs.Tally.{most}
+use Rattle.ways.specs.Tally.{countLimit}
 use Rattle.ways.proofs.Counting.{fits-most, adds-nothing, adds-all, at-once, no-more-hops, length-added, Looping, loop-begins, loop-next, loop-ends}
 use native.Mathlib.Omega.{arith}
 use borrow.Author.Needs.{needs}
@@ -56,7 +56,7 @@ count-by-returns :
 count-by-returns t c =
     let known = c .before .before in
     let a = known .before .before .before .args in
-    let small : (y : ℕ) → at (now (a .counts)) y ≤ most = λ y. fits-most _ (known .slice-known2 .given y .fits) in
+    let small : (y : ℕ) → at (now (a .counts)) y ≤ countLimit = λ y. fits-most _ (known .slice-known2 .given y .fits) in
     adds-nothing (isHeardIn (now (a .table))) (a .growth) (a .hops) (now (a .marks)) (a .next) (a .price) (now (a .counts)) (a .counted) (a .enough) small
     (omega arith) (c .if1 .taken)
 
@@ -206,7 +206,7 @@ count-from-returns-2 t c =
     let else1 = added .before .before in
     let known = else1 .before in
     let a = known .before .before .before .args in
-    let small : (y : ℕ) → at (now (a .counts)) y ≤ most = λ y. fits-most _ (known .slice-known2 .given y .fits) in
+    let small : (y : ℕ) → at (now (a .counts)) y ≤ countLimit = λ y. fits-most _ (known .slice-known2 .given y .fits) in
     no-more-hops (isHeardIn (now (a .table))) (a .growth) (a .hops) (now (a .marks)) (a .sender) (a .price) (now (a .counts)) (a .counted) (a .enough)
     (omega arith) small (omega arith) (omega arith) _ (added .add .ensures) (c .if2 .taken)
 
@@ -387,7 +387,7 @@ count-from-returns-3 t c =
     let added = else2 .before .before .before in
     let known = added .before .before .before in
     let a = known .before .before .before .args in
-    let small : (y : ℕ) → at (now (a .counts)) y ≤ most = λ y. fits-most _ (known .slice-known2 .given y .fits) in
+    let small : (y : ℕ) → at (now (a .counts)) y ≤ countLimit = λ y. fits-most _ (known .slice-known2 .given y .fits) in
     let same = ap length (l .inv .0) in
     loop-ends (now (a .table)) (a .growth) (a .hops) (now (a .marks)) (a .sender) (a .price) (a .enough) _ _ (now (a .counts)) (a .counted) (l .next)
     (l .count) (l .marks) (l .counts) (l .inv .0) (l .inv .1) (omega arith) (omega arith) small (omega arith) refl (added .add .ensures) (else2 .if2 .left)

@@ -32,18 +32,18 @@ use denote.Triple.Entry.{Vals, onEntry}
 use denote.Steps.{nothing}
 use denote.Triple.Table.{cited}
 use denote.Triple.Walked.{says, Stays, gave-slice, stay-dropped, walkOf, Walks, ends-at, walked, goes-gave-slice}
-use Rattle.answering.specs.Delivered.{acknowledge as acknowledgeOf, tableAcknowledged, outputAcknowledged}
+use Rattle.acknowledgements.specs.Delivered.{acknowledge as acknowledgeOf, tableAcknowledged, outputAcknowledged}
 use Rattle.retained.specs.declared.Retained.{Retained}
-use Rattle.deciding.specs.declared.Ask.{Ask}
+use Rattle.retained_operations.specs.declared.Ask.{Ask}
 use Rattle.retained.specs.declared.Outcome.{Outcome}
-use Rattle.answering.specs.declared.Sending.{Sending}
+use Rattle.acknowledgements.specs.declared.Sending.{Sending}
 use Rattle.boundary.specs.declared.a_node.MantAnswer.{MantAnswer}
-use Rattle.answering.proofs.Tied.{acknowledge-tied}
+use Rattle.acknowledgements.proofs.Tied.{acknowledge-tied}
 use Rattle.retained.proofs.Retained as T
-use Rattle.answering.proofs.Sending as G
+use Rattle.acknowledgements.proofs.Sending as G
 use Rattle.boundary.proofs.a_node.MantAnswer as N
-use Rattle.answering.proofs.respond.Symbol as respond-def
-use Rattle.answering.proofs.respond.Met as respond-thm
+use Rattle.acknowledgements.proofs.respond.Symbol as respond-def
+use Rattle.acknowledgements.proofs.respond.Met as respond-thm
 use Rattle.reliable.proofs.Meeting.{meets}
 use Rattle.reliable.proofs.Locals.{Cell, bare, has, frame, Blocks, locals, begins, freed}
 use Rattle.reliable.proofs.Arguments.{arg, again}
@@ -175,7 +175,8 @@ module _ {M : Type 1} (𝓤 : URA M) (H : Heap 𝓤) (A : Atoms 𝓤) (W : Given
         (look-in ! 8 (sub ! 0 refl (whole !)))) (arg ! 3 refl (no-more !)))))))) (λ a ws gq p l′.
         land ! (from ! (stop !)) (init ! 12 refl (typed-q W a gq)) $ frees a ws gq p l′)
 
-  walk : (𝓣 : Tables 𝓤 H) → Known 𝓤 H A mem run 𝓣 → Room T.the-row (length ys) → Room u8 (length bs) → Room u8 (length os) → last < 2 ^ 64 → own < 2 ^ 16 → IsN an
+  walk : (𝓣 : Tables 𝓤 H) → Known 𝓤 H A mem run 𝓣 → Room T.the-row (length ys) → Room u8 (length bs) → Room u8 (length os) → last < 2 ^ 64 → own < 2 ^ 16
+      → IsN an
       → IsG st → ent 𝓤 (onEntry 𝓤 H A acknowledges.signature (κ, (κ′, (κ″, tt))) (q, (q′, (q″, tt))) (x, (last, (own, (y, (an, (st, (z, tt))))))) at)
       (WpFn 𝓤 H (𝓣 .C) (𝓣 .Λ) code.function (slice x ∷ vint w64 last ∷ vint w16 own ∷ slice y ∷ nval an ∷ gval st ∷ slice z ∷ []) Post)
   walk 𝓣 known gn gb gm gl go ga gs =
@@ -235,6 +236,6 @@ mant-acknowledge-spec 𝓤 H 𝓜 𝓖 𝓡 =
       ),
     )
     (acknowledges-walks 𝓤 H (𝓖 .A) W (𝓜 .mem) (𝓡 .run) (tablesOf 𝓤 H 𝓜 (tables 𝓤 H 𝓜 𝓡 code.env)) (record {
-      responds = cited 𝓤 H _ 𝓜 𝓡 code.env respond-def.name respond-def.routine code.calls-answering·respond (respond-thm.met 𝓤 H 𝓜 𝓖 𝓡);
+      responds = cited 𝓤 H _ 𝓜 𝓡 code.env respond-def.name respond-def.routine code.calls-acknowledgements·respond (respond-thm.met 𝓤 H 𝓜 𝓖 𝓡);
       frees = cited 𝓤 H _ 𝓜 𝓡 code.env free-def.name free-def.routine code.calls-reliable·free (free-thm.met 𝓤 H 𝓜 𝓖 𝓡);
     }))

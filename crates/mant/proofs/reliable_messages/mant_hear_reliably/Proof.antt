@@ -17,7 +17,8 @@ use ghost.Atoms.{Atoms, sem}
 use contract.Monad.{Fun}
 use contract.Running.{givenOf, tables, tablesOf}
 use sound.WpLaws.{FmC, fmOf}
-use types.Kit.{Given, Item, Goal, Sq, Seq, Step, runs, ‵, raw, _⊛_, ⋆, atRet, _$_, _∵_, !, qed, by, move, use3, drop, split, join, fsplit, fjoin, suffices, done}
+use types.Kit.{Given, Item, Goal, Sq, Seq, Step, runs, ‵, raw, _⊛_, ⋆, atRet, _$_, _∵_, !, qed, by, move, use3, drop, split, join, fsplit, fjoin, suffices}
+use types.Kit.{done}
 use types.Kit.{frame as framed}
 use types.Part.{whole, sub, look-in, agg}
 use types.Run.{look, init, stop, fld, from, load, of-opd, and-then, no-more, assigns, land, returns}
@@ -41,19 +42,19 @@ use denote.Triple.Walked.{says, Stays, gave-slice, stay-dropped, walkOf, Walks, 
 use Rattle.lists.specs.Lists.{listsIn}
 use Rattle.decision.specs.Decision.{Node, nodeOf}
 use Rattle.node.specs.Answers.{deliveryNumber, answerOf}
-use Rattle.answering.specs.Hearing.{outputHeard}
-use Rattle.answering.specs.Responding.{askAcknowledge}
+use Rattle.acknowledgements.specs.Hearing.{outputHeard}
+use Rattle.acknowledgements.specs.Responding.{askAcknowledge}
 use Rattle.boundary.specs.Boundary.{nodeFromC, answerInC, HearsReliablyInC}
 use Rattle.retained.specs.declared.Retained.{Retained}
-use Rattle.deciding.specs.declared.Ask.{Ask}
+use Rattle.retained_operations.specs.declared.Ask.{Ask}
 use Rattle.retained.specs.declared.Outcome.{Outcome}
-use Rattle.answering.specs.declared.Sending.{Sending}
+use Rattle.acknowledgements.specs.declared.Sending.{Sending}
 use Rattle.boundary.specs.declared.a_node.MantNode.{MantNode}
 use Rattle.boundary.specs.declared.a_node.MantHeardReliably.{MantHeardReliably}
 use Rattle.mant.specs.declared.reliable_messages.Heard.{Heard}
-use Rattle.answering.proofs.Tied.{acknowledge-tied}
+use Rattle.acknowledgements.proofs.Tied.{acknowledge-tied}
 use Rattle.retained.proofs.Retained as T
-use Rattle.answering.proofs.Sending as G
+use Rattle.acknowledgements.proofs.Sending as G
 use Rattle.boundary.proofs.a_node.MantNode as N
 use Rattle.boundary.proofs.a_node.MantNode.Laws as N′
 use Rattle.boundary.proofs.a_node.MantHeardReliably as R

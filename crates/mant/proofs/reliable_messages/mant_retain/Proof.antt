@@ -38,21 +38,21 @@ use denote.Triple.Clauses.{ensured, lasts}
 use denote.Triple.Walked.{says, Stays, gave-slice, stay-dropped, walkOf, Walks, ends-at, walked, goes-gave-slice}
 use Rattle.retained.specs.Table.{retain as retainOf, tableRetained}
 use Rattle.retained.specs.Records.{retainedRecord}
-use Rattle.deciding.specs.Deciding.{retainOn, askRetain}
+use Rattle.retained_operations.specs.Operations.{retainOn, askRetain}
 use Rattle.retained.specs.declared.Retained.{Retained}
-use Rattle.deciding.specs.declared.Ask.{Ask}
-use Rattle.deciding.specs.declared.Effect.{Effect}
+use Rattle.retained_operations.specs.declared.Ask.{Ask}
+use Rattle.retained_operations.specs.declared.Effect.{Effect}
 use Rattle.retained.specs.declared.Outcome.{Outcome}
-use Rattle.deciding.proofs.Tied.{retain-tied}
+use Rattle.retained_operations.proofs.Tied.{retain-tied}
 use Rattle.retained.proofs.Retained as T
 use Rattle.retained.proofs.Retained.Laws as T′
-use Rattle.deciding.proofs.Ask as Q
-use Rattle.deciding.proofs.Ask.Laws as Q′
-use Rattle.deciding.proofs.Effect as F
-use Rattle.deciding.proofs.Effect.Laws as F′
-use Rattle.deciding.proofs.ask_retain as ask
-use Rattle.deciding.proofs.ask_retain.Symbol as ask-def
-use Rattle.deciding.proofs.ask_retain.Met as ask-thm
+use Rattle.retained_operations.proofs.Ask as Q
+use Rattle.retained_operations.proofs.Ask.Laws as Q′
+use Rattle.retained_operations.proofs.Effect as F
+use Rattle.retained_operations.proofs.Effect.Laws as F′
+use Rattle.retained_operations.proofs.ask_retain as ask
+use Rattle.retained_operations.proofs.ask_retain.Symbol as ask-def
+use Rattle.retained_operations.proofs.ask_retain.Met as ask-thm
 use Rattle.retained.proofs.retained_record as record-of
 use Rattle.retained.proofs.retained_record.Symbol as record-def
 use Rattle.retained.proofs.retained_record.Met as record-thm
@@ -253,7 +253,7 @@ mant-retain-spec 𝓤 H 𝓜 𝓖 𝓡 =
       (λ κs x f vs g. quiet, (λ κs x f vs g. quiet, (λ κs x f vs g. quiet, tt))),
     )
     (retain-walks 𝓤 H (𝓖 .A) W (𝓜 .mem) (𝓡 .run) (tablesOf 𝓤 H 𝓜 (tables 𝓤 H 𝓜 𝓡 code.env)) (record {
-      asks = cited 𝓤 H _ 𝓜 𝓡 code.env ask-def.name ask-def.routine code.calls-deciding·ask-retain (ask-thm.met 𝓤 H 𝓜 𝓖 𝓡);
+      asks = cited 𝓤 H _ 𝓜 𝓡 code.env ask-def.name ask-def.routine code.calls-retained-operations·ask-retain (ask-thm.met 𝓤 H 𝓜 𝓖 𝓡);
       find = cited 𝓤 H _ 𝓜 𝓡 code.env find-def.name find-def.routine code.calls-reliable·find-room (find-thm.met 𝓤 H 𝓜 𝓖 𝓡);
       records = cited 𝓤 H _ 𝓜 𝓡 code.env record-def.name record-def.routine code.calls-retained·retained-record (record-thm.met 𝓤 H 𝓜 𝓖 𝓡);
       store = cited 𝓤 H _ 𝓜 𝓡 code.env store-def.name store-def.routine code.calls-reliable·store (store-thm.met 𝓤 H 𝓜 𝓖 𝓡);

@@ -37,20 +37,20 @@ use denote.Triple.Table.{cited}
 use denote.Triple.Clauses.{ensured, lasts}
 use denote.Triple.Walked.{says, Stays, gave-slice, stay-dropped, walkOf, Walks, ends-at, walked, goes-gave-slice}
 use Rattle.retained.specs.Table.{retryStep, tableStepped, outputStepped}
-use Rattle.deciding.specs.Deciding.{stepOn, askStep}
+use Rattle.retained_operations.specs.Operations.{stepOn, askStep}
 use Rattle.retained.specs.declared.Retained.{Retained}
-use Rattle.deciding.specs.declared.Ask.{Ask}
-use Rattle.deciding.specs.declared.Effect.{Effect}
+use Rattle.retained_operations.specs.declared.Ask.{Ask}
+use Rattle.retained_operations.specs.declared.Effect.{Effect}
 use Rattle.retained.specs.declared.Outcome.{Outcome}
-use Rattle.deciding.proofs.Tied.{step-tied}
+use Rattle.retained_operations.proofs.Tied.{step-tied}
 use Rattle.retained.proofs.Retained as T
-use Rattle.deciding.proofs.Ask as Q
-use Rattle.deciding.proofs.Ask.Laws as Q′
-use Rattle.deciding.proofs.Effect as F
-use Rattle.deciding.proofs.Effect.Laws as F′
-use Rattle.deciding.proofs.ask_step as ask
-use Rattle.deciding.proofs.ask_step.Symbol as ask-def
-use Rattle.deciding.proofs.ask_step.Met as ask-thm
+use Rattle.retained_operations.proofs.Ask as Q
+use Rattle.retained_operations.proofs.Ask.Laws as Q′
+use Rattle.retained_operations.proofs.Effect as F
+use Rattle.retained_operations.proofs.Effect.Laws as F′
+use Rattle.retained_operations.proofs.ask_step as ask
+use Rattle.retained_operations.proofs.ask_step.Symbol as ask-def
+use Rattle.retained_operations.proofs.ask_step.Met as ask-thm
 use Rattle.reliable.proofs.Meeting.{meets}
 use Rattle.reliable.proofs.Calls.{told}
 use Rattle.reliable.proofs.Locals.{Cell, bare, has, frame, Blocks, locals, begins, freed}
@@ -259,7 +259,7 @@ mant-retry-spec 𝓤 H 𝓜 𝓖 𝓡 =
       ),
     )
     (step-walks 𝓤 H (𝓖 .A) W (𝓜 .mem) (𝓡 .run) (tablesOf 𝓤 H 𝓜 (tables 𝓤 H 𝓜 𝓡 code.env)) (record {
-      asks = cited 𝓤 H _ 𝓜 𝓡 code.env ask-def.name ask-def.routine code.calls-deciding·ask-step (ask-thm.met 𝓤 H 𝓜 𝓖 𝓡);
+      asks = cited 𝓤 H _ 𝓜 𝓡 code.env ask-def.name ask-def.routine code.calls-retained-operations·ask-step (ask-thm.met 𝓤 H 𝓜 𝓖 𝓡);
       find = cited 𝓤 H _ 𝓜 𝓡 code.env find-def.name find-def.routine code.calls-reliable·find-due (find-thm.met 𝓤 H 𝓜 𝓖 𝓡);
       resends = cited 𝓤 H _ 𝓜 𝓡 code.env resend-def.name resend-def.routine code.calls-reliable·resend (resend-thm.met 𝓤 H 𝓜 𝓖 𝓡);
     }))

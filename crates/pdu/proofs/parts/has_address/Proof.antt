@@ -10,7 +10,8 @@ use Rattle.pdu.proofs.parts.has_address.Statement.{statement}
 use Rattle.pdu.proofs.parts.has_address.Tie as tie
 
 abbrev Inv-loop : tie.InvT-loop
-Inv-loop bytes place count address start entries whole i₀ i = (i ≤ entries) × (sought bytes address start entries ≡ sought bytes address (start + 2 * i) (entries - i))
+Inv-loop bytes place count address start entries whole i₀ i =
+    (i ≤ entries) × (sought bytes address start entries ≡ sought bytes address (start + 2 * i) (entries - i))
 
 abbrev μ-loop : tie.MeasureT-loop
 μ-loop bytes place count address start entries whole i₀ i = entries - i

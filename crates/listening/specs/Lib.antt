@@ -1,2 +1,0 @@
-pub mod Listening
-pub mod History

@@ -1,0 +1,2 @@
+pub mod CountedAnswers
+pub mod History

@@ -1,0 +1,3 @@
+pub mod First
+pub mod History
+pub mod Termination
