@@ -17,7 +17,7 @@ static MantSources record;
 /* Overwrites the stack that mant_seal or mant_open used: round keys are left there. Call it directly after, from the same function. */
 __attribute__((noinline)) static void clear_stack(void)
 {
-    volatile uint8_t used[2048];
+    volatile uint8_t used[2304];
     for (size_t i = 0; i < sizeof used; i++) {
         used[i] = 0;
     }

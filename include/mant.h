@@ -824,7 +824,7 @@ static inline MantOutcome mant_reliable_acknowledge(MantReliable *reliable, uint
  * - Who holds the key can seal for every source. Anyone can make acknowledgements, change hop limit and path, and read the header.
  * - A PDU held back opens later, unless a later number was accepted. A source that the record does not hold opens with any number.
  * - The hash has 32 bits. On a processor with a cache the time of a call depends on the key.
- * - Both calls leave the key on the stack. If others can read it, overwrite 2,048 bytes of stack after each call (clear_stack in examples/sealed.c).
+ * - Both calls leave the key on the stack. If others can read it, overwrite 2,304 bytes of stack after each call (clear_stack in examples/sealed.c).
  * Memory: to open, a MantSources. Its first word is how many sources are held, at most 64. Two words for each follow: its address and the last number accepted.
  *     Opening writes the first word and the source's two. In malformed memory the first entry of a source counts. To seal, none: the caller counts message
  *     numbers.

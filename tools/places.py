@@ -1,4 +1,4 @@
-"""The byte where the reading of a PDU or of an exchange was refused, for ./show. That it is refused, and with which number, is what the library answers
+"""The byte where the reading of a PDU or of an exchange was refused, for ./show. That it is refused, and with which number, is what the library returns
 (python/mant.py); where, is worked out here."""
 import collections
 

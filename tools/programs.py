@@ -1,6 +1,6 @@
-"""The wrong programs of crates/*/must-fail, as tools/edits, tools/refusals and tools/wrong read them.
+"""The mutants of crates/*/must-fail, as tools/edits, tools/refusals and tools/wrong read them.
 
-An edit file holds one or more wrong programs. Each begins with `# ` lines that say what goes wrong, has a line `fact: FUNCTION NEED` for each fact that
+An edit file holds one or more mutants. Each begins with `# ` lines that say what goes wrong, has a line `fact: FUNCTION NEED` for each fact that
 the prover must miss (`fact: FILE LAW` of a law, `fact: FILE LAW.FIELD` of one that gives a record), and then the `file:`, `old:` and `new:` lines of its
 change. `rt` applies the whole file and passes over every other line."""
 import dataclasses
@@ -41,7 +41,7 @@ def crate_of(edit):
 
 
 def read(edit):
-    """The wrong programs of an edit file, and what is wrong with its form."""
+    """The mutants of an edit file, and what is wrong with its form."""
     programs, faults, texts = [], [], {}
     file = old = None
     for line in edit.read_text().splitlines():
@@ -99,7 +99,7 @@ def functions_by_line(file, text):
 
 
 class Crate:
-    """A crate as the rules for wrong programs side by side need it: which functions it has, which call which, and what rests on which definition."""
+    """A crate as the rules for mutants side by side need it: which functions it has, which call which, and what rests on which definition."""
 
     def __init__(self, folder):
         bodies, self.contracts, self.files = {}, {}, {}
@@ -238,7 +238,7 @@ def changed(crate, program):
 
 
 def side_by_side(crate, programs):
-    """What keeps wrong programs from being refused side by side in one check, each at its own fact; nothing where they may share a file."""
+    """What keeps mutants from being refused side by side in one check, each at its own fact; nothing where they may share a file."""
     if len(programs) < 2:
         return []
     faults, taken = [], {}
@@ -250,7 +250,7 @@ def side_by_side(crate, programs):
                 faults.append(f'a changed definition or promise, on which others rest, stands alone: {program.says}')
             for one in crate.cycle(place):
                 if taken.setdefault(one, program) is not program:
-                    faults.append(f'two wrong programs in {one}: {program.says}')
+                    faults.append(f'two mutants in {one}: {program.says}')
         if not altered_by(program) and not all(crate.functions(place) & {one for one, _ in altered} for place, _ in program.facts):
             faults.append(f'a fact of a function that it does not change: {program.says}')
     for program in programs:
@@ -259,7 +259,7 @@ def side_by_side(crate, programs):
             if need.endswith('-spec') and (hidden := set().union(*map(crate.reached, crate.functions(function))) & others):
                 faults.append(f'the proof of {function} is one piece, and it calls {min(hidden)}, changed beside it: {program.says}')
             if crate.functions(function) & others:
-                faults.append(f'two wrong programs in {function}: {program.says}')
+                faults.append(f'two mutants in {function}: {program.says}')
     return faults + rests_beside(crate, programs)
 
 

@@ -1,4 +1,4 @@
-"""A PDU, an exchange or a batch in words, for ./show. What it holds and why it is refused is what the library answers (python/mant.py)."""
+"""A PDU, an exchange or a batch in words, for ./show. What it holds and why it is refused is what the library returns (python/mant.py)."""
 import mant
 from fields import counted, field, hex_rows, pdu_lines, span
 from places import exchange_place, place_of
