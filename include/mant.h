@@ -258,7 +258,7 @@ MantWritten mant_originate(MantFresh settings, const uint8_t *payload, size_t pa
  *         static const uint16_t lists[] = {[MANT_SOURCE_PASS_FIRST] = 2, [MANT_LIST_VALUES] = 1001, 1999};
  *     Every slice is a block: a length past its end is 0, and no list goes past it. The calls that hear check all eight lists each time.
  * Numbers: both 17, 20 to 22, 1 to 6, 30, 42, 31 to 34, 40; delivery 35, 39; repeat 36 to 38, 41; a batch 54.
- * Stack: mant_change_over 8, mant_list_holds 8, mant_list_fault 64, mant_lay_lists 160, mant_hear 288, mant_step 352.
+ * Stack: mant_change_over 8, mant_list_holds 8, mant_list_fault 24, mant_lay_lists 160, mant_hear 344, mant_step 408.
  */
 
 /* Values in a list, words in a MantListBlock, bytes in a batch. */
@@ -457,7 +457,7 @@ MantStep mant_step(MantNode node, const uint16_t *lists, size_t lists_length, co
  *     one may not be found.
  * Numbers: 55, 56.
  * Stack: mant_stations_held 8, mant_station_at 8, mant_station_of 40, mant_remove_station 40, mant_count_heard 72, mant_count_answer 72,
- *     mant_hear_and_count 352.
+ *     mant_hear_and_count 408.
  */
 
 #define MANT_STATION_LIMIT 128

@@ -1,6 +1,6 @@
--- Where an auditor begins: the demands and the requests, by name. Each record is a file of its own, in the crate that ends in its name, to be read beside its
--- place in documents 01 and 02. W-204 claims nothing that is new: no answer, byte or promise changed. What every public function's promise must be, and that it
--- is so, is crate `promises`.
+-- Where an auditor begins: the demands and the requests, by name. The `use` lines name the file of each record, to be read beside its place in documents 01
+-- and 02. W-204 claims nothing that is new: no answer, byte or contract changed. What every public function's contract must be, and that it is so, is crate
+-- `promises`.
 use Rattle.base_worked_examples.specs.WorkedExamples.{WorkedExamples}
 use Rattle.base_demands.specs.Demands.{Demand1, Demand2, Demand3}
 use Rattle.base_wrong_nodes.specs.WrongNodes.{WrongNodes}

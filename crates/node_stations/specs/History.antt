@@ -20,7 +20,7 @@ pub data TableOperation : Type 0 where
   Hearing : Answer → List ℕ → TableOperation
   Removal : ℕ → TableOperation
 
--- the memory after some deeds, the latest of them first
+-- the memory after some operations, the latest of them first
 unfoldable pub tableMemory : List ℕ → List TableOperation → List ℕ
 tableMemory memory [] = memory
 tableMemory memory (Counting heard ∷ earlier) = memoryAfterCount heard (tableMemory memory earlier)
