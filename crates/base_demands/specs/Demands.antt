@@ -165,7 +165,7 @@ pub record Demand2 : Type 0 where
       → walk node room batch .answers ≡ map (λ (offset : ℕ). answerOf node room (drop offset batch)) (walk node room batch .offsets)
   pub walk-ends : (node : Node) (room : ℕ) (batch : List ℕ) → length batch ≤ batchLimit
       → (length batch ≤ walk node room batch .end) ⊎ (nodeOrReadingFault node (drop (walk node room batch .end) batch) ≡ 0 → ⊥)
-  -- 01's sizes as C is told them
+  -- 01's sizes as C gets them
   pub limits-in-c : limitsInC ≡ record { fixed = 6; payload = 4095; path = 255; header = 520; pdu = 4615; list = 128; batch = 16384 }
 
 -- Demand 3, bounded, over demand 2's rules, as document 02, W-203 has it: any nodes of different addresses with echo on, whatever their lists, settings
@@ -208,9 +208,9 @@ pub record Demand3 : Type 0 where
       ≡ bytesBound (length counted) (settings .«hop_limit») (length (fresh settings payload)))
   -- the bound's values that 01 checks by hand
   pub values : (bound 3 2 ≡ 10) × (bound 3 6 ≡ 16) × (bound 3 7 ≡ 16) × ((n : ℕ) → bound n 0 ≡ 1) × ((h : ℕ) → bound 0 h ≡ 1)
-  -- among more nodes it is no smaller, so that whoever counts a node that cannot repeat the message is told too much, and never too little
+  -- among more nodes it is no smaller, so that whoever counts a node that cannot repeat the message gets too large a bound, never too small a one
   pub more-nodes : (n more h size : ℕ) → n ≤ more → (bound n h ≤ bound more h) × (bytesBound n h size ≤ bytesBound more h size)
-  -- what C is told of a bound: 10 for a hop limit above 7; else the value, or that 64 bits do not hold it
+  -- what C gets for a bound: 10 for a hop limit above 7; else the value, or that 64 bits do not hold it
   pub in-c : (hop value : ℕ)
       → (7 < hop → boundInC (boundAnswer hop value) ≡ record { number = 10; «too_large» = false; value = 0 })
       × (hop ≤ 7 → value < 2 ^ 64 → boundInC (boundAnswer hop value) ≡ record { number = 0; «too_large» = false; value = value })

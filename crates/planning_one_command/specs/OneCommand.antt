@@ -115,7 +115,7 @@ pub record OneCommand : Type 0 where
       → headerOf bytes .ack ≡ false → asks bytes box ≡ true
   pub asks-only : (bytes : List ℕ) (box : Box) → asks bytes box ≡ true
       → (headerOf bytes .protocol ≡ 1) × (headerOf bytes .destination ≡ Address (address (box .repeater))) × (headerOf bytes .ack ≡ false)
-  -- what C is told of the bound: number 10 exactly if either hop limit is above 7
+  -- what C gets for the bound: number 10 exactly if either hop limit is above 7
   pub in-c : (h k value : ℕ) → (7 < h) ⊎ (7 < k) → boundInC (boundAnswer (max h k) value) .number ≡ 10
   pub in-c-only : (h k value : ℕ) → boundInC (boundAnswer (max h k) value) .number ≡ 10 → (7 < h) ⊎ (7 < k)
   -- what such a box sends is what the node and the table together write, into an output of its room; and it answers where they say so

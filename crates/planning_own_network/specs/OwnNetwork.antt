@@ -91,7 +91,7 @@ pub record OwnNetwork : Type 0 where
       → (airOf hears these source h ≤ airOf others those source k) × (airBytes hears these source h size ≤ airBytes others those source k size)
       × (airBy hears these source h node ≤ airBy others those source k node)
       × (airBytesBy hears these source h size node ≤ airBytesBy others those source k size node)
-  -- what the functions `transmissions` and `bytes` of crate `ways` return, told the network by pairs and marks: exactly these numbers where they are
+  -- what the functions `transmissions` and `bytes` of crate `ways` return, given the network by pairs and marks: exactly these numbers where they are
   -- below `enough`, and each node's own in its place; and `Enough` exactly where they are not
   pub by-count : (pairs : List ℕ) (hears : ℕ → ℕ → Bool) (nodes : List Repeater) → Nodes nodes → Says pairs hears nodes → length nodes ≤ nodeLimit
       → (settings : FreshSettings) (payload : List ℕ) (room : ℕ) → Originated settings payload room
@@ -113,7 +113,7 @@ pub record OwnNetwork : Type 0 where
       → (octets hears nodes settings payload < enough → (answer ≡ Exactly (octets hears nodes settings payload))
       × ((place : ℕ) → place < length nodes → at countsNow place ≡ octetsBy hears nodes settings payload (at (map address nodes) place)))
       × (enough ≤ octets hears nodes settings payload → answer ≡ Enough)
-  -- what C is told: number 10 exactly if the hop limit is above 7; else whether the network is served; else that the number is enough, exactly if it is not
+  -- what C gets: number 10 exactly if the hop limit is above 7; else whether the network is served; else that the number is enough, exactly if it is not
   -- below `enough`; else the number
   pub in-c : (pairs marks : List ℕ) (from h price growth enough places room : ℕ)
       → let returned = airtimeInC (waysAnswer pairs marks from h price growth enough places room) in

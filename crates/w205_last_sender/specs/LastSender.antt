@@ -1,4 +1,4 @@
--- Document 02, W-205, as one record; `proofs/LastSender.antt` gives it from its parts. What is told is `lastSender`, in W-205's own words, and what a node
+-- Document 02, W-205, as one record; `proofs/LastSender.antt` gives it from its parts. What is returned is `lastSender`, in W-205's own words, and what a node
 -- carries on is `heardFrom`; here are their cases in both directions, and what they mean on the air.
 use Prim.Native.Nat.{ℕ, _+_, _-_, _<_, _≤_}
 use mathlib.Core.Bool.{true, false}

@@ -72,12 +72,12 @@ pub record LeastReach : Type 0 where
       × (ByNoOther hears nodes (fresh settings payload) receptions → isDelivered (settings .«hop_limit») (at lengths place) ≡ false
       → (what : List ℕ) (count : ℕ) → ¬ Delivered nodes (fresh settings payload) receptions n what count)
   -- a hearing that the planner does not know of takes nothing away: what is taken by all that hear it is taken by all that are known to. So each delivery
-  -- that is told, and its path count, holds also where more is heard
+  -- that is found, and its path count, holds also where more is heard
   pub more-heard : (hears known-hears : ℕ → ℕ → Bool) → ((sender node : ℕ) → known-hears sender node ≡ true → hears sender node ≡ true)
       → (nodes : List Repeater) (first : List ℕ) (receptions : List Reception)
       → TakenByAll hears nodes first receptions → TakenByAll known-hears nodes first receptions
   -- the number missed at a hop limit from 0 to 7 is that of the nodes out of reach; the least hop limit is the one at which all are delivered it and at
-  -- every smaller one some are not; and none is told exactly where at none of 0 to 7 all are
+  -- every smaller one some are not; and none is given exactly where at none of 0 to 7 all are
   pub missed-counts : (h : ℕ) (lengths : List ℕ) → h ≤ 7 → (places : List ℕ) × OutOfReach h lengths places × (missed h lengths ≡ length places)
   pub least : (lengths : List ℕ) (h : ℕ) → leastHop lengths ≡ HopLimit h
       → (h ≤ 7) × AllDelivered h lengths × ((less : ℕ) → less < h → ¬ AllDelivered less lengths)
@@ -85,7 +85,7 @@ pub record LeastReach : Type 0 where
       → leastHop lengths ≡ HopLimit h
   pub unreachable : (lengths : List ℕ) → leastHop lengths ≡ Unreachable → (h : ℕ) → h ≤ 7 → ¬ AllDelivered h lengths
   pub unreachable-only : (lengths : List ℕ) → ((h : ℕ) → h ≤ 7 → ¬ AllDelivered h lengths) → leastHop lengths ≡ Unreachable
-  -- what C is told of it: 8 exactly if it is told that none reaches all, and else the least hop limit
+  -- what C gets: 8 exactly if none reaches all, and else the least hop limit
   pub in-c : (lengths : List ℕ) → leastHop lengths ≡ Unreachable → leastInC (leastHop lengths) ≡ 8
   pub in-c-only : (lengths : List ℕ) → leastInC (leastHop lengths) ≡ 8 → leastHop lengths ≡ Unreachable
   pub in-c-least : (lengths : List ℕ) (h : ℕ) → leastHop lengths ≡ HopLimit h → leastInC (leastHop lengths) ≡ h
