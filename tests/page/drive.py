@@ -35,6 +35,7 @@ class Browser:
         self.wait_for_driver()
         logged = {'browser': 'ALL', 'performance': 'ALL'}
         capabilities = {'alwaysMatch': {'browserName': 'chrome', 'goog:chromeOptions': options, 'goog:loggingPrefs': logged}}
+        # the address is W3C WebDriver's own
         self.base = f"/session/{self.ask('POST', '/session', {'capabilities': capabilities})['sessionId']}"
         self.ask('POST', '/timeouts', {'script': 60000})
         self.look(width, height, dark)
