@@ -1,4 +1,6 @@
 // What a delivered PDU asks of the table, and the acknowledgement that answers it.
+#![tactic(auto)]
+
 ghost use Rattle.std.specs.Prelude.{◌≡◌, cond, ◌&&◌, ◌≤◌, length};
 ghost use Rattle.pdu.specs.Sizes.{pdu_length};
 ghost use Rattle.decision.specs.Decision.{is_for_own};

@@ -1,4 +1,6 @@
 // AES-128: the key expanded, and one block of 16 bytes enciphered.
+#![tactic(auto)]
+
 ghost use Rattle.std.specs.Prelude.{◌≡◌, ◌+◌, ◌*◌, ◌/◌, ◌%◌, ◌≤◌, ◌<◌, length};
 ghost use Rattle.octets.specs.Octets.{at};
 ghost use Rattle.aes_field.specs.Field.{substitutes};

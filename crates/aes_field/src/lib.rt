@@ -1,4 +1,6 @@
 // The substitutes of all bytes, and the doubling of an element: the leaves of AES.
+#![tactic(auto)]
+
 ghost use Rattle.std.specs.Prelude.{◌≡◌};
 ghost use Rattle.aes_field.specs.Field.{xtime, substitutes};
 

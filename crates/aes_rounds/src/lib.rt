@@ -1,4 +1,6 @@
 // The rounds of AES: what is done with the state of 16 bytes.
+#![tactic(auto)]
+
 ghost use Rattle.std.specs.Prelude.{◌≡◌, cond, ◌∷◌, []};
 ghost use Rattle.aes_field.specs.Field.{substitutes};
 ghost use Rattle.aes_rounds.specs.Rounds.{sub_bytes, shift_rows, mix_column, mix_columns, add_round_key, round, last_round};

@@ -1,1 +1,3 @@
 // No code: the three demands, each as one record.
+#![tactic(auto)]
+

@@ -1,1 +1,3 @@
 // No code: what `relay` prints, as one record.
+#![tactic(auto)]
+

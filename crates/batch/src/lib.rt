@@ -1,4 +1,6 @@
 // The walk over a batch of PDUs that lie back to back.
+#![tactic(auto)]
+
 ghost use Rattle.std.specs.Prelude.{◌≡◌, false};
 ghost use Rattle.lists.specs.Lists.{lists_in};
 ghost use Rattle.decision.specs.Decision.{node_of};

@@ -1,4 +1,6 @@
 // How many times one report can go out on the air at most, and how many bytes that is.
+#![tactic(auto)]
+
 ghost use Rattle.std.specs.Prelude.{◌≡◌, ◌+◌, ◌*◌, ◌<◌, ◌≤◌, max};
 ghost use Rattle.bound.specs.Bound.{series, terms, bound, bytes_bound};
 ghost use Rattle.bound.specs.Command.{sendings_bound, command_bound};

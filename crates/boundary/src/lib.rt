@@ -1,4 +1,6 @@
 // The layer's values as the plain values that C sees, and what C gives as the layer's settings.
+#![tactic(auto)]
+
 pub mod a_node;
 pub mod a_walk;
 pub mod originating;

@@ -28,6 +28,8 @@
 // | exchange  | [exchange]                                                                               | number, place and length of its header,  |
 // |           |                                                                                          | place and length of its payload          |
 // | forget    | address (a table's words)                                                                | number, stations held                    |
+#![tactic(auto)]
+
 mod line;
 mod reading_verbs;
 mod table_verbs;

@@ -1,4 +1,6 @@
 // Shortest chains of hearings in a network of up to 255 nodes, and how far a report reaches.
+#![tactic(auto)]
+
 ghost use Rattle.std.specs.Prelude.{false, ◌≡◌, ◌<◌, length, replicate};
 ghost use Rattle.chains.specs.Lengths.{no_chain, is_usable, are_found, LengthsFound};
 ghost use Rattle.chains.specs.Reach.{is_delivered, is_missed, missed, least_hop};

@@ -1,4 +1,6 @@
 // AES-128 in counter mode, in place.
+#![tactic(auto)]
+
 ghost use Rattle.std.specs.Prelude.{◌≡◌, ◌-◌, ◌<◌, ◌++◌, take, drop};
 ghost use Rattle.octets.specs.Octets.{at};
 ghost use Rattle.ctr.specs.Ctr.{counter_block, stream, added};

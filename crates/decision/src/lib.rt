@@ -1,4 +1,6 @@
 // What decides on a PDU that was read, at one node: the numbers that drop it, that keep it from delivery and that keep it from being repeated.
+#![tactic(auto)]
+
 ghost use Rattle.std.specs.Prelude.{◌≡◌, ◌&&◌, ◌⊎◌, ◌+◌, ◌<◌, eqb};
 ghost use Rattle.pdu.specs.declared.Header.{Header};
 ghost use Rattle.pdu.specs.Sizes.{path_limit};

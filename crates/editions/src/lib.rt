@@ -1,4 +1,6 @@
 // A PDU as an edition of the protocol shows it, over what the wire says.
+#![tactic(auto)]
+
 ghost use Rattle.std.specs.Prelude.{◌≡◌, length};
 ghost use Rattle.editions.specs.Editions.{known, bits_under, shown_with};
 ghost use Rattle.editions.specs.Editions.{write_again_under, written_again_under};

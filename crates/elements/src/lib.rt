@@ -1,4 +1,6 @@
 // Binary type-length-value elements: runs of them judged, and the only elements of two types sought in a run.
+#![tactic(auto)]
+
 ghost use Rattle.std.specs.Prelude.{◌≡◌, ◌+◌, ◌<◌, ◌≤◌, length};
 ghost use Rattle.elements.specs.Elements.{number_at, number_size, type_at, value_place, element_end, is_run, element_fault, level_limit, run_fault};
 ghost use Rattle.elements.specs.Finding.{head_at, with_occurrence, only_occurrence, pair_from};

@@ -1,4 +1,6 @@
 // The serial exchange of document 02, W-202: a PDU as elements in an element, read and written.
+#![tactic(auto)]
+
 mod put;
 
 ghost use Rattle.std.specs.Prelude.{◌≡◌, ◌≤◌, length};

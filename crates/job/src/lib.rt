@@ -1,4 +1,6 @@
 // One job of the program relay: its own address, its flags, its four lists and its batch, found in the bytes that it was read as.
+#![tactic(auto)]
+
 ghost use Rattle.std.specs.Prelude.{◌≡◌, ◌+◌, ◌*◌, ◌%◌, ◌<◌, ◌≤◌, ◌^◌, eqb, ltb, length, get_or};
 ghost use Rattle.job.specs.Jobs.{head_number, taken_number, job_number, job_head, ranges_number, list_section, batch_section, list_end, sections_of, job_of};
 ghost use Rattle.octets.specs.Numbers.{◌gives◌, ◌or_else◌};

@@ -1,1 +1,3 @@
 // The standards' worked examples, by the definitions: proofs alone.
+#![tactic(auto)]
+

@@ -1,4 +1,6 @@
 // The lines that the program `relay` prints, put into an output one at a time.
+#![tactic(auto)]
+
 ghost use Rattle.std.specs.Prelude.{◌≡◌, cond, [], ◌∷◌, ◌++◌, ◌+◌, ◌*◌, ◌≤◌, leb, eqb, length};
 ghost use Rattle.octets.specs.Octets.{Puts};
 ghost use Rattle.text.specs.Text.{text, decimal};

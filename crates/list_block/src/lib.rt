@@ -1,4 +1,6 @@
 // Eight lists, two of each kind, laid into one block as a node takes them.
+#![tactic(auto)]
+
 ghost use Rattle.std.specs.Prelude.{◌≡◌, ◌≤◌, ◌+◌, length};
 ghost use Rattle.octets.specs.Octets.{Puts};
 ghost use Rattle.list_block.specs.Laying.{most_laid, cut, eight_lent, Lays};

@@ -1,4 +1,6 @@
 // The eight address lists of a node, two of each kind, in one block: what is wrong with them, and whether one holds an address.
+#![tactic(auto)]
+
 ghost use Rattle.std.specs.Prelude.{◌≡◌, ◌<◌, ◌≤◌, min, length, take, drop};
 ghost use Rattle.octets.specs.Octets.{at};
 ghost use Rattle.lists.specs.Lists.{lists_in, fault_and_list, holds, start_of, list_in};

@@ -1,5 +1,7 @@
 // The functions exported to C, each a thin call of a proved function, with numbers, slices, arrays lent by address and structs by value;
 // include/mant.h declares them in these groups.
+#![tactic(auto)]
+
 pub mod a_node;
 pub mod address_lists;
 pub mod originating;

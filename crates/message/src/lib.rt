@@ -1,4 +1,6 @@
 // A message that is sealed: its number, its nonce, its plain length, its hash, and what keeps a PDU from being sealed.
+#![tactic(auto)]
+
 ghost use Rattle.std.specs.Prelude.{◌≡◌, ◌++◌, ◌-◌, ◌<◌, ◌≤◌, take};
 ghost use Rattle.sha1.specs.Sha1.{hash_begun, fed, finished};
 ghost use Rattle.pdu.specs.Header.{header_of};

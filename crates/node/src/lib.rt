@@ -1,4 +1,6 @@
 // One PDU at one node: what is delivered, what is repeated, and the repeated PDU.
+#![tactic(auto)]
+
 ghost use Rattle.std.specs.Prelude.{◌≡◌, cond, eqb, length};
 ghost use Rattle.octets.specs.Octets.{IsPart};
 ghost use Rattle.pdu.specs.declared.Reading.TheVariants.{Pdu};

@@ -1,4 +1,6 @@
 // A PDU that a node heard, counted in its table of stations.
+#![tactic(auto)]
+
 ghost use Rattle.std.specs.Prelude.{◌≡◌};
 ghost use Rattle.node_stations.specs.CountedAnswers.{is_echo_number, heard_of, answer_number, memory_after_answer};
 

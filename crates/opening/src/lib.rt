@@ -1,4 +1,6 @@
 // Opening a sealed PDU against the record of the numbers last accepted.
+#![tactic(auto)]
+
 ghost use Rattle.std.specs.Prelude.{◌≡◌, not, cond, ◌-◌, ◌≤◌, eqb, ltb, length, take, drop};
 ghost use Rattle.octets.specs.Numbers.{◌gives◌, ◌or_else◌};
 ghost use Rattle.octets.specs.Octets.{over};

@@ -1,4 +1,6 @@
 // Origination: a fresh PDU from settings and a payload.
+#![tactic(auto)]
+
 ghost use Rattle.std.specs.Prelude.{◌≡◌, cond, ◌&&◌, ◌≤◌, eqb, length};
 ghost use Rattle.pdu.specs.Sizes.{payload_limit, destination_flag};
 ghost use Rattle.origin.specs.Origination.{fresh_header, settings_fault, originated, originated_output};

@@ -1,4 +1,6 @@
 // A PDU: its header and its limits, reading it, and its parts.
+#![tactic(auto)]
+
 pub mod fields;
 pub mod parts;
 

@@ -5,6 +5,8 @@
 // plan N H BYTES   gives the bytes on the air too, for a fresh PDU of that length, 7 to 4,105
 // plan command TRIES N H [N2 H2]
 //                  answers for one command, sent again at most TRIES times, with its acknowledgements; N2 and H2 are theirs, else N and H
+#![tactic(auto)]
+
 mod argument;
 mod command;
 mod table;

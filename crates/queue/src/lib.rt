@@ -1,4 +1,6 @@
 // The transmit queue: PDUs back to back in memory of one size that the caller lends, and the numbers kept in front of them.
+#![tactic(auto)]
+
 ghost use Rattle.std.specs.Prelude.{◌≡◌, cond, ◌&&◌, ◌≤◌, min, eqb, leb, length};
 ghost use Rattle.octets.specs.Octets.{word_at};
 ghost use Rattle.pdu.specs.Header.{header_of};

@@ -3,6 +3,8 @@
 // reach         reads a network on standard input and answers for a report of its first node, the originator, with the network's hop limit. Document 02,
 //               W-208, and crate `planning_own_network`.
 // reach SIZE    says the bytes on the air too, for a fresh report of that length, 7 to 4,105
+#![tactic(auto)]
+
 mod airtime;
 mod failures;
 mod network;

@@ -1,4 +1,6 @@
 // Reads one job from standard input and prints what the node answers for each PDU of its batch. Nothing is decided here.
+#![tactic(auto)]
+
 ghost use Rattle.std.specs.Prelude.{◌≤◌, length, take};
 ghost use Rattle.run.specs.Run.{input_room, text_room, PrintedForAll};
 

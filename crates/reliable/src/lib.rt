@@ -1,4 +1,6 @@
 // The table of retained PDUs: records side by side in memory that the caller lends.
+#![tactic(auto)]
+
 ghost use Rattle.std.specs.Prelude.{◌≡◌, set};
 ghost use Rattle.retained.specs.Records.{is_free, is_named, is_due};
 ghost use Rattle.retained.specs.Table.{record_at};

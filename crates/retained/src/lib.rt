@@ -1,4 +1,6 @@
 // A record of a retained PDU, by value.
+#![tactic(auto)]
+
 pub mod in_use;
 
 ghost use Rattle.std.specs.Prelude.{◌≡◌};

@@ -1,4 +1,6 @@
 // What is asked of a table of retained PDUs, and what is decided on what a search found, by value.
+#![tactic(auto)]
+
 ghost use Rattle.std.specs.Prelude.{◌≡◌};
 ghost use Rattle.retained.specs.Records.{is_free, is_named, is_due};
 ghost use Rattle.retained.specs.Table.{did};

@@ -1,4 +1,6 @@
 // One run of `relay`: a job's bytes to the text that is printed.
+#![tactic(auto)]
+
 ghost use Rattle.std.specs.Prelude.{◌≡◌, ◌*◌, ◌≤◌, length, take};
 ghost use Rattle.lists.specs.Lists.{lists_in};
 ghost use Rattle.decision.specs.Decision.{node_of};

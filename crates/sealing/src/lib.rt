@@ -1,4 +1,6 @@
 // Sealing a PDU.
+#![tactic(auto)]
+
 ghost use Rattle.std.specs.Prelude.{◌≡◌, ◌++◌, ◌+◌, ◌-◌, ◌≤◌, length, take, drop};
 ghost use Rattle.octets.specs.Octets.{over};
 ghost use Rattle.ctr.specs.Ctr.{counter_mode};

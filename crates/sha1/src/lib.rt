@@ -1,4 +1,6 @@
 // SHA-1 (FIPS 180-4) of bytes that come part by part.
+#![tactic(auto)]
+
 ghost use Rattle.std.specs.Prelude.{◌≡◌, ◌*◌, ◌%◌, ◌^◌};
 ghost use Rattle.sha1.specs.Sha1.{eight_bytes, hash_begun, fed, final_hash};
 

@@ -1,4 +1,6 @@
 // One block of SHA-1 (FIPS 180-4): the hash value after it.
+#![tactic(auto)]
+
 ghost use Rattle.std.specs.Prelude.{◌≡◌, ◌+◌, ◌*◌, ◌%◌, ◌^◌};
 ghost use Rattle.sha1_block.specs.Sha1Block.{rotl, mixing, constant, words, hash_step, summed, compressed};
 

@@ -1,4 +1,6 @@
 // The numbers last accepted from each source: a record in memory that the caller lends.
+#![tactic(auto)]
+
 ghost use Rattle.std.specs.Prelude.{◌≡◌, ◌+◌, ◌-◌, ◌*◌, ◌≤◌, ◌<◌, cond, eqb, length, set};
 ghost use Rattle.octets.specs.Octets.{at};
 ghost use Rattle.sources.specs.Sources.{memory_length, record_in, place_of, is_held, number_fault, source_fault, memory_accepted, memory_without};

@@ -1,4 +1,6 @@
 // Header and payload of a PDU, each in bytes of its own, read as if they were joined.
+#![tactic(auto)]
+
 ghost use Rattle.std.specs.Prelude.{◌≡◌, ◌++◌};
 ghost use Rattle.octets.specs.Octets.{at};
 ghost use Rattle.pdu.specs.Header.{path_count_in};

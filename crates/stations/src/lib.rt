@@ -1,4 +1,6 @@
 // The stations that a box has heard: a table in memory that the caller lends, asked by address and by place.
+#![tactic(auto)]
+
 ghost use Rattle.std.specs.Prelude.{◌≡◌, false, cond, [], ◌+◌, ◌-◌, ◌*◌, ◌/◌, ◌<◌, ◌≤◌, length, drop};
 ghost use Rattle.octets.specs.Octets.{at};
 ghost use Rattle.stations.specs.Table.{memory_length, table_in, station_from, addresses, next_place, place_of, is_at};

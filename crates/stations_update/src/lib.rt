@@ -1,4 +1,6 @@
 // Counting a PDU in the table of stations, and removing a station from it.
+#![tactic(auto)]
+
 ghost use Rattle.std.specs.Prelude.{◌≡◌, cond, ◌||◌, ◌∷◌, ◌++◌, ◌+◌, ◌*◌, ◌<◌, ◌≤◌, length, take, drop, set};
 ghost use Rattle.octets.specs.Octets.{placed};
 ghost use Rattle.stations.specs.Table.{table_in, memory_of, station_words, new_station};

@@ -1,4 +1,6 @@
 // Numbers in decimal and bytes in hex, put into an output as characters.
+#![tactic(auto)]
+
 ghost use Rattle.std.specs.Prelude.{◌≡◌, ◌<◌};
 ghost use Rattle.octets.specs.Octets.{Puts};
 ghost use Rattle.text.specs.Text.{digit, decimal, hex};

@@ -1,4 +1,6 @@
 // The transmit queue's two operations: a PDU added, and a batch of the oldest taken.
+#![tactic(auto)]
+
 ghost use Rattle.std.specs.Prelude.{◌≡◌, not, ◌+◌, ◌≤◌, eqb, length, take, drop};
 ghost use Rattle.octets.specs.Numbers.{◌gives◌};
 ghost use Rattle.octets.specs.Octets.{placed};

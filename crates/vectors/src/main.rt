@@ -1,4 +1,6 @@
 // Published vectors, run: what is printed is compared with the file `stdout`.
+#![tactic(auto)]
+
 use libc::STDOUT_FILENO;
 use sha1_block::Five;
 

@@ -1,4 +1,6 @@
 // Whether a sealed PDU is genuine.
+#![tactic(auto)]
+
 ghost use Rattle.std.specs.Prelude.{◌≡◌, ◌++◌, ◌≤◌, ◌<◌, length, replicate};
 ghost use Rattle.octets.specs.Octets.{over};
 ghost use Rattle.ctr.specs.Ctr.{stream, added};

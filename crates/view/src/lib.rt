@@ -1,5 +1,7 @@
 // A received PDU held as one thing: the caller's bytes, and how far the PDU reaches in them.
 // A function over the view only takes it apart. The work is done in `fields`, by a function on slice and numbers.
+#![tactic(auto)]
+
 mod fields;
 
 ghost use Rattle.std.specs.Prelude.{◌≡◌};

@@ -1,4 +1,6 @@
 // How often one report goes out on the air in a network of up to 255 nodes of which it is known who hears whom, and how often each node sends it.
+#![tactic(auto)]
+
 ghost use Rattle.std.specs.Prelude.{◌≡◌, ◌+◌, ◌*◌, ◌^◌, ◌%◌, ◌<◌, ◌≤◌, min, length, set, replicate};
 ghost use Rattle.octets.specs.Octets.{at};
 ghost use Rattle.ways.specs.Ways.{ways_from};

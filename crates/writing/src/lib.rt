@@ -1,4 +1,6 @@
 // Writing a PDU from its fields.
+#![tactic(auto)]
+
 ghost use Rattle.std.specs.Prelude.{◌≡◌, true, [], ◌∷◌, ◌+◌, ◌*◌, ◌/◌, ◌<◌, ◌≤◌, length};
 ghost use Rattle.octets.specs.Numbers.{flag};
 ghost use Rattle.octets.specs.Octets.{word_bytes, over, Puts};
