@@ -15,7 +15,7 @@ use retained_operations::{Ask, Kind};
 
 // What an acknowledgement is sent with. Hop limit and port are wider than their bits, so that a number too large arrives whole and is refused.
 #[repr(C)]
-#[derive(Drop)]
+#[derive(Clone, Copy)]
 pub struct Sending {
     pub hop_limit: u64,
     pub port: u64,

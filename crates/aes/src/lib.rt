@@ -40,7 +40,7 @@ pub fn expand(key: [u8; 16]) -> [u8; 176]
 {
     let table = all_substitutes();
     let mut w = [0u8; 176];
-    bytes::copy(&key, &mut w);
+    w[..16].copy_from_slice(&key);
     let mut p: usize = 16;
     while p < 176 {
         let from = p - p % 4;
@@ -58,7 +58,7 @@ fn round_key(keys: &[u8], n: usize) -> [u8; 16]
 {
     let mut k = [0u8; 16];
     let at = 16 * n;
-    bytes::copy(&keys[at..at + 16], &mut k);
+    k.copy_from_slice(&keys[at..at + 16]);
     k
 }
 

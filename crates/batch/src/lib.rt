@@ -11,7 +11,7 @@ use node::Answer;
 
 // Where a walk has come to. It begins at `Cursor::start()`.
 #[repr(C)]
-#[derive(Drop)]
+#[derive(Clone, Copy)]
 pub struct Cursor {
     pub place: usize,
     pub ended: bool,
@@ -19,7 +19,7 @@ pub struct Cursor {
 
 // What one step of a walk finds: a PDU's answer and the next cursor; no more PDU; or a batch of more than `BATCH_LIMIT` bytes, whose number is 54.
 // The places in the answer count from the PDU's first byte, which is at the cursor's place.
-#[derive(Drop)]
+#[derive(Clone, Copy)]
 pub enum Stepped {
     Answered(Answer, Cursor),
     Ended,
@@ -27,7 +27,7 @@ pub enum Stepped {
 }
 
 // The numbers of a step: a PDU's two, one that comes alone, or none.
-#[derive(Drop)]
+#[derive(Clone, Copy)]
 pub enum Numbers {
     Two { delivery: u8, repeat: u8 },
     Alone(u8),

@@ -7,7 +7,7 @@ ghost use Rattle.bound.specs.Command.{sendings_bound, command_bound};
 ghost use Rattle.bound.specs.Answer.{within64_bits, bound_answer, bound_number};
 
 // An answer: the number, or that it is more than 64 bits hold, or that the hop limit is above 7.
-#[derive(Drop)]
+#[derive(Clone, Copy)]
 pub enum Bound {
     Exactly(u64),
     TooLarge,

@@ -10,7 +10,7 @@ use retained::Outcome;
 // What a node is set to. Edition 11 is 1.1 and 12 is 1.2. Of each kind of list a number chooses: 1 the first of its two lists, 2 the second; 0, and any
 // other number, chooses none.
 #[repr(C)]
-#[derive(Drop)]
+#[derive(Clone, Copy)]
 pub struct MantNode {
     pub edition: u64,
     pub own: u16,
@@ -26,7 +26,7 @@ pub struct MantNode {
 // `delivered_place` in the received bytes; place and length are 0 where nothing is delivered. `repeated_length` is 0 where nothing is repeated. `taken`
 // is where the next PDU begins in the received bytes, and 0 where the edition is not known, a list is at fault or no PDU can be read.
 #[repr(C)]
-#[derive(Drop)]
+#[derive(Clone, Copy)]
 pub struct MantAnswer {
     pub delivery: u8,
     pub repeat: u8,
@@ -40,7 +40,7 @@ pub struct MantAnswer {
 
 // The node's answer for a PDU, and the table's number for it: 0, or 55 where its source is new while there is no room for another.
 #[repr(C)]
-#[derive(Drop)]
+#[derive(Clone, Copy)]
 pub struct MantListened {
     pub answer: MantAnswer,
     pub table_number: u8,
@@ -48,7 +48,7 @@ pub struct MantListened {
 
 // The node's answer for a PDU, and what was done by it in a table of retained PDUs and in the output.
 #[repr(C)]
-#[derive(Drop)]
+#[derive(Clone, Copy)]
 pub struct MantHeardReliably {
     pub answer: MantAnswer,
     pub outcome: Outcome,

@@ -14,7 +14,7 @@ const NO_NUMBER: u8 = 255;
 // 255, which is no number. Kind 2: the batch is too long, both numbers are 54. With kinds 1 and 2 the rest of the answer is 0 and the next cursor
 // is the one given, ended.
 #[repr(C)]
-#[derive(Drop)]
+#[derive(Clone, Copy)]
 pub struct MantStep {
     pub kind: u8,
     pub answer: MantAnswer,

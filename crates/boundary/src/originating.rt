@@ -7,7 +7,7 @@ use pdu::Destination;
 // What a caller asks of a fresh PDU. `destination` counts where `has_destination` is set. Edition, hop limit and port are wider than what they hold, so
 // that a number too large arrives whole and is refused. `encrypted` marks a payload that is already encrypted; edition 1.1 has no such mark.
 #[repr(C)]
-#[derive(Drop)]
+#[derive(Clone, Copy)]
 pub struct MantFresh {
     pub edition: u64,
     pub source: u16,

@@ -8,7 +8,7 @@ use ways::Airtime;
 
 // A bound: number 0 and the value; or 10 for a hop limit above 7; or that the value is too large for 64 bits. The value is 0 in the last two.
 #[repr(C)]
-#[derive(Drop)]
+#[derive(Clone, Copy)]
 pub struct MantBound {
     pub number: u8,
     pub too_large: bool,
@@ -18,7 +18,7 @@ pub struct MantBound {
 // How often a message goes out on a network, or how many bytes that is: number 0 and the value; or 10 for a hop limit above 7; or that the network is not
 // served; or that the value is as large as what the caller said is enough, or larger. The value is 0 in the last three.
 #[repr(C)]
-#[derive(Drop)]
+#[derive(Clone, Copy)]
 pub struct MantAirtime {
     pub number: u8,
     pub served: bool,
@@ -28,7 +28,7 @@ pub struct MantAirtime {
 
 // Document 01's sizes, in bytes; the path's in addresses, a list's in values.
 #[repr(C)]
-#[derive(Drop)]
+#[derive(Clone, Copy)]
 pub struct MantLimits {
     pub fixed: usize,
     pub payload: usize,

@@ -11,7 +11,7 @@ use view::Summary;
 // the header's length and the PDU's. Edition 1.1 has no encrypted flag: `has_encrypted` and `encrypted` are false, and `reserved` is 0 to 7; in 1.2 it
 // is 0 to 3. `last_sender` counts where `has_last_sender` is set, and is 0 where not. With a refusal all fields after the number are 0 and false.
 #[repr(C)]
-#[derive(Drop)]
+#[derive(Clone, Copy)]
 pub struct MantHeader {
     pub number: u8,
     pub protocol: u8,

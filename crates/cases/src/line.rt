@@ -19,7 +19,7 @@ const NO_SHAPE: usize = 6;
 // bracket before the `=` at `output` and the one before that at `input`, the `=` is at `end`, and the last bracket of all at `after`. Of the `count`
 // numbers the first `asked` stand before the `=`. Of the items up to `place`, the last `times` are `item` and still to be put there. `cases` lines were
 // judged before, and `wrong` of them wrong.
-#[derive(Drop)]
+#[derive(Clone, Copy)]
 pub(crate) struct Line {
     pub start: usize,
     pub length: usize,

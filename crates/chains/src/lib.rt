@@ -168,7 +168,7 @@ fn is_anywhere(lengths: &[u8], value: u8) -> bool
 }
 
 // The least hop limit of 0 to 7 that reaches all nodes, or that none does.
-#[derive(Drop)]
+#[derive(Clone, Copy)]
 pub enum Least {
     HopLimit(u8),
     Unreachable,

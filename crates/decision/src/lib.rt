@@ -12,7 +12,7 @@ ghost use Rattle.decision.specs.Decision.{is_echo, is_own_report, echo_fault, pa
 use pdu::{Destination, Header};
 
 // Which of a kind's two lists is on. Document 02, W-211.
-#[derive(Drop)]
+#[derive(Clone, Copy)]
 pub enum Choice {
     First,
     Second,
@@ -21,7 +21,7 @@ pub enum Choice {
 
 // What a node is set to: the edition, 11 for 1.1 or 12 for 1.2 (document 02, W-209), and document 01's settings. Of each kind of list the first, the
 // second or none is chosen (W-211). A pass list that is chosen and empty passes nothing.
-#[derive(Drop)]
+#[derive(Clone, Copy)]
 pub struct Settings {
     pub edition: u64,
     pub own: u16,

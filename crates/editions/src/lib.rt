@@ -8,14 +8,14 @@ ghost use Rattle.editions.specs.Editions.{write_again_under, written_again_under
 use pdu::{Destination, Header, Written};
 
 // The three bits after the port: in edition 1.1 one reserved number, 0 to 7; in 1.2 the encrypted flag and a reserved number, 0 to 3.
-#[derive(Drop)]
+#[derive(Clone, Copy)]
 pub enum Bits {
     Reserved(u8),
     Flagged { encrypted: bool, reserved: u8 },
 }
 
 // The fields of a header as an edition shows them, in the order of document 01's table. A PDU ID or path count that the PDU does not have is 0.
-#[derive(Drop)]
+#[derive(Clone, Copy)]
 pub struct Shown {
     pub protocol: u8,
     pub time_stamp_request: bool,
@@ -33,7 +33,7 @@ pub struct Shown {
 }
 
 // What reading under an edition shows: 17, then 1 to 6, where there is nothing to show. Only definitions use it: `view` returns a summary.
-#[derive(Drop)]
+#[derive(Clone, Copy)]
 pub enum EditionReading {
     Pdu(Shown),
     Refused(u8),

@@ -7,7 +7,7 @@ ghost use Rattle.elements.specs.Finding.{head_at, with_occurrence, only_occurren
 ghost use Rattle.elements.specs.Walking.{cut_element, element_of};
 
 // The first bytes of an element: its type, where its value begins, and where it ends.
-#[derive(Drop)]
+#[derive(Clone, Copy)]
 pub struct Head {
     pub type_number: usize,
     pub value_place: usize,
@@ -16,7 +16,7 @@ pub struct Head {
 
 // An element that is whole, with 0: its type, where its value lies, and where it ends. With 57 every other field is 0.
 #[repr(C)]
-#[derive(Drop)]
+#[derive(Clone, Copy)]
 pub struct Element {
     pub number: u8,
     pub type_number: u16,
@@ -26,35 +26,35 @@ pub struct Element {
 }
 
 // Where the only element of a type begins, if there is exactly one.
-#[derive(Drop)]
+#[derive(Clone, Copy)]
 pub enum Only {
     Once(usize),
     Not,
 }
 
 // The only element of each of two types.
-#[derive(Drop)]
+#[derive(Clone, Copy)]
 pub struct Pair {
     pub first: Only,
     pub second: Only,
 }
 
 // A type or a length, and how many bytes it has.
-#[derive(Drop)]
+#[derive(Clone, Copy)]
 struct Number {
     value: usize,
     size: usize,
 }
 
 // What is wrong with an element, 57, 58 or 0, and where it ends.
-#[derive(Drop)]
+#[derive(Clone, Copy)]
 struct Judged {
     number: u8,
     end: usize,
 }
 
 // How often an element of a type was met, and where it began.
-#[derive(Drop)]
+#[derive(Clone, Copy)]
 enum Occurrences {
     Never,
     Single(usize),

@@ -14,7 +14,7 @@ use pdu::Written;
 
 // What reading an exchange answers: 0 with place and length of header and payload in the input, or a refusal's number with zeros.
 #[repr(C)]
-#[derive(Drop)]
+#[derive(Clone, Copy)]
 pub struct Exchange {
     pub number: u8,
     pub header_place: usize,

@@ -10,28 +10,28 @@ ghost use Rattle.batch.specs.Walk.{batch_limit};
 ghost use Rattle.job.specs.Jobs.{first_if, settings_of, values_in, padded_values};
 
 // Own address and flags, or the number they were refused with.
-#[derive(Drop)]
+#[derive(Clone, Copy)]
 enum JobHead {
     Found { own: u16, flags: u8 },
     Refused(u8),
 }
 
 // Where a section's contents begin, and how many they are: ranges of 4 bytes, or the batch's bytes.
-#[derive(Drop)]
+#[derive(Clone, Copy)]
 pub struct Section {
     pub place: usize,
     pub count: usize,
 }
 
 // A section, or the number it was refused with.
-#[derive(Drop)]
+#[derive(Clone, Copy)]
 pub enum Taken {
     At(Section),
     Refused(u8),
 }
 
 // A job that has no fault. The sections lie in the bytes it was read from.
-#[derive(Drop)]
+#[derive(Clone, Copy)]
 pub struct Job {
     pub own: u16,
     pub flags: u8,
@@ -43,7 +43,7 @@ pub struct Job {
 }
 
 // A job, or the number it was refused with.
-#[derive(Drop)]
+#[derive(Clone, Copy)]
 pub enum JobReading {
     Job(Job),
     Refused(u8),

@@ -42,7 +42,7 @@ fn lesser(a: usize, b: usize) -> usize
 
 // The fault of the first list that has one: its number, and the list's place in checking order, 0 to 7. 0 and 8 where none has one.
 #[repr(C)]
-#[derive(Drop)]
+#[derive(Clone, Copy)]
 pub struct ListFault {
     pub number: u8,
     pub list: u8,

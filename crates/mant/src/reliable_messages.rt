@@ -83,7 +83,7 @@ pub extern "C" fn mant_acknowledge(
 }
 
 // What a node answers for a PDU, and what the PDU asks of a table.
-#[derive(Drop)]
+#[derive(Clone, Copy)]
 struct Heard {
     answer: MantAnswer,
     ask: Ask,

@@ -13,7 +13,7 @@ use sha1::Running;
 
 // What C hands over as a key.
 #[repr(C)]
-#[derive(Drop)]
+#[derive(Clone, Copy)]
 pub struct Key {
     pub bytes: [u8; 16],
 }

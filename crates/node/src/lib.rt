@@ -19,7 +19,7 @@ mod repeat;
 // What a node returns for one PDU. The delivered payload lies at `delivered_place` in the received bytes; place and length are 0 if nothing is delivered.
 // `repeated_length` is 0 if nothing is repeated. `taken` is where the next PDU begins in the received bytes. `last_sender` is who the PDU was heard from.
 // If the edition or a list is refused, or no PDU can be read, `taken` is 0 and the last sender unknown.
-#[derive(Drop)]
+#[derive(Clone, Copy)]
 pub struct Answer {
     pub delivery: u8,
     pub repeat: u8,

@@ -15,7 +15,7 @@ use pdu::{Header, Written};
 
 // The message number of a sealed PDU, or why there is none.
 #[repr(C)]
-#[derive(Drop)]
+#[derive(Clone, Copy)]
 pub struct Numbered {
     pub number: u8,
     pub message: u32,

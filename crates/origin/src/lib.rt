@@ -9,7 +9,7 @@ use pdu::{Destination, Header, Written};
 
 // What a caller asks of a fresh PDU. Edition, hop limit and port are wider than what they hold, so that a number too large arrives whole and is refused.
 // `encrypted` marks a payload that is already encrypted; edition 1.1 has no such mark.
-#[derive(Drop)]
+#[derive(Clone, Copy)]
 pub struct FreshSettings {
     pub edition: u64,
     pub source: u16,

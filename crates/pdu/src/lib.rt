@@ -12,21 +12,21 @@ ghost use Rattle.pdu.specs.Reading.{read_of, refusal_number, reading_number, no_
 use octets::{byte_value, word_value};
 
 // Who a PDU is for.
-#[derive(Drop)]
+#[derive(Clone, Copy)]
 pub enum Destination {
     Everyone,
     Address(u16),
 }
 
 // Who a PDU was heard from: the last node that sent it, where that is known. Address 0 is an address like any other.
-#[derive(Drop)]
+#[derive(Clone, Copy)]
 pub enum Sender {
     Unknown,
     Known(u16),
 }
 
 // The fields of a header, in the order of document 01's table. A PDU ID or path count that the PDU does not have is 0.
-#[derive(Drop)]
+#[derive(Clone, Copy)]
 pub struct Header {
     pub protocol: u8,
     pub time_stamp_request: bool,
@@ -45,7 +45,7 @@ pub struct Header {
 }
 
 // Why bytes are not a PDU: document 01's numbers 1 to 6, in that order.
-#[derive(Drop)]
+#[derive(Clone, Copy)]
 pub enum Refusal {
     TooShort,
     WrongVersion,
@@ -56,7 +56,7 @@ pub enum Refusal {
 }
 
 // What reading answers.
-#[derive(Drop)]
+#[derive(Clone, Copy)]
 pub enum Reading {
     Pdu(Header),
     Refused(Refusal),
@@ -64,7 +64,7 @@ pub enum Reading {
 
 // How far a PDU reaches: its path's addresses and its payload's bytes, and where header and PDU end, counted from its first byte. Of bytes that are no PDU
 // the number of the refusal, and 0 in every other field.
-#[derive(Drop)]
+#[derive(Clone, Copy)]
 pub struct Extent {
     pub number: u8,
     pub path_count: u8,
@@ -74,7 +74,7 @@ pub struct Extent {
 }
 
 // Document 01's sizes, in bytes; the path's in addresses.
-#[derive(Drop)]
+#[derive(Clone, Copy)]
 pub struct Limits {
     pub fixed: usize,
     pub payload: usize,
@@ -85,7 +85,7 @@ pub struct Limits {
 
 // What writing answers: 0 and how many bytes were written, or the refusal's number and 0.
 #[repr(C)]
-#[derive(Drop)]
+#[derive(Clone, Copy)]
 pub struct Written {
     pub number: u8,
     pub length: usize,

@@ -2,7 +2,7 @@
 ghost use Rattle.std.specs.Prelude.{◌≡◌, ◌<◌};
 ghost use Rattle.plan.specs.Argument.{with_digit, argument_of};
 
-#[derive(Drop)]
+#[derive(Clone, Copy)]
 pub enum Argument {
     Number(u64),
     NotDecimal,

@@ -10,14 +10,14 @@ ghost use Rattle.queue.specs.Queue.{memory_length, numbers_in, pdus_in, level_of
 
 // How many PDUs there are, and how many bytes they have.
 #[repr(C)]
-#[derive(Drop)]
+#[derive(Clone, Copy)]
 pub struct Level {
     pub pdus: usize,
     pub bytes: usize,
 }
 
 // What a queue's memory keeps in front: how many PDUs are held, how many bytes they have, and how far behind these numbers the oldest begins.
-#[derive(Drop)]
+#[derive(Clone, Copy)]
 pub struct QueueNumbers {
     pub pdus: usize,
     pub bytes: usize,

@@ -10,7 +10,7 @@ use pdu::{Destination, Header};
 
 // The PDU in its first `length` bytes, when it was last sent, in seconds, and how often it was sent again.
 #[repr(C)]
-#[derive(Drop)]
+#[derive(Clone, Copy)]
 pub struct Retained {
     pub pdu: [u8; 256],
     pub length: usize,
@@ -20,7 +20,7 @@ pub struct Retained {
 
 // What a retained PDU is known by.
 #[repr(C)]
-#[derive(Drop)]
+#[derive(Clone, Copy)]
 pub struct Names {
     pub source: u16,
     pub destination: u16,
@@ -29,7 +29,7 @@ pub struct Names {
 
 // What an operation answers: its number, the last accepted time, what was done and to which place, the PDU's names, and the bytes written.
 #[repr(C)]
-#[derive(Drop)]
+#[derive(Clone, Copy)]
 pub struct Outcome {
     pub number: u8,
     pub deed: u8,

@@ -12,7 +12,7 @@ ghost use Rattle.retained_operations.specs.declared.Kind.TheVariants.{Search, An
 use retained::{Names, Outcome, Retained};
 
 // What an ask comes to: a record is sought, a PDU that was heard is answered, or nothing is done.
-#[derive(Drop)]
+#[derive(Clone, Copy)]
 pub enum Kind {
     Search,
     Answer,
@@ -20,7 +20,7 @@ pub enum Kind {
 }
 
 // `early` is a refusal that comes before the table is looked at, `late` one that comes after 74 and 73; 0 for none. `length` is the length of an answer.
-#[derive(Drop)]
+#[derive(Clone, Copy)]
 pub struct Ask {
     pub kind: Kind,
     pub early: u8,
@@ -35,7 +35,7 @@ pub struct Ask {
 }
 
 // What is to be done to the record at `place`, and the count that it then has; nothing, where there is no such place.
-#[derive(Drop)]
+#[derive(Clone, Copy)]
 pub struct Effect {
     pub place: usize,
     pub count: u64,

@@ -8,7 +8,7 @@ use sha1_block::Five;
 use std::num::wrapping_add_u64;
 
 // A message that comes part by part: the hash value of its full blocks, the block that is being filled, and how many bytes came, modulo 2^64.
-#[derive(Drop)]
+#[derive(Clone, Copy)]
 pub struct Running {
     pub hash: Five,
     pub block: [u8; 64],

@@ -65,7 +65,7 @@ fn sum(a: u32, b: u32, c: u32, d: u32, e: u32) -> u32
 }
 
 // The five variables of a step, or the five words of a hash value.
-#[derive(Drop)]
+#[derive(Clone, Copy)]
 pub struct Five {
     pub a: u32,
     pub b: u32,

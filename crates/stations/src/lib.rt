@@ -17,7 +17,7 @@ impl Station {
 // A source address that was heard: how many PDUs were read from it, how many of those were dropped by echo, and the least path count of those that
 // have the path bit. `has_path` is false, and the path count 0, while there was none.
 #[repr(C)]
-#[derive(Drop)]
+#[derive(Clone, Copy)]
 pub struct Station {
     pub address: u16,
     pub reads: u16,
@@ -28,14 +28,14 @@ pub struct Station {
 
 // The number 0 and a station, or 56 and a station that is all 0.
 #[repr(C)]
-#[derive(Drop)]
+#[derive(Clone, Copy)]
 pub struct Found {
     pub number: u8,
     pub station: Station,
 }
 
 // Where an address stands in the rising order, or would stand, and whether it is held.
-#[derive(Drop)]
+#[derive(Clone, Copy)]
 pub struct FoundPlace {
     pub place: usize,
     pub is_held: bool,

@@ -15,7 +15,7 @@ const NOT_HELD: u8 = 56;
 
 // What the table sees of a PDU that was read: its source, whether echo dropped it, and its path count, which counts where the path bit is set.
 #[repr(C)]
-#[derive(Drop)]
+#[derive(Clone, Copy)]
 pub struct Heard {
     pub source: u16,
     pub echo: bool,

@@ -19,7 +19,7 @@ const OLDEST_DOES_NOT_FIT: u8 = 62;
 
 // What taking answers: 0, how many PDUs were written and released, and how many bytes they have; or 62 with zeros.
 #[repr(C)]
-#[derive(Drop)]
+#[derive(Clone, Copy)]
 pub struct Batch {
     pub number: u8,
     pub pdus: usize,

@@ -14,7 +14,7 @@ use editions::Shown;
 use pdu::{Extent, Sender};
 
 // A received PDU, or bytes that are none: then `at` has the number of the refusal. Any bytes and extent make a view that is defined.
-#[derive(Drop)]
+#[derive(Clone, Copy)]
 pub struct Pdu<'a> {
     pub bytes: &'a [u8],
     pub at: Extent,
@@ -22,7 +22,7 @@ pub struct Pdu<'a> {
 
 // What an edition shows of a PDU: 0, its header, who it was heard from, and the lengths of header and PDU.
 // Of a refusal its number, a header with no field set, an unknown sender and lengths 0.
-#[derive(Drop)]
+#[derive(Clone, Copy)]
 pub struct Summary {
     pub number: u8,
     pub header: Shown,

@@ -12,7 +12,7 @@ use octets::{byte, byte_value};
 
 // An answer: how many, or that there are at least as many as the caller said is enough, or that the hop limit is above 7, or that the network is not
 // served.
-#[derive(Drop)]
+#[derive(Clone, Copy)]
 pub enum Airtime {
     Exactly(u64),
     Enough,

@@ -1,0 +1,7 @@
+use Rattle.stations.proofs.Memory.{station_read}
+use Prim.Native.Nat.{◌+◌, ◌*◌}
+use Rattle.stations.proofs.station_from.Goals as goal
+
+pub returns : goal.returns
+returns c =
+    (station_read c.args.table.now (4 * c.args.place + 1) _ c.one_less.ensures.0, c.one_less.ensures.1)
