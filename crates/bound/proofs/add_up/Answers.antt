@@ -8,12 +8,12 @@ loop-k-init c = (none_added c.args.size c.args.growth c.args.nodes (omega arith)
 pub returns-in_default : goal.returns-in_default
 returns-in_default c =
     paths_past c.loop-k.invariant.0 _ c.loop-k-test.true c.requires.1
-    (past _ _ c.times.ensures c.in_default.keys2)
+    (past _ _ c.times.ensures c.in_default.in_default-own.keys2)
 
 pub returns-in_default-plus : goal.returns-in_default-plus
 returns-in_default-plus c =
     grown_past c.loop-k.invariant.0 _ c.loop-k-test.true c.requires.0
-    (past _ _ c.plus.ensures c.in_default-plus.keys2)
+    (past _ _ c.plus.ensures c.in_default-plus.in_default-plus-own.keys2)
 
 pub returns-in_default-times : goal.returns-in_default-times
 returns-in_default-times c =

@@ -10,17 +10,17 @@ returns-then-hop_limit-gt7 c = sym (hop_refused _ _ (omega arith))
 pub returns-in_default : goal.returns-in_default
 returns-in_default c =
     let s = c.args in
-    each_past s.tries s.nodes s.hop-limit (omega arith)
-    (taken_past c.most_transmissions.ensures (omega arith) c.in_default.keys2)
+    each_past s.tries s.nodes s.hop_limit (omega arith)
+    (taken_past c.most_transmissions.ensures (omega arith) c.in_default.in_default-own.keys2)
 
 pub returns-in_default-plus : goal.returns-in_default-plus
 returns-in_default-plus c =
     let s = c.args in
-    tries_past s.tries s.nodes s.hop-limit (omega arith) (past _ _ c.plus.ensures c.in_default-plus.keys2)
+    tries_past s.tries s.nodes s.hop_limit (omega arith) (past _ _ c.plus.ensures c.in_default-plus.in_default-plus-own.keys2)
 
 pub returns : goal.returns
 returns c =
     let s = c.args in
-    sendings_are s.tries s.nodes s.hop-limit (omega arith) c.times.ensures
+    sendings_are s.tries s.nodes s.hop_limit (omega arith) c.times.ensures
     (exact _ _ c.plus.ensures c.sendings-1.given.1).0
     (taken_exact c.most_transmissions.ensures (omega arith) c.each-1.given.1)

@@ -10,11 +10,11 @@ pub loop-i-preserved : goal.loop-i-preserved
 loop-i-preserved c =
     let l = c.loop-i in
     let a = c.args in
-    let more = counts a.hop-limit a.lengths.now l.i (l.i + 1) _ (omega arith) (omega arith) c.is_missed.ensures in
+    let more = counts a.hop_limit a.lengths.now l.i (l.i + 1) _ (omega arith) (omega arith) c.is_missed.ensures in
     (omega arith, omega (arith, l.invariant, c.flag.ensures, c.byte_value-count.ensures), omega (arith, l.invariant, more, c.flag.ensures, c.byte_value-count.ensures))
 
 pub returns : goal.returns
 returns c =
     let l = c.loop-i in
     let a = c.args in
-    omega (arith, l.invariant, counted a.hop-limit a.lengths.now l.i (omega arith))
+    omega (arith, l.invariant, counted a.hop_limit a.lengths.now l.i (omega arith))

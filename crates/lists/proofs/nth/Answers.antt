@@ -10,4 +10,4 @@ pub returns-then-block-le-LISTS : goal.returns-then-block-le-LISTS
 returns-then-block-le-LISTS c = let a = c.args in sym (none_there a.block.now a.i (omega arith) (omega arith))
 
 pub returns : goal.returns
-returns c = this_list _ _ _ _ _ (omega arith) c.start_of_lem.ensures.0 c.length_at.ensures.0 c.values.ensures
+returns c = this_list _ _ _ _ _ (omega arith) c.start_of.ensures.0 c.length_at.ensures.0 c.values.ensures
