@@ -5,6 +5,13 @@ use Rattle.bound.proofs.add_up.Goals as goal
 pub loop-k-init : goal.loop-k-init
 loop-k-init c = (none_added c.args.size c.args.growth c.args.nodes (omega arith), omega arith)
 
+pub loop-k-smaller : goal.loop-k-smaller
+loop-k-smaller c =
+    omega (arith, few_turns c.loop-k.invariant.0 (omega arith))
+
+pub returns : goal.returns
+returns c = all_added c.loop-k.invariant.0 _ (omega arith)
+
 pub returns-in_default : goal.returns-in_default
 returns-in_default c =
     paths_past c.loop-k.invariant.0 _ c.loop-k-test.true c.requires.1
@@ -30,10 +37,6 @@ returns-in_default-plus-2 c =
     (exact _ _ c.times-in-loop-k.ensures c.term-1.given.1).0
     (past _ _ c.plus-in-loop-k.ensures c.in_default-plus-2.keys2)
 
-pub loop-k-smaller : goal.loop-k-smaller
-loop-k-smaller c =
-    omega (arith, few_turns c.loop-k.invariant.0 (omega arith))
-
 pub loop-k-preserved : goal.loop-k-preserved
 loop-k-preserved c =
     let paths-are = exact _ _ c.times.ensures c.more_paths-1.given.1 in
@@ -45,6 +48,3 @@ loop-k-preserved c =
           sum_is_lem.0 sum_is_lem.1 paths-are.1,
       omega arith,
     )
-
-pub returns : goal.returns
-returns c = all_added c.loop-k.invariant.0 _ (omega arith)

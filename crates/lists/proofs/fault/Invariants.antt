@@ -6,7 +6,7 @@ use Rattle.lists.proofs.fault.Given as goal
 
 abbrev pub invariant-loop-i : goal.invariant-loop-i
 invariant-loop-i l =
-    (l.i ≤ l.ranges) × (l.fault ≡ record { number = 0; l.list = 8 }) × (fault_of (list_at l.block l.k) ≡ range_fault_from (list_at l.block l.k) (2 * l.i))
+    (l.i ≤ l.ranges) × (l.fault ≡ record { number = 0; list = 8 }) × (fault_of (list_at l.block l.k) ≡ range_fault_from (list_at l.block l.k) (2 * l.i))
 
 abbrev pub decreases-loop-i : goal.decreases-loop-i
 decreases-loop-i l = l.ranges - l.i
