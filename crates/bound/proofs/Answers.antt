@@ -31,13 +31,8 @@ exact x v {r} is number =
     (λ h. let large = fitting_large x (omega arith) in let z : ◌≡◌ {A = ℕ} 0 1 = cc in absurd (omega arith))
 
 -- an answer that is not
-pub past : (x : ℕ) (r : Bound) → r ≡ within64_bits x → (tag_of the_type r ≡ 1) ⊎ (tag_of the_type r ≡ 2) → 2 ^ 64 ≤ x
-past x r is other =
-    by_cases (dec_lt x (2 ^ 64))
-    (λ h.
-    let none : tag_of the_type r ≡ 0 = ap (tag_of the_type) (is ∙ fitting_small x h) in
-    absurd (⊎_elim {C = ⊥} (λ e. omega arith) (λ e. omega arith) other))
-    (λ h. omega arith)
+pub past : (x : ℕ) (r : Bound) → r ≡ within64_bits x → ((v : ℕ) → r ≡ Exactly v → ⊥) → 2 ^ 64 ≤ x
+past x r is other = by_cases (dec_lt x (2 ^ 64)) (λ h. absurd (other x (is ∙ fitting_small x h))) (λ h. omega arith)
 
 -- the hop limit
 pub hop_refused : (h x : ℕ) → 7 < h → bound_answer h x ≡ HopRefused

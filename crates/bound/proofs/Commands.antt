@@ -32,7 +32,7 @@ right_past a b some h = omega (arith, le-mul_of_pos_right b some, mul_comm a b)
 
 -- at a hop limit that is taken, an answer that is no number, and one that is
 module _ {h x : ℕ} {r : Bound} (is : r ≡ bound_answer h x) (low : h ≤ 7) where
-  pub taken_past : (tag_of the_type r ≡ 1) ⊎ (tag_of the_type r ≡ 2) → 2 ^ 64 ≤ x
+  pub taken_past : ((v : ℕ) → r ≡ Exactly v → ⊥) → 2 ^ 64 ≤ x
   taken_past other = past x r (is ∙ hop_taken h x low) other
 
   pub taken_exact : {v : ℕ} → r ≡ Exactly v → v ≡ x

@@ -14,25 +14,25 @@ pub returns-in_default : goal.returns-in_default
 returns-in_default c =
     let s = c.args in
     sendings_past s.tries s.nodes s.hop_limit s.answer_nodes s.answer_hop_limit (omega arith) (omega arith)
-    (taken_past c.most_sendings.ensures (omega arith) c.in_default.in_default-own.keys2)
+    (taken_past c.most_sendings.ensures (omega arith) c.in_default.not-Exactly)
 
 pub returns-in_default-most_transmissions : goal.returns-in_default-most_transmissions
 returns-in_default-most_transmissions c =
     let s = c.args in
-    let large = taken_past c.most_transmissions.ensures (omega arith) c.in_default-most_transmissions.in_default-most_transmissions-own.keys2 in
-    answers_past s.tries s.nodes s.hop_limit s.answer-nodes s.answer-hop_limit (omega arith) (omega arith) refl (omega (arith, large))
+    let large = taken_past c.most_transmissions.ensures (omega arith) c.in_default-most_transmissions.not-Exactly in
+    answers_past s.tries s.nodes s.hop_limit s.answer_nodes s.answer_hop_limit (omega arith) (omega arith) refl (omega (arith, large))
 
 pub returns-in_default-plus : goal.returns-in_default-plus
 returns-in_default-plus c =
     let s = c.args in
     answers_past s.tries s.nodes s.hop_limit s.answer_nodes s.answer_hop_limit (omega arith) (omega arith)
-    (taken_exact c.most_transmissions.ensures (omega arith) c.answers-1.given.1)
-    (past _ _ c.plus.ensures c.in_default-plus.keys2)
+    (taken_exact c.most_transmissions.ensures (omega arith) c.in-Exactly-most_transmissions.is)
+    (past _ _ c.plus.ensures c.in_default-plus.not-Exactly)
 
 pub returns : goal.returns
 returns c =
     let s = c.args in
-    let answers-are = taken_exact c.most_transmissions.ensures (omega arith) c.answers-1.given.1 in
-    command_is s.tries s.nodes s.hop_limit s.answer-nodes s.answer-hop_limit (omega arith) (omega arith) c.times.ensures
-    (taken_exact c.most_sendings.ensures (omega arith) c.sendings-1.given.1)
-    (omega (arith, (exact _ _ c.plus.ensures c.each-1.given.1).0, answers-are))
+    let answers-are = taken_exact c.most_transmissions.ensures (omega arith) c.in-Exactly-most_transmissions.is in
+    command_is s.tries s.nodes s.hop_limit s.answer_nodes s.answer_hop_limit (omega arith) (omega arith) c.times.ensures
+    (taken_exact c.most_sendings.ensures (omega arith) c.in-Exactly.is)
+    (omega (arith, (exact _ _ c.plus.ensures c.in-Exactly-plus.is).0, answers-are))

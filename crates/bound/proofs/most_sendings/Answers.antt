@@ -11,16 +11,16 @@ pub returns-in_default : goal.returns-in_default
 returns-in_default c =
     let s = c.args in
     each_past s.tries s.nodes s.hop_limit (omega arith)
-    (taken_past c.most_transmissions.ensures (omega arith) c.in_default.in_default-own.keys2)
+    (taken_past c.most_transmissions.ensures (omega arith) c.in_default.not-Exactly)
 
 pub returns-in_default-plus : goal.returns-in_default-plus
 returns-in_default-plus c =
     let s = c.args in
-    tries_past s.tries s.nodes s.hop_limit (omega arith) (past _ _ c.plus.ensures c.in_default-plus.in_default-plus-own.keys2)
+    tries_past s.tries s.nodes s.hop_limit (omega arith) (past _ _ c.plus.ensures c.in_default-plus.not-Exactly)
 
 pub returns : goal.returns
 returns c =
     let s = c.args in
     sendings_are s.tries s.nodes s.hop_limit (omega arith) c.times.ensures
-    (exact _ _ c.plus.ensures c.sendings-1.given.1).0
-    (taken_exact c.most_transmissions.ensures (omega arith) c.each-1.given.1)
+    (exact _ _ c.plus.ensures c.in-Exactly-plus.is).0
+    (taken_exact c.most_transmissions.ensures (omega arith) c.in-Exactly.is)
