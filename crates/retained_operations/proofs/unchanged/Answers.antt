@@ -1,0 +1,4 @@
+use Rattle.retained_operations.proofs.unchanged.Goals as goal
+
+pub returns : goal.returns
+returns c = simp c.no_names-names.ensures

@@ -1,0 +1,18 @@
+use lib.ListN.{length}
+use Rattle.ways.proofs.Rows.{filled}
+use native.Mathlib.Omega.{arith}
+use Rattle.ways.proofs.fill.Reads as reads
+use Rattle.ways.proofs.fill.Lts as lts
+use Rattle.ways.proofs.clear.Reads as clear_reads
+use Rattle.ways.proofs.link.Reads as link-reads
+use Rattle.ways.proofs.mark.Reads as mark-reads
+use Rattle.ways.proofs.fill.Goals as goal
+
+pub link-requires : goal.link-requires
+link-requires c = (omega arith, omega arith)
+
+pub returns : goal.returns
+returns c =
+    let a = c.args in
+    filled a.pairs.now _ _ _ a.nodes (length a.table.now) (λ i. (c.shared_slice_known-1.given i).fits) (omega arith) (omega arith)
+    c.clear.ensures c.mark.ensures c.link.ensures
