@@ -11,7 +11,7 @@ use Rattle.aes_field.specs.Field.{xtime, field_product, ◌•◌, raised, inver
 use Rattle.aes_rounds.specs.Rounds.{mix_column, round, last_round}
 use Rattle.aes.specs.Cipher.{round_key, rounds, cipher, power, temp, next_key_word, expansion, key_expansion}
 use Rattle.sha1_block.specs.Sha1Block.{mixing, constant, block_word, words, schedule, hash_step, hash_steps, compressed}
-use Rattle.sha1.specs.Sha1.{padding, padded, hashed, sha1}
+use Rattle.sha1_digest.specs.Sha1.{padding, padded, hashed, sha1}
 use Rattle.ctr.specs.Ctr.{counter_block, stream, added, counter_mode}
 use Rattle.pdu.specs.Header.{header_of}
 use Rattle.pdu.specs.Parts.{addresses_at}

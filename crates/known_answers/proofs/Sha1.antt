@@ -3,7 +3,7 @@
 use mathlib.Core.Path.{◌≡◌, refl}
 use mathlib.Core.List.{[], ◌∷◌}
 use Rattle.sha1_block.specs.Sha1Block.{mixing, constant, block_word, words, schedule, hash_step, hash_steps, compressed}
-use Rattle.sha1.specs.Sha1.{padding, padded, hashed, sha1}
+use Rattle.sha1_digest.specs.Sha1.{padding, padded, hashed, sha1}
 
 pub abc :
     sha1 (97 ∷ 98 ∷ 99 ∷ [])

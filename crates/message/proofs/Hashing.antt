@@ -6,9 +6,9 @@ use lib.ListN.{take, drop}
 use Rattle.octets.specs.Octets.{at}
 use Rattle.pdu.specs.Header.{path_count_place}
 use Rattle.sha1_block.specs.declared.Five.{Five}
-use Rattle.sha1.specs.declared.Running.{Running}
-use Rattle.sha1.specs.Sha1.{four_bytes, hash_begun, fed, final_hash, finished}
-use Rattle.sha1.proofs.Feeding.{fed_append, finished_fed}
+use Rattle.sha1_digest.specs.declared.Running.{Running}
+use Rattle.sha1_digest.specs.Sha1.{four_bytes, hash_begun, fed, final_hash, finished}
+use Rattle.sha1_digest.proofs.Feeding.{fed_append, finished_fed}
 use Rattle.message.specs.Protection.{message_number_bytes, masked_byte, hashed_header, hash_bytes}
 
 -- the header's first four bytes, those up to the path count, and the number

@@ -2,7 +2,7 @@
 use Rattle.std.specs.Prelude.{ℕ, ◌+◌, ◌-◌, ◌*◌, ◌/◌, ◌%◌, List, [], ◌∷◌, ◌++◌, take, drop}
 use Rattle.octets.specs.Octets.{at, word_bytes}
 use Rattle.pdu.specs.Header.{hop_limit, source_place, path_count_place}
-use Rattle.sha1.specs.Sha1.{sha1}
+use Rattle.sha1_digest.specs.Sha1.{sha1}
 
 -- the message number is 3 bytes long, and so 16,777,215 at most
 abbrev pub number_limit : ℕ

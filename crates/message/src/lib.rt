@@ -2,14 +2,14 @@
 #![tactic(auto)]
 
 ghost use Rattle.std.specs.Prelude.{◌≡◌, ◌++◌, ◌-◌, ◌<◌, ◌≤◌, take};
-ghost use Rattle.sha1.specs.Sha1.{hash_begun, fed, finished};
+ghost use Rattle.sha1_digest.specs.Sha1.{hash_begun, fed, finished};
 ghost use Rattle.pdu.specs.Header.{header_of};
 ghost use Rattle.pdu.specs.Parts.{payload_in};
 ghost use Rattle.message.specs.Protection.{message_number_bytes, number_in, added_length, masked_byte, hashed_header, hash_bytes, nonce_of};
 ghost use Rattle.message.specs.Sealable.{seal_number, refused_with};
 
 use pdu::{Header, Written, fields};
-use sha1::Running;
+use sha1_digest::Running;
 
 // What C hands over as a key.
 #[repr(C)]
@@ -86,20 +86,20 @@ pub fn begin_hash(bytes: &[u8], number: u32) -> Running
         masked(octets::byte(bytes, 2)),
         octets::byte(bytes, 3),
     ];
-    let fixed = sha1::feed(sha1::begin(), &first);
-    let header = sha1::feed(
+    let fixed = sha1_digest::feed(sha1_digest::begin(), &first);
+    let header = sha1_digest::feed(
         fixed,
         octets::part(bytes, 4, fields::path_count_place(byte0) - 4),
     );
     let digits = number_bytes(number);
-    sha1::feed(header, &digits)
+    sha1_digest::feed(header, &digits)
 }
 
 // The hash's most significant 4 bytes, once all was fed: those of the hash value's first word. Document 000, 3.5.3.
 fn finish_hash(running: Running) -> [u8; 4]
     ensures { result ≡ take 4 (finished running) }
 {
-    let word = sha1::finish(running).a;
+    let word = sha1_digest::finish(running).a;
     [
         (word / 16777216 % 256) as u8,
         (word / 65536 % 256) as u8,
@@ -114,7 +114,7 @@ pub fn hash_of(sent: &[u8], number: u32, pdu: &[u8]) -> [u8; 4]
 {
     let begun = begin_hash(sent, number);
     let header = pdu::header_of(pdu);
-    finish_hash(sha1::feed(begun, pdu::parts::payload(pdu, header)))
+    finish_hash(sha1_digest::feed(begun, pdu::parts::payload(pdu, header)))
 }
 
 // The length of the plain payload under a header: 0 where there is no room for number and hash. Document 000, 3.5.3.

@@ -17,7 +17,7 @@ use Rattle.aes_rounds.specs.Rounds.{listed, cell, word, sub_bytes, shift_rows, a
 use Rattle.aes.specs.Cipher.{round_key, rounds, cipher, plus, rot_word, sub_word, power, rcon, temp, next_key_word, expansion, key_expansion}
 use Rattle.ctr.specs.Ctr.{counter_block, stream, added, counter_mode}
 use Rattle.sha1_block.specs.declared.Five.{Five}
-use Rattle.sha1.specs.Sha1.{four_bytes, padded, hashed, digest, sha1}
+use Rattle.sha1_digest.specs.Sha1.{four_bytes, padded, hashed, digest, sha1}
 use Rattle.pdu.specs.declared.Header.{Header}
 use Rattle.pdu.specs.Header.{header_of}
 use Rattle.pdu.specs.Sizes.{header_length, pdu_length}

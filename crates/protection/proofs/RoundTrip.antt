@@ -13,7 +13,7 @@ use Rattle.octets.proofs.Numbering.{or_else_later, gives_later, gives_none}
 use Rattle.aes.specs.Cipher.{key_expansion}
 use Rattle.ctr.specs.Ctr.{stream, counter_mode}
 use Rattle.ctr.proofs.Twice.{added_twice}
-use Rattle.sha1.specs.Sha1.{sha1}
+use Rattle.sha1_digest.specs.Sha1.{sha1}
 use Rattle.pdu.specs.declared.Header.{Header}
 use Rattle.pdu.specs.declared.Reading.{Reading}
 use Rattle.pdu.specs.declared.Reading.TheVariants.{Pdu}

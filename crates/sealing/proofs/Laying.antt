@@ -16,8 +16,8 @@ use Rattle.octets.proofs.Tests.{flag_small}
 use Rattle.aes.specs.Cipher.{key_expansion}
 use Rattle.ctr.specs.Ctr.{stream, added, counter_mode}
 use Rattle.ctr.proofs.Streams.{length_added}
-use Rattle.sha1.specs.Sha1.{sha1}
-use Rattle.sha1.proofs.Feeding.{twenty}
+use Rattle.sha1_digest.specs.Sha1.{sha1}
+use Rattle.sha1_digest.proofs.Feeding.{twenty}
 use Rattle.pdu.specs.declared.Header.{Header}
 use Rattle.pdu.specs.declared.Reading.TheVariants.{Pdu}
 use Rattle.pdu.specs.Header.{header_of, source_place, path_count_place}

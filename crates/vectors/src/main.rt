@@ -39,20 +39,20 @@ fn show_word(word: u32) {
 }
 
 fn show_digest(message: &[u8]) {
-    show_hash(sha1::finish(sha1::feed(sha1::begin(), message)));
+    show_hash(sha1_digest::finish(sha1_digest::feed(sha1_digest::begin(), message)));
 }
 
 // The letter a, a million times, in a thousand parts.
 fn show_million() {
     let part = [97u8; 1000];
-    let mut running = sha1::begin();
+    let mut running = sha1_digest::begin();
     let mut n: usize = 0;
     while n < 1000 {
-        let next = sha1::feed(running, &part);
+        let next = sha1_digest::feed(running, &part);
         running = next;
         n += 1;
     }
-    show_hash(sha1::finish(running));
+    show_hash(sha1_digest::finish(running));
 }
 
 // Document 002's example: the payload and its hash, enciphered as one and in two parts.

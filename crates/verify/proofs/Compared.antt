@@ -14,9 +14,9 @@ use borrow.Author.Tests.{eq-eqb, eqb-true, ne_eqb}
 use Rattle.octets.specs.Octets.{at, over}
 use Rattle.ctr.specs.Ctr.{stream, added}
 use Rattle.sha1_block.specs.declared.Five.{Five}
-use Rattle.sha1.specs.declared.Running.{Running}
-use Rattle.sha1.specs.Sha1.{four_bytes, hash_begun, fed, final_hash, sha1}
-use Rattle.sha1.proofs.Feeding.{fed_append, finished_fed}
+use Rattle.sha1_digest.specs.declared.Running.{Running}
+use Rattle.sha1_digest.specs.Sha1.{four_bytes, hash_begun, fed, final_hash, sha1}
+use Rattle.sha1_digest.proofs.Feeding.{fed_append, finished_fed}
 use Rattle.pdu.specs.declared.Header.{Header}
 use Rattle.pdu.specs.Header.{header_of, source_of}
 use Rattle.pdu.specs.Parts.{payload_in}

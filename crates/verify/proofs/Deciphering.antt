@@ -12,9 +12,9 @@ use Rattle.octets.proofs.Placing.{is_after, placed_start}
 use Rattle.aes_field.specs.Field.{◌⊕◌}
 use Rattle.ctr.specs.Ctr.{added}
 use Rattle.ctr.proofs.Streams.{length_added, added_append}
-use Rattle.sha1.specs.declared.Running.{Running}
-use Rattle.sha1.specs.Sha1.{fed}
-use Rattle.sha1.proofs.Feeding.{fed_append}
+use Rattle.sha1_digest.specs.declared.Running.{Running}
+use Rattle.sha1_digest.specs.Sha1.{fed}
+use Rattle.sha1_digest.proofs.Feeding.{fed_append}
 
 module _ (s : ℕ → ℕ) where
   -- a part of what was put through the stream

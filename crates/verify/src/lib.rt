@@ -4,11 +4,11 @@
 ghost use Rattle.std.specs.Prelude.{◌≡◌, ◌++◌, ◌≤◌, ◌<◌, length, replicate};
 ghost use Rattle.octets.specs.Octets.{over};
 ghost use Rattle.ctr.specs.Ctr.{stream, added};
-ghost use Rattle.sha1.specs.Sha1.{four_bytes, hash_begun, fed, final_hash};
+ghost use Rattle.sha1_digest.specs.Sha1.{four_bytes, hash_begun, fed, final_hash};
 ghost use Rattle.message.specs.Protection.{message_number_bytes, hashed_header};
 ghost use Rattle.verify.specs.Verify.{same_four, genuine_under};
 
-use sha1::Running;
+use sha1_digest::Running;
 
 fn wide(byte: u8) -> u32
     ensures { (result ≡ byte) × (result < 256) }
@@ -37,7 +37,7 @@ fn feed_opened(running: Running, keys: &[u8; 176], nonce: [u8; 5], enciphered: &
     while place < enciphered.len() {
         let part = octets::part(enciphered, place, 16);
         let block = opened_block(keys, nonce, place, part);
-        let next = sha1::feed(hash, &block[0..part.len()]);
+        let next = sha1_digest::feed(hash, &block[0..part.len()]);
         hash = next;
         place += part.len();
     }
@@ -51,7 +51,7 @@ fn expected(keys: &[u8; 176], nonce: [u8; 5], number: u32, pdu: &[u8], enciphere
         ++ added (stream keys.now nonce) 0 enciphered.now))).a }
 {
     let begun = message::begin_hash(pdu, number);
-    sha1::finish(feed_opened(begun, keys, nonce, enciphered)).a
+    sha1_digest::finish(feed_opened(begun, keys, nonce, enciphered)).a
 }
 
 // Whether a block begins with the 4 bytes of a word: all four are compared at once, as one number.

@@ -1,4 +1,4 @@
-use Rattle.sha1.specs.Sha1.{fed}
+use Rattle.sha1_digest.specs.Sha1.{fed}
 use Rattle.verify.proofs.Deciphering.{fed_none, fed_all, fed_more, part_size}
 use Rattle.ctr.specs.Ctr.{stream, added}
 use Prim.Native.Nat.{◌-◌, ◌≤◌}

@@ -1,3 +1,4 @@
+use Rattle.std.proofs.lemmas.Bool.{not_from_false, not_from_true}
 use mathlib.Core.Path.{sym, ◌∙◌}
 use borrow.Author.Tests.{not-false}
 use Rattle.ways.proofs.Counting.{fits_most}
@@ -16,33 +17,13 @@ use Rattle.ways.proofs.answer.Goals as goal
 pub returns-then-hop_limit-gt7 : goal.returns-then-hop_limit-gt7
 returns-then-hop_limit-gt7 c =
     let a = c.args in
-    hop_refused a.pairs.now a.marks.now a.from a.hop-limit a.price a.growth a.enough a.counts.now a.table.now (omega arith)
+    hop_refused a.pairs.now a.marks.now a.from a.hop_limit a.price a.growth a.enough a.counts.now a.table.now (omega arith)
 
 pub returns-then-not-is_served : goal.returns-then-not-is_served
 returns-then-not-is_served c =
     let a = c.args in
-    not_served a.pairs.now a.marks.now a.from a.hop-limit a.price a.growth a.enough a.counts.now a.table.now
-    _ (omega arith) c.is_served.ensures c.if-not-is_served.true
-
-pub fill-requires : goal.fill-requires
-fill-requires c =
-    let a = c.args in
-    let s = serves _ _ _ _ (sym c.is_served.ensures ∙ not-false _ c.if-not-is_served.false) in
-    (omega (arith, s.few), s.room-is)
-
-pub hops_of-requires : goal.hops_of-requires
-hops_of-requires c =
-    let a = c.args in
-    let s = serves _ _ _ _ (sym c.is_served.ensures ∙ not-false _ c.if-not-is_served.false) in
-    (omega (arith, s.few), omega arith)
-
-pub count_apart-count-requires : goal.count_apart-count-requires
-count_apart-count-requires c =
-    let a = c.args in
-    let s = serves _ _ _ _ (sym c.is_served.ensures ∙ not-false _ c.if-not-is_served.false) in
-    let filled = c.fill.ensures in
-    let sized = c.counts-1.given in
-    (s.begins, omega (arith, s.few), sized ∙ s.places-are, omega arith, omega arith, omega arith, filled.rows)
+    not_served a.pairs.now a.marks.now a.from a.hop_limit a.price a.growth a.enough a.counts.now a.table.now
+    _ (omega arith) c.is_served.ensures (not_from_false _ c.if-not-is_served.true)
 
 pub shape_of-marks-then-count-enough : goal.shape_of-marks-then-count-enough
 shape_of-marks-then-count-enough c = c.marks-1.given
@@ -58,8 +39,8 @@ shape_of-table-then-count-enough c =
 pub returns-then-count-enough : goal.returns-then-count-enough
 returns-then-count-enough c =
     let a = c.args in
-    exactly a.pairs.now a.marks.now a.from a.hop-limit a.price a.growth a.enough a.counts.now a.table.now _
-    c.if-hop_limit-gt7.false c.is_served.ensures c.if-not-is_served.false _ c.fill.ensures _ c.clear_counts.ensures _
+    exactly a.pairs.now a.marks.now a.from a.hop_limit a.price a.growth a.enough a.counts.now a.table.now _
+    c.if-hop_limit-gt7.false c.is_served.ensures (not_from_true _ c.if-not-is_served.false) _ c.fill.ensures _ c.clear_counts.ensures _
     c.hops_of.ensures.0 _ _ _ c.count_apart-count.ensures _ _ c.clear.ensures c.table-1.given
     (fits_most _ c.ranges.enough.fits) c.if-count-enough.true
 
@@ -77,7 +58,21 @@ shape_of-table c =
 pub returns : goal.returns
 returns c =
     let a = c.args in
-    at_least a.pairs.now a.marks.now a.from a.hop-limit a.price a.growth a.enough a.counts.now a.table.now _
-    c.if-hop_limit-gt7.false c.is_served.ensures c.if-not-is_served.false _ c.fill.ensures _ c.clear_counts.ensures _
+    at_least a.pairs.now a.marks.now a.from a.hop_limit a.price a.growth a.enough a.counts.now a.table.now _
+    c.if-hop_limit-gt7.false c.is_served.ensures (not_from_true _ c.if-not-is_served.false) _ c.fill.ensures _ c.clear_counts.ensures _
     c.hops_of.ensures.0 _ _ _ c.count_apart-count.ensures _ _ c.clear.ensures c.table-1.given
     _ c.clear_counts-2.ensures c.if-count-enough.false
+
+pub fill-requires : goal.fill-requires
+fill-requires c =
+    let a = c.args in
+    let s = serves _ _ _ _ (sym c.is_served.ensures ∙ not-false _ c.if-not-is_served.false) in
+    (omega (arith, s.few), s.room-is)
+
+pub count_apart-count-requires : goal.count_apart-count-requires
+count_apart-count-requires c =
+    let a = c.args in
+    let s = serves _ _ _ _ (sym c.is_served.ensures ∙ not-false _ c.if-not-is_served.false) in
+    let filled = c.fill.ensures in
+    let sized = c.counts-1.given in
+    (s.begins, omega (arith, s.few), sized ∙ s.places-are, omega arith, omega arith, omega arith, filled.rows)

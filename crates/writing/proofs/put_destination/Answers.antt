@@ -4,12 +4,5 @@ use Rattle.octets.proofs.Placing.{nothing_after, nothing_placed}
 use native.Mathlib.Omega.{arith}
 use Rattle.writing.proofs.put_destination.Goals as goal
 
-pub put_address-requires : goal.put_address-requires
-put_address-requires c =
-    omega (arith, c.requires, ap destination_flag c.destination-1.given.1)
-
 pub returns-in-Everyone : goal.returns-in-Everyone
 returns-in-Everyone c = rw c.enum_told-1.given.1 (nothing_after _ _, nothing_placed _ _)
-
-pub returns-in-Address : goal.returns-in-Address
-returns-in-Address c = rw c.destination-1.given.1 c.put_address.ensures

@@ -17,10 +17,6 @@ returns-then-output-path_start c =
     not_put header output
     (no_room header output (sym c.is_writable.ensures ∙ not-false _ c.if-not-is_writable.false) (omega (arith, c.path_start.ensures.0)))
 
-pub put_fields-requires : goal.put_fields-requires
-put_fields-requires c =
-    (sym c.is_writable.ensures ∙ not-false _ c.if-not-is_writable.false, omega (arith, c.path_start.ensures.0))
-
 pub returns : goal.returns
 returns c =
     header_done c.args.header c.args.output.now (sym c.is_writable.ensures ∙ not-false _ c.if-not-is_writable.false)

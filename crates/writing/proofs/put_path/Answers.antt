@@ -7,14 +7,6 @@ use Rattle.writing.proofs.put_path.Goals as goal
 pub loop-i-init : goal.loop-i-init
 loop-i-init c = (omega arith, refl, path_none _ _ _ _)
 
-pub loop-i-preserved : goal.loop-i-preserved
-loop-i-preserved c =
-    (
-      omega arith,
-      omega (arith, c.put_word.auto.0),
-      path_more _ _ _ _ _ _ _ _ (omega arith) c.word.ensures c.loop-i.invariant.2 c.put_word.ensures.1,
-    )
-
 pub returns : goal.returns
 returns c =
     let a = c.args in
@@ -23,3 +15,11 @@ returns c =
     (omega (arith, c.path_entries-entries.ensures.0)) c.requires
     c.loop-i.invariant.2 in
     (omega (arith, all.0, c.path_entries-entries.ensures.0), all.1)
+
+pub loop-i-preserved : goal.loop-i-preserved
+loop-i-preserved c =
+    (
+      omega arith,
+      omega (arith, c.put_word.auto.0),
+      path_more _ _ _ _ _ _ _ _ (omega arith) c.word.ensures c.loop-i.invariant.2 c.put_word.ensures.1,
+    )

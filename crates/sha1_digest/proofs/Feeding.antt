@@ -7,8 +7,8 @@ use lib.Seq.{append_snoc, take-append-le, drop-append-le}
 use Rattle.octets.specs.Octets.{at}
 use Rattle.sha1_block.specs.declared.Five.{Five}
 use Rattle.sha1_block.specs.Sha1Block.{compressed}
-use Rattle.sha1.specs.declared.Running.{Running}
-use Rattle.sha1.specs.Sha1.{eight_bytes, zeros, padding, padded, block_at, hashed, digest, sha1, hash_begun, fed_byte, fed, final_hash, finished}
+use Rattle.sha1_digest.specs.declared.Running.{Running}
+use Rattle.sha1_digest.specs.Sha1.{eight_bytes, zeros, padding, padded, block_at, hashed, digest, sha1, hash_begun, fed_byte, fed, final_hash, finished}
 
 pub running :
     {h h' : Five} {b b' : List ℕ} {t t' : ℕ} → h ≡ h' → b ≡ b' → t ≡ t'

@@ -2,7 +2,7 @@
 #![tactic(auto)]
 
 ghost use Rattle.std.specs.Prelude.{◌≡◌, ◌*◌, ◌%◌, ◌^◌};
-ghost use Rattle.sha1.specs.Sha1.{eight_bytes, hash_begun, fed, final_hash};
+ghost use Rattle.sha1_digest.specs.Sha1.{eight_bytes, hash_begun, fed, final_hash};
 
 use sha1_block::Five;
 use std::num::wrapping_add_u64;

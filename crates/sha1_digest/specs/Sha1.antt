@@ -3,7 +3,7 @@
 use Rattle.std.specs.Prelude.{ℕ, zero, suc, ◌+◌, ◌-◌, ◌*◌, ◌/◌, ◌%◌, ◌^◌, cond, List, [], ◌∷◌, ◌++◌, length, take, drop, replicate, ◌==◌, slice_set}
 use Rattle.sha1_block.specs.declared.Five.{Five}
 use Rattle.sha1_block.specs.Sha1Block.{compressed}
-use Rattle.sha1.specs.declared.Running.{Running}
+use Rattle.sha1_digest.specs.declared.Running.{Running}
 
 -- the four bytes of a word, the most significant first
 abbrev pub four_bytes : ℕ → List ℕ

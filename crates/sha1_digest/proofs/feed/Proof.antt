@@ -1,11 +1,11 @@
--- `sha1::feed` meets its contract: the loop keeps what the first i bytes have come to.
+-- `sha1_digest::feed` meets its contract: the loop keeps what the first i bytes have come to.
 -- Assumes nothing.
 use Rattle.std.proofs.Common.{◌≡◌, ◌-◌, ◌%◌, ◌≤◌, length, take, refl, ◌∙◌, ⊎_elim, arith, length-set, rules}
-use Rattle.sha1.specs.declared.Running.{Running}
-use Rattle.sha1.specs.Sha1.{fed}
-use Rattle.sha1.proofs.Feeding.{full, not_full, fed_more, fed_all}
-use Rattle.sha1.proofs.feed.Statement.{statement}
-use Rattle.sha1.proofs.feed.Tie as tie
+use Rattle.sha1_digest.specs.declared.Running.{Running}
+use Rattle.sha1_digest.specs.Sha1.{fed}
+use Rattle.sha1_digest.proofs.Feeding.{full, not_full, fed_more, fed_all}
+use Rattle.sha1_digest.proofs.feed.Statement.{statement}
+use Rattle.sha1_digest.proofs.feed.Tie as tie
 
 abbrev invariant-loop : tie.invariant-loop
 invariant-loop part hash₀ block₀ total₀ i₀ hash block total i =

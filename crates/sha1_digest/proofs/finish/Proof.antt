@@ -1,10 +1,10 @@
--- `sha1::finish` meets its contract: the marker and the length are the padding.
+-- `sha1_digest::finish` meets its contract: the marker and the length are the padding.
 -- Assumes nothing.
 use Rattle.std.proofs.Common.{◌+◌, ◌-◌, refl, ap, ◌∙◌, arith, rules}
-use Rattle.sha1.specs.Sha1.{eight_bytes, zeros}
-use Rattle.sha1.proofs.Feeding.{marked, finished_by}
-use Rattle.sha1.proofs.finish.Statement.{statement}
-use Rattle.sha1.proofs.finish.Tie as tie
+use Rattle.sha1_digest.specs.Sha1.{eight_bytes, zeros}
+use Rattle.sha1_digest.proofs.Feeding.{marked, finished_by}
+use Rattle.sha1_digest.proofs.finish.Statement.{statement}
+use Rattle.sha1_digest.proofs.finish.Tie as tie
 
 returns : tie.Need-returns
 returns c =
