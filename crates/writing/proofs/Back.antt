@@ -3,7 +3,7 @@ use Prim.Native.Nat.{ℕ, zero, suc, ◌+◌, ◌/◌, ◌%◌, ◌≤◌}
 use native.Mathlib.Omega.{arith}
 use mathlib.Core.Bool.{Bool, true, false, not, cond, ◌&&◌}
 use mathlib.Core.List.{List, [], ◌∷◌, ◌++◌, append_assoc}
-use mathlib.Core.Path.{◌≡◌, refl, ap, sym, ◌∙◌}
+use mathlib.Core.Path.{◌≡◌, refl, ap, ap₂, sym, ◌∙◌}
 use lib.Dec.{eqb}
 use lib.ListN.{length, take, length-append}
 use lib.Seq.{take_at, drop_at, get_or-append_seam, get_or-append-add}
@@ -62,12 +62,12 @@ addresses_there front (address ∷ path) tail place zero e f = absurd (omega ari
 addresses_there front (address ∷ path) tail place (suc n) e f =
     let next = front ++ word_bytes address in
     let later = addresses_there next path tail (place + 2) n (length-append front (word_bytes address) ∙ omega arith) (omega arith) in
-    rw (
-      ← append_assoc front (word_bytes address) (path_bytes path),
-      later,
-      append_assoc next (path_bytes path) tail,
-      word_there front (path_bytes path ++ tail) place e address,
-    )
+    let apart : front ++ path_bytes (address ∷ path) ++ tail ≡ next ++ path_bytes path ++ tail =
+    ap (λ (l : List ℕ). l ++ tail) (sym (append_assoc front (word_bytes address) (path_bytes path))) in
+    ap₂ (λ (a : ℕ) (l : List ℕ). a ∷ l)
+    (ap (λ (l : List ℕ). word_at l place) (apart ∙ append_assoc next (path_bytes path) tail)
+    ∙ word_there front (path_bytes path ++ tail) place e address)
+    (ap (λ (l : List ℕ). addresses_at l (place + 2) n) apart ∙ later)
 
 -- a header from equations of its fields
 header_equal : (header : Header) {protocol port reserved hop payload source id count : ℕ} {stamp path encrypted ack added : Bool}

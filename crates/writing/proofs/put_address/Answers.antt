@@ -1,4 +1,4 @@
-use mathlib.Core.List.{◌∷◌}
+use mathlib.Core.List.{[], ◌∷◌}
 use Rattle.octets.proofs.Placing.{room_after, word_placed}
 use native.Mathlib.Omega.{arith}
 use Rattle.writing.proofs.put_address.Goals as goal

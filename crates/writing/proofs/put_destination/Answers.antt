@@ -5,4 +5,4 @@ use native.Mathlib.Omega.{arith}
 use Rattle.writing.proofs.put_destination.Goals as goal
 
 pub returns-in-Everyone : goal.returns-in-Everyone
-returns-in-Everyone c = rw c.enum_told-1.given.1 (nothing_after _ _, nothing_placed _ _)
+returns-in-Everyone c = rw c.in-Everyone.is (nothing_after _ _, nothing_placed _ _)

@@ -8,16 +8,16 @@ pub returns-then-not-is_writable : goal.returns-then-not-is_writable
 returns-then-not-is_writable c =
     let header = c.args.header in
     let output = c.args.output.now in
-    not_put header output (not_writable header output (sym c.is_writable.ensures ∙ not-true _ c.if-not-is_writable.true))
+    not_put header output (not_writable header output (sym c.is_writable.ensures ∙ c.if-not-is_writable.true))
 
 pub returns-then-output-path_start : goal.returns-then-output-path_start
 returns-then-output-path_start c =
     let header = c.args.header in
     let output = c.args.output.now in
     not_put header output
-    (no_room header output (sym c.is_writable.ensures ∙ not-false _ c.if-not-is_writable.false) (omega (arith, c.path_start.ensures.0)))
+    (no_room header output (sym c.is_writable.ensures ∙ c.if-not-is_writable.false) (omega (arith, c.path_start.ensures.0)))
 
 pub returns : goal.returns
 returns c =
-    header_done c.args.header c.args.output.now (sym c.is_writable.ensures ∙ not-false _ c.if-not-is_writable.false)
+    header_done c.args.header c.args.output.now (sym c.is_writable.ensures ∙ c.if-not-is_writable.false)
     (omega (arith, c.path_start.ensures.0)) _ _ c.put_fields.ensures

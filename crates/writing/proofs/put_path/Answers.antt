@@ -20,6 +20,6 @@ pub loop-i-preserved : goal.loop-i-preserved
 loop-i-preserved c =
     (
       omega arith,
-      omega (arith, c.put_word.auto.0),
+      omega (arith, c.put_word.auto.output),
       path_more _ _ _ _ _ _ _ _ (omega arith) c.word.ensures c.loop-i.invariant.2 c.put_word.ensures.1,
     )
