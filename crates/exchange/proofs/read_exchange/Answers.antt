@@ -24,23 +24,23 @@ returns-in_default c =
     let bytes = c.args.bytes.now in
     let no-fault = c.fault-number.ensures in
     let found = opened bytes _ no-fault c.if-number-ne0.false _ c.head_at-outer.ensures.0 c.if-outer-ne20.false c.if-outer-bytes.false in
-    c.refused-in_default.ensures ∙ no_header bytes _ found (sym (first_found _ _ _ _ _ c.pair_from-pair.ensures) ∙ c.enum_told-1.given.1)
+    c.refused-in_default.ensures ∙ no_header bytes _ found (sym (first_found _ _ _ _ _ c.pair_from-pair.ensures) ∙ c.in_default.is)
 
 pub returns-in_default-payload_found : goal.returns-in_default-payload_found
 returns-in_default-payload_found c =
     let bytes = c.args.bytes.now in
     let no-fault = c.fault-number.ensures in
     let found = opened bytes _ no-fault c.if-number-ne0.false _ c.head_at-outer.ensures.0 c.if-outer-ne20.false c.if-outer-bytes.false in
-    let one = sym (first_found _ _ _ _ _ c.pair_from-pair.ensures) ∙ c.header_found-1.given.1 in
-    c.refused-in_default-payload_found.ensures ∙ no_payload bytes _ found _ one (sym (second_found _ _ _ _ _ c.pair_from-pair.ensures) ∙ c.enum_told-in_default-payload_found-1.given.1)
+    let one = sym (first_found _ _ _ _ _ c.pair_from-pair.ensures) ∙ c.in-Once.is in
+    c.refused-in_default-payload_found.ensures ∙ no_payload bytes _ found _ one (sym (second_found _ _ _ _ _ c.pair_from-pair.ensures) ∙ c.in_default-payload_found.is)
 
 pub show-requires : goal.show-requires
 show-requires c =
     let bytes = c.args.bytes.now in
     let no-fault = c.fault-number.ensures in
     let found = opened bytes _ no-fault c.if-number-ne0.false _ c.head_at-outer.ensures.0 c.if-outer-ne20.false c.if-outer-bytes.false in
-    let one = sym (first_found _ _ _ _ _ c.pair_from-pair.ensures) ∙ c.header_found-1.given.1 in
-    let other = sym (second_found _ _ _ _ _ c.pair_from-pair.ensures) ∙ c.payload_found-1.given.1 in
+    let one = sym (first_found _ _ _ _ _ c.pair_from-pair.ensures) ∙ c.in-Once.is in
+    let other = sym (second_found _ _ _ _ _ c.pair_from-pair.ensures) ∙ c.in-Once-payload_found.is in
     (place_before bytes _ found 1024 _ one, place_before bytes _ found 1025 _ other)
 
 pub returns : goal.returns
@@ -48,6 +48,6 @@ returns c =
     let bytes = c.args.bytes.now in
     let no-fault = c.fault-number.ensures in
     let found = opened bytes _ no-fault c.if-number-ne0.false _ c.head_at-outer.ensures.0 c.if-outer-ne20.false c.if-outer-bytes.false in
-    let one = sym (first_found _ _ _ _ _ c.pair_from-pair.ensures) ∙ c.header_found-1.given.1 in
-    let other = sym (second_found _ _ _ _ _ c.pair_from-pair.ensures) ∙ c.payload_found-1.given.1 in
+    let one = sym (first_found _ _ _ _ _ c.pair_from-pair.ensures) ∙ c.in-Once.is in
+    let other = sym (second_found _ _ _ _ _ c.pair_from-pair.ensures) ∙ c.in-Once-payload_found.is in
     c.show.ensures ∙ all_shown bytes _ found _ one _ other
