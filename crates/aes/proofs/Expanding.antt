@@ -54,10 +54,9 @@ module _ (p : ℕ) (v : List ℕ) {s : ℕ} (fourth : p / 4 % 4 ≡ 0) (substitu
       let e : p / 16 ≡ p / 4 / 4 = sym (div-div-eq-div-mul p 4 4) in
       ap (λ (x : ℕ). s ⊕ x) q ∙ sym (scrambled ∙ ap₂ (λ (n k : ℕ). s ⊕ at (rcon n) k) (sym e) z)
 
--- all of a list copied over the front of another
-pub copied_front : (n : ℕ) (l rest : List ℕ) {w : List ℕ} → length l ≡ n → w ≡ take (length l) l ++ drop (length l) rest → take n w ≡ l
-copied_front n l rest e p =
-    ap₂ take (sym e) (p ∙ ap (λ (x : List ℕ). x ++ drop (length l) rest) (take-length l)) ∙ take-append_seam l (drop (length l) rest)
+-- the first of two lists, taken back by its length
+pub key_first : (n : ℕ) (l rest : List ℕ) → length l ≡ n → take n (l ++ rest) ≡ l
+key_first n l rest e = ap (λ (k : ℕ). take k (l ++ rest)) (sym e) ∙ take-append_seam l rest
 
 module _ (key : List ℕ) (sixteen : length key ≡ 16) where
   length_expansion : (n : ℕ) → length (expansion key n) ≡ 16 + 4 * n

@@ -1,4 +1,2 @@
-pub mod Thin
-pub mod Above
 pub mod Told
 pub mod Opened
