@@ -1,16 +1,12 @@
 use Rattle.sealing.proofs.Deciding.{with_header}
 use Rattle.sealing.proofs.Laying.{Laid, laid}
 use lib.ListN.{length}
-use borrow.Author.Rules.{rules}
-use Rattle.sealing.proofs.put_sealed.Statement.{statement}
-use Rattle.sealing.proofs.put_sealed.Tie as tie
+use Rattle.sealing.proofs.put_sealed.Goals as goal
 
-put-head-requires : tie.Need-put-head-requires
-put-head-requires c κs =
-    let at-header = c.before in
-    let start = at-header.before.before.before in
-    let a = start.args in
-    let p = with_header a.pdu.now (length a.output.now) _ at-header.header_of.ensures (start.requires.0, start.requires.1, start.requires.2) in
+pub put_head-number_place-requires : goal.put_head-number_place-requires
+put_head-number_place-requires c =
+    let a = c.args in
+    let p = with_header a.pdu.now (length a.output.now) _ c.header_of-header.ensures (c.requires.0, c.requires.1, c.requires.2) in
     (p.0, p.1, p.2)
 
 module _ (at-hash-put : tie.After-put3) where
@@ -34,19 +30,9 @@ module _ (at-hash-put : tie.After-put3) where
       at_head.put-head.ensures at-digits.number-bytes.ensures at-number-put.put.ensures at_plain.payload.ensures.bytes
       at-plain-put.put2.ensures is at-hash.hash-of.ensures at-hash-put.put3.ensures
 
-encipher-requires : tie.Need-encipher-requires
-encipher-requires c κs = (all_laid c.before.before.before.before).room
+pub encipher-requires : goal.encipher-requires
+encipher-requires c = (all_laid c).room
 
-returns : tie.Need-returns
+pub returns : goal.returns
 returns c =
-    let at-encipher = c.before.before in
-    let at-nonce = at-encipher.before.before in
-    (all_laid at-nonce.before.before.before).sealed _ _ _ at-nonce.nonce.ensures at-encipher.encipher.ensures
-
-pub put-sealed-spec : {M : Type 1} → statement M
-put-sealed-spec =
-    tie.close
-    (tie.spec
-    (λ c κs. search rules) put-head-requires (λ c κs. search rules) (λ c. search rules) (λ c κs. search rules) (λ c κs. search rules)
-    (λ c κs. search rules) (λ c κs. search rules) (λ c. search rules) (λ c κs. search rules) (λ c κs. search rules) encipher-requires
-    (λ c. search rules) returns)
+    (all_laid c).sealed _ _ _ c.nonce-nonce.ensures c.encipher.ensures

@@ -1,0 +1,44 @@
+use mathlib.Core.Path.{sym, ◌∙◌}
+use borrow.Author.Tests.{not-true, not-false}
+use Rattle.queue.proofs.Memory.{pdus_is, bytes_is}
+use Rattle.transmit.proofs.Answers.{not_one, full, full_pdus, full_bytes, not_full, room_left, added}
+use native.Mathlib.Omega.{arith}
+use Rattle.transmit.proofs.add.Goals as goal
+
+pub returns-then-not-is_one : goal.returns-then-not-is_one
+returns-then-not-is_one c =
+    let refused = not_one c.args.pdu.now c.args.memory.now (sym c.is_one.ensures ∙ c.if-not-is_one.true) in
+    (sym refused.0, sym refused.1)
+
+pub returns-then-held-ge-PDUS_LIMIT : goal.returns-then-held-ge-PDUS_LIMIT
+returns-then-held-ge-PDUS_LIMIT c =
+    let memory = c.args.memory.now in
+    let pdu = c.args.pdu.now in
+    let one = sym c.is_one.ensures ∙ c.if-not-is_one.false in
+    let held = c.numbers_in-held.ensures.0 in
+    let refused = full pdu memory one (full_pdus pdu memory (omega (arith, pdus_is memory _ held, c.if-held-ge-PDUS_LIMIT.true))) in
+    (sym refused.0, sym refused.1)
+
+pub returns-then-held-pdu : goal.returns-then-held-pdu
+returns-then-held-pdu c =
+    let memory = c.args.memory.now in
+    let pdu = c.args.pdu.now in
+    let one = sym c.is_one.ensures ∙ c.if-not-is_one.false in
+    let held = c.numbers_in-held.ensures.0 in
+    let short = c.numbers_in-held.ensures.2 in
+    let refused = full pdu memory one (full_bytes pdu memory (omega (arith, bytes_is memory _ held, short, c.if-held-pdu.true))) in
+    (sym refused.0, sym refused.1)
+
+pub returns : goal.returns
+returns c =
+    let memory = c.args.memory.now in
+    let pdu = c.args.pdu.now in
+    let one = sym c.is_one.ensures ∙ c.if-not-is_one.false in
+    let held = c.numbers_in-held.ensures.0 in
+    let short = c.numbers_in-held.ensures.2 in
+    let room = not_full pdu memory (omega (arith, pdus_is memory _ held, c.if-held-ge-PDUS_LIMIT.false))
+    (omega (arith, bytes_is memory _ held, short, c.if-held-pdu.false)) in
+    let accepted = room_left pdu memory one room in
+    let laid = added pdu memory _ _ _ _ _ _ held c.narrow.ensures c.narrow-2.ensures c.narrow-3.ensures
+    c.put.ensures.1 c.keep.ensures in
+    (sym accepted.0, laid ∙ sym accepted.1)
