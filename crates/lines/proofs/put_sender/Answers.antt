@@ -11,5 +11,5 @@ returns-in-Unknown c =
 pub returns-in-Known : goal.returns-in-Known
 returns-in-Known c =
     let is = c.in-Known.is in
-    let small : c.sender-1.given.0.0 < 65536 = omega arith in
-    (rw is (decimal_of_16_bits c.sender-1.given.0.0 small), rw is c.put_ended.ensures)
+    let small : c.in-Known.address < 65536 = omega arith in
+    (rw is (decimal_of_16_bits c.in-Known.address small), rw is c.put_ended.ensures)

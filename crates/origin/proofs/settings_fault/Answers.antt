@@ -8,29 +8,29 @@ use Rattle.origin.proofs.settings_fault.Goals as goal
 pub returns-then-not-is_known : goal.returns-then-not-is_known
 returns-then-not-is_known c =
     let a = c.args in
-    edition_refused a.settings a.payload.now (sym c.is_known.ensures ∙ (not_from_false _ c.if-not-is_known.true))
+    edition_refused a.settings a.payload.now (sym c.is_known.ensures ∙ c.if-not-is_known.true)
 
 pub returns-then-settings-gt7 : goal.returns-then-settings-gt7
 returns-then-settings-gt7 c =
     let a = c.args in
-    hop_refused a.settings a.payload.now (sym c.is_known.ensures ∙ (not_from_true _ c.if-not-is_known.false)) (omega arith)
+    hop_refused a.settings a.payload.now (sym c.is_known.ensures ∙ c.if-not-is_known.false) (omega arith)
 
 pub returns-then-settings-gt15 : goal.returns-then-settings-gt15
 returns-then-settings-gt15 c =
     let a = c.args in
-    port_refused a.settings a.payload.now (sym c.is_known.ensures ∙ (not_from_true _ c.if-not-is_known.false)) (omega arith) (omega arith)
+    port_refused a.settings a.payload.now (sym c.is_known.ensures ∙ c.if-not-is_known.false) (omega arith) (omega arith)
 
 pub returns-then-payload-gt-PAYLOAD_LIMIT : goal.returns-then-payload-gt-PAYLOAD_LIMIT
 returns-then-payload-gt-PAYLOAD_LIMIT c =
     let a = c.args in
-    payload_refused a.settings a.payload.now (sym c.is_known.ensures ∙ (not_from_true _ c.if-not-is_known.false)) (omega arith) (omega arith)
+    payload_refused a.settings a.payload.now (sym c.is_known.ensures ∙ c.if-not-is_known.false) (omega arith) (omega arith)
     (omega arith)
 
 pub returns-then-unaddressed : goal.returns-then-unaddressed
 returns-then-unaddressed c =
     let a = c.args in
     let asked = sym c.if-unaddressed.true ∙ c.unaddressed.ensures in
-    unaddressed_refused a.settings a.payload.now (sym c.is_known.ensures ∙ (not_from_true _ c.if-not-is_known.false)) (omega arith)
+    unaddressed_refused a.settings a.payload.now (sym c.is_known.ensures ∙ c.if-not-is_known.false) (omega arith)
     (omega arith) (omega arith) asked
 
 pub returns-then-unmarked : goal.returns-then-unmarked
@@ -38,7 +38,7 @@ returns-then-unmarked c =
     let a = c.args in
     let addressed = sym c.if-unaddressed.false ∙ c.unaddressed.ensures in
     let asked = sym c.if-unmarked.true ∙ c.unmarked.ensures in
-    unmarked_refused a.settings a.payload.now (sym c.is_known.ensures ∙ (not_from_true _ c.if-not-is_known.false)) (omega arith)
+    unmarked_refused a.settings a.payload.now (sym c.is_known.ensures ∙ c.if-not-is_known.false) (omega arith)
     (omega arith) (omega arith) addressed asked
 
 pub returns-else-unmarked : goal.returns-else-unmarked
@@ -46,5 +46,5 @@ returns-else-unmarked c =
     let a = c.args in
     let addressed = sym c.if-unaddressed.false ∙ c.unaddressed.ensures in
     let asked = sym c.if-unmarked.false ∙ c.unmarked.ensures in
-    none_refused a.settings a.payload.now (sym c.is_known.ensures ∙ (not_from_true _ c.if-not-is_known.false)) (omega arith)
+    none_refused a.settings a.payload.now (sym c.is_known.ensures ∙ c.if-not-is_known.false) (omega arith)
     (omega arith) (omega arith) addressed asked

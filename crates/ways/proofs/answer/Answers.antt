@@ -66,13 +66,13 @@ returns c =
 pub fill-requires : goal.fill-requires
 fill-requires c =
     let a = c.args in
-    let s = serves _ _ _ _ (sym c.is_served.ensures ∙ (not_from_true _ c.if-not-is_served.false)) in
+    let s = serves _ _ _ _ (sym c.is_served.ensures ∙ c.if-not-is_served.false) in
     (omega (arith, s.few), s.room_is)
 
 pub count_apart-count-requires : goal.count_apart-count-requires
 count_apart-count-requires c =
     let a = c.args in
-    let s = serves _ _ _ _ (sym c.is_served.ensures ∙ (not_from_true _ c.if-not-is_served.false)) in
+    let s = serves _ _ _ _ (sym c.is_served.ensures ∙ c.if-not-is_served.false) in
     let filled = c.fill.ensures in
     let sized = c.counts-1.given in
     (s.begins, omega (arith, s.few), sized ∙ s.places_are, omega arith, omega arith, omega arith, filled.rows)
