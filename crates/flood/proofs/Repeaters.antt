@@ -82,7 +82,6 @@ open_passes node header free =
       free.destination_pass_off,
       free.destination_reject_off,
       outside_none header.destination,
-      in_none header.destination,
     )
 
 pub open_can : (header : Header) (n : Repeater) → Open n.node → address n ≢ header.source → is_for_own (address n) header.destination ≡ false

@@ -7,4 +7,4 @@ pub returns : goal.returns
 returns c = c.sections.ensures ∙ only_sections _ c.head_of-head.ensures c.in-Found.is
 
 pub returns-in_default : goal.returns-in_default
-returns-in_default c = ap Refused c.head_number.ensures ∙ head_refused _ c.head_of-head.ensures c.enum_told-1.given.1
+returns-in_default c = ap Refused c.head_number.ensures ∙ head_refused _ c.head_of-head.ensures c.in_default.is
