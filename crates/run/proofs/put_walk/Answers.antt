@@ -1,0 +1,77 @@
+use lib.Seq.{length-take-le}
+use Rattle.run.proofs.Answered.{with_room, went_step, printed_step}
+use mathlib.Core.Path.{refl, sym, ◌∙◌}
+use Rattle.lists.specs.Lists.{lists_in}
+use Rattle.decision.specs.Decision.{node_of}
+use Rattle.run.proofs.Lining.{going_start, going_next, less_to_do, finished}
+use native.Mathlib.Omega.{arith}
+use Rattle.run.proofs.put_walk.Goals as goal
+
+pub loop-answer-init : goal.loop-answer-init
+loop-answer-init c =
+    let a = c.args in
+    let node = node_of a.settings (lists_in a.lists.now) in
+    going_start node a.batch.now a.text.now _ a.place refl
+
+pub overflow_add-lines : goal.overflow_add-lines
+overflow_add-lines c =
+    let i = c.loop-answer.invariant in
+    omega (arith, i.few, i.within, c.requires)
+
+pub slice_bounds-repeated-end : goal.slice_bounds-repeated-end
+slice_bounds-repeated-end c =
+    let a = c.args in
+    let node = node_of a.settings (lists_in a.lists.now) in
+    let l = c.loop-answer in
+    let f = c.stepped-1 in
+    let w = went_step node a.batch.now c.requires l.repeated l.offset l.ended _ f.given.0.0 f.given.0.1.0 l.invariant.room
+    c.step-stepped.ensures.0 f.given.1 in
+    let p = printed_step node a.batch.now c.requires l.repeated _ l.offset l.ended f.given.0.0 f.given.0.1.0 l.invariant.room w
+    c.step-stepped.ensures.1 in
+    omega (arith, p.fits, c.step-stepped.auto.1.1.1.1.0, l.invariant.room)
+
+pub slice_bounds-put_pdu_line-end : goal.slice_bounds-put_pdu_line-end
+slice_bounds-put_pdu_line-end c =
+    let a = c.args in
+    let node = node_of a.settings (lists_in a.lists.now) in
+    let l = c.loop-answer in
+    let f = c.stepped-1 in
+    let w = went_step node a.batch.now c.requires l.repeated l.offset l.ended _ f.given.0.0 f.given.0.1.0 l.invariant.room
+    c.step-stepped.ensures.0 f.given.1 in
+    let p = printed_step node a.batch.now c.requires l.repeated _ l.offset l.ended f.given.0.0 f.given.0.1.0 l.invariant.room w
+    c.step-stepped.ensures.1 in
+    sym (length-take-le _ _ (omega (arith, p.fits, c.step-stepped.auto.1.1.1.1.0, l.invariant.room)))
+
+pub loop-answer-smaller : goal.loop-answer-smaller
+loop-answer-smaller c =
+    let a = c.args in
+    let node = node_of a.settings (lists_in a.lists.now) in
+    let l = c.loop-answer in
+    let f = c.stepped-1 in
+    let w = went_step node a.batch.now c.requires l.repeated l.offset l.ended _ f.given.0.0 f.given.0.1.0 l.invariant.room
+    c.step-stepped.ensures.0 f.given.1 in
+    less_to_do node a.batch.now l.offset l.ended f.given.0.0 f.given.0.1.0 w
+
+pub loop-answer-preserved : goal.loop-answer-preserved
+loop-answer-preserved c =
+    let a = c.args in
+    let node = node_of a.settings (lists_in a.lists.now) in
+    let l = c.loop-answer in
+    let f = c.stepped-1 in
+    let w = went_step node a.batch.now c.requires l.repeated l.offset l.ended _ f.given.0.0 f.given.0.1.0 l.invariant.room
+    c.step-stepped.ensures.0 f.given.1 in
+    let p = printed_step node a.batch.now c.requires l.repeated _ l.offset l.ended f.given.0.0 f.given.0.1.0 l.invariant.room w
+    c.step-stepped.ensures.1 in
+    going_next node a.batch.now l.offset l.ended f.given.0.0 f.given.0.1.0 w _ _ _ _ _ _ _ _ _ _ l.invariant p
+    (c.step-stepped.auto.1.1.1.1.0 ∙ l.invariant.room) refl c.put_pdu_line-next_place.ensures
+
+pub returns : goal.returns
+returns c =
+    let a = c.args in
+    let node = node_of a.settings (lists_in a.lists.now) in
+    let l = c.loop-answer in
+    finished node a.batch.now c.requires a.text.now l.text l.repeated _ a.place l.next_place _ l.lines l.offset l.ended _
+    l.invariant
+    (with_room node a.batch.now c.requires l.repeated l.offset l.ended _ l.invariant.room
+    c.step-stepped.ensures.0)
+    c.in_default.in_default-own.keys2 c.put_last_line.ensures

@@ -1,0 +1,23 @@
+use mathlib.Core.Path.{sym, ◌∙◌}
+use Rattle.run.proofs.Jobs.{refused_put, read_put}
+use Rattle.run.proofs.Whole.{ran}
+use Rattle.run.proofs.relay.Goals as goal
+
+pub put_job-requires : goal.put_job-requires
+put_job-requires c = sym c.read-reading.ensures ∙ c.in-Job.is
+
+pub returns-in-Refused : goal.returns-in-Refused
+returns-in-Refused c =
+    let a = c.args in
+    let put =
+    refused_put a.bytes.now a.text.now _ _ _ (sym c.read-reading.ensures ∙ c.in-Refused.is)
+    c.put_refused_line.ensures in
+    ran a.bytes.now a.text.now _ _ (λ i. (c.shared_slice_known-1.given i).fits) put
+
+pub returns-in-Job : goal.returns-in-Job
+returns-in-Job c =
+    let a = c.args in
+    let put =
+    read_put a.bytes.now a.text.now _ _ _ (sym c.read-reading.ensures ∙ c.in-Job.is)
+    c.put_job.ensures in
+    ran a.bytes.now a.text.now _ _ (λ i. (c.shared_slice_known-1.given i).fits) put
