@@ -1,18 +1,16 @@
 -- Laws of what fits 64 bits, and of the loop that adds a series up. Assumes nothing.
 use mathlib.Core.Path.{◌≡◌, refl, sym, ap, ◌∙◌}
-use mathlib.Core.Logic.{◌⊎◌, ⊎_elim, by_cases}
+use mathlib.Core.Logic.{by_cases}
 use Prim.Native.Nat.{ℕ, suc, ◌+◌, ◌*◌, ◌-◌, ◌^◌, ◌≤◌, ◌<◌}
 use native.Mathlib.Decide.{dec_lt}
 use native.Mathlib.Nat.{le-mul_of_pos_right, mul_comm, mul-suc}
 use native.Mathlib.Numerals.{add-one}
 use native.Mathlib.Omega.{arith}
 use borrow.Author.Tests.{lt-ltb, le-ltb}
-use denote.Enum.Declared.{tag_of}
 use Rattle.bound.specs.Answer.{within64_bits, bound_answer}
 use Rattle.bound.specs.Bound.{falling_product, series, terms}
 use Rattle.bound.specs.declared.Bound.{Bound}
 use Rattle.bound.specs.declared.Bound.TheVariants.{Exactly, TooLarge, HopRefused}
-use Rattle.bound.specs.contracts.Bound.{the_type}
 use Rattle.bound.proofs.Series.{product_positive, product_past, series_more}
 
 pub fitting_small : (x : ℕ) → x < 2 ^ 64 → within64_bits x ≡ Exactly x

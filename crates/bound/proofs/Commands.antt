@@ -1,17 +1,14 @@
 -- Laws of what a command and its acknowledgements come to: where a part of the product does not fit 64 bits, the product does not. Assumes nothing.
-use mathlib.Core.Path.{◌≡◌, refl, sym, ap, ◌∙◌}
-use mathlib.Core.Logic.{◌⊎◌}
+use mathlib.Core.Path.{◌≡◌, sym, ◌∙◌}
 use Prim.Native.Nat.{ℕ, zero, suc, ◌+◌, ◌*◌, ◌^◌, ◌≤◌, ◌<◌, max}
 use native.Mathlib.Nat.{le-mul_of_pos_right, mul_comm, mul-pos}
 use native.Mathlib.Omega.{arith}
-use denote.Enum.Declared.{tag_of}
 use Rattle.bound.specs.Answer.{within64_bits, bound_answer}
 use Rattle.bound.specs.Bound.{series, terms, bound}
 use Rattle.bound.specs.Command.{sendings_bound, command_bound}
 use Rattle.bound.specs.declared.Bound.{Bound}
-use Rattle.bound.specs.declared.Bound.TheVariants.{Exactly, TooLarge, HopRefused}
-use Rattle.bound.proofs.Answers.{fitting_large, hop_taken, hop_refused, exact, past}
-use Rattle.bound.specs.contracts.Bound.{the_type}
+use Rattle.bound.specs.declared.Bound.TheVariants.{Exactly, TooLarge}
+use Rattle.bound.proofs.Answers.{fitting_large, hop_taken, exact, past}
 
 -- a bound counts the first transmission
 series_some : (n m : ℕ) → 0 < series (λ k. 1) n m

@@ -27,12 +27,6 @@ use Rattle.lines.specs.Lines.{pdu_line, last_line}
 use Rattle.run.specs.Run.{room_for_one, line_at, pdu_lines, walk_lines, text_with, place_with}
 use Rattle.run.proofs.Answered.{Went, Printed, step_short}
 
-not_answered : (stepped : Stepped) → (tag_of the_type stepped ≡ 1) ⊎ (tag_of the_type stepped ≡ 2) → (a : Answer) (n : Cursor)
-    → stepped ≡ Answered a n → ⊥
-not_answered (Answered b m) k a n e = ⊎_elim (λ h. omega arith) (λ h. omega arith) k
-not_answered Ended k a n e = let z : ◌≡◌ {A = ℕ} 0 1 = cc in omega arith
-not_answered TooLong k a n e = let z : ◌≡◌ {A = ℕ} 0 1 = cc in omega arith
-
 module _ (node : Node) (batch : List ℕ) where
   -- what is left of the walk after so many lines
   abbrev left : ℕ → ℕ → Bool → Walk
@@ -62,9 +56,9 @@ module _ (node : Node) (batch : List ℕ) where
     -- a step that did not answer: nothing is left of the walk
     stopped : (lines offset : ℕ) (ended : Bool) (stepped : Stepped)
         → stepped ≡ step_of node room_for_one batch (record { place = offset; ended = ended })
-        → (tag_of the_type stepped ≡ 1) ⊎ (tag_of the_type stepped ≡ 2) → left lines offset ended ≡ ending_at 0 offset
+        → ((a : Answer) (n : Cursor) → stepped ≡ Answered a n → ⊥) → left lines offset ended ≡ ending_at 0 offset
     stopped lines offset ended stepped e k =
-        pick ended (leb (length batch) offset) refl refl (not_answered stepped k) (e ∙ step_short node batch short (record { place = offset; ended = ended }))
+        pick ended (leb (length batch) offset) refl refl k (e ∙ step_short node batch short (record { place = offset; ended = ended }))
       where
         pick : (t u : Bool) → ended ≡ t → leb (length batch) offset ≡ u → ((a : Answer) (n : Cursor) → stepped ≡ Answered a n → ⊥)
             → stepped ≡ cond (t || u) Ended (Answered (answer_of node room_for_one (drop offset batch)) (next_cursor node batch offset)) → left
@@ -206,7 +200,7 @@ module _ (node : Node) (batch : List ℕ) where
     pub finished : (text₀ text repeated text' : List ℕ) (place₀ place place' lines offset : ℕ) (ended : Bool) (stepped : Stepped)
         → Going text₀ place₀ text repeated place lines offset ended
         → stepped ≡ step_of node room_for_one batch (record { place = offset; ended = ended })
-        → (tag_of the_type stepped ≡ 1) ⊎ (tag_of the_type stepped ≡ 2)
+        → ((a : Answer) (n : Cursor) → stepped ≡ Answered a n → ⊥)
         → (place' ≡ place_after text place (last_line lines offset)) × (text' ≡ placed text place (last_line lines offset))
         → (place' ≡ place_with text₀ place₀ (walk_lines node batch 0 (walk node room_for_one batch)))
         × (text' ≡ text_with text₀ place₀ (walk_lines node batch 0 (walk node room_for_one batch)))

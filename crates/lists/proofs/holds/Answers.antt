@@ -21,7 +21,7 @@ loop-i-preserved c = (
   omega arith,
   c.loop-i.invariant.2
       ∙ elim c.else-list-i.branch [
-        else-list-i-via-then-list-i+else-address-list w ↦
+        | else-list-i-via-then-list-i+else-address-list w ↦
             above_high _ _ _ _ (omega arith) (omega arith) (omega arith) (omega (arith, leb-false))
         | else-list-i-via-else-list-i w ↦ below_low _ _ _ _ (omega arith) (omega arith) (omega arith)
       ],

@@ -23,47 +23,43 @@ slice_bounds-repeated-end c =
     let a = c.args in
     let node = node_of a.settings (lists_in a.lists.now) in
     let l = c.loop-answer in
-    let f = c.stepped-1 in
-    let w = went_step node a.batch.now c.requires l.repeated l.offset l.ended _ f.given.0.0 f.given.0.1.0 l.invariant.room
-    c.step-stepped.ensures.0 f.given.1 in
-    let p = printed_step node a.batch.now c.requires l.repeated _ l.offset l.ended f.given.0.0 f.given.0.1.0 l.invariant.room w
+    let w = went_step node a.batch.now c.requires l.repeated l.offset l.ended _ c.in-Answered.answer c.in-Answered.next l.invariant.room
+    c.step-stepped.ensures.0 c.in-Answered.is in
+    let p = printed_step node a.batch.now c.requires l.repeated _ l.offset l.ended c.in-Answered.answer c.in-Answered.next l.invariant.room w
     c.step-stepped.ensures.1 in
-    omega (arith, p.fits, c.step-stepped.auto.1.1.1.1.0, l.invariant.room)
+    omega (arith, p.fits, c.step-stepped.auto.output, l.invariant.room)
 
 pub slice_bounds-put_pdu_line-end : goal.slice_bounds-put_pdu_line-end
 slice_bounds-put_pdu_line-end c =
     let a = c.args in
     let node = node_of a.settings (lists_in a.lists.now) in
     let l = c.loop-answer in
-    let f = c.stepped-1 in
-    let w = went_step node a.batch.now c.requires l.repeated l.offset l.ended _ f.given.0.0 f.given.0.1.0 l.invariant.room
-    c.step-stepped.ensures.0 f.given.1 in
-    let p = printed_step node a.batch.now c.requires l.repeated _ l.offset l.ended f.given.0.0 f.given.0.1.0 l.invariant.room w
+    let w = went_step node a.batch.now c.requires l.repeated l.offset l.ended _ c.in-Answered.answer c.in-Answered.next l.invariant.room
+    c.step-stepped.ensures.0 c.in-Answered.is in
+    let p = printed_step node a.batch.now c.requires l.repeated _ l.offset l.ended c.in-Answered.answer c.in-Answered.next l.invariant.room w
     c.step-stepped.ensures.1 in
-    sym (length-take-le _ _ (omega (arith, p.fits, c.step-stepped.auto.1.1.1.1.0, l.invariant.room)))
+    sym (length-take-le _ _ (omega (arith, p.fits, c.step-stepped.auto.output, l.invariant.room)))
 
 pub loop-answer-smaller : goal.loop-answer-smaller
 loop-answer-smaller c =
     let a = c.args in
     let node = node_of a.settings (lists_in a.lists.now) in
     let l = c.loop-answer in
-    let f = c.stepped-1 in
-    let w = went_step node a.batch.now c.requires l.repeated l.offset l.ended _ f.given.0.0 f.given.0.1.0 l.invariant.room
-    c.step-stepped.ensures.0 f.given.1 in
-    less_to_do node a.batch.now l.offset l.ended f.given.0.0 f.given.0.1.0 w
+    let w = went_step node a.batch.now c.requires l.repeated l.offset l.ended _ c.in-Answered.answer c.in-Answered.next l.invariant.room
+    c.step-stepped.ensures.0 c.in-Answered.is in
+    less_to_do node a.batch.now l.offset l.ended c.in-Answered.answer c.in-Answered.next w
 
 pub loop-answer-preserved : goal.loop-answer-preserved
 loop-answer-preserved c =
     let a = c.args in
     let node = node_of a.settings (lists_in a.lists.now) in
     let l = c.loop-answer in
-    let f = c.stepped-1 in
-    let w = went_step node a.batch.now c.requires l.repeated l.offset l.ended _ f.given.0.0 f.given.0.1.0 l.invariant.room
-    c.step-stepped.ensures.0 f.given.1 in
-    let p = printed_step node a.batch.now c.requires l.repeated _ l.offset l.ended f.given.0.0 f.given.0.1.0 l.invariant.room w
+    let w = went_step node a.batch.now c.requires l.repeated l.offset l.ended _ c.in-Answered.answer c.in-Answered.next l.invariant.room
+    c.step-stepped.ensures.0 c.in-Answered.is in
+    let p = printed_step node a.batch.now c.requires l.repeated _ l.offset l.ended c.in-Answered.answer c.in-Answered.next l.invariant.room w
     c.step-stepped.ensures.1 in
-    going_next node a.batch.now l.offset l.ended f.given.0.0 f.given.0.1.0 w _ _ _ _ _ _ _ _ _ _ l.invariant p
-    (c.step-stepped.auto.1.1.1.1.0 ∙ l.invariant.room) refl c.put_pdu_line-next_place.ensures
+    going_next node a.batch.now l.offset l.ended c.in-Answered.answer c.in-Answered.next w _ _ _ _ _ _ _ _ _ _ l.invariant p
+    (c.step-stepped.auto.output ∙ l.invariant.room) refl c.put_pdu_line-next_place.ensures
 
 pub returns : goal.returns
 returns c =
@@ -74,4 +70,4 @@ returns c =
     l.invariant
     (with_room node a.batch.now c.requires l.repeated l.offset l.ended _ l.invariant.room
     c.step-stepped.ensures.0)
-    c.in_default.in_default-own.keys2 c.put_last_line.ensures
+    c.in_default.not-Answered c.put_last_line.ensures

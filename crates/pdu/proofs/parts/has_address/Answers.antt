@@ -24,12 +24,11 @@ has_two-requires c =
     )
 
 pub loop-i-preserved : goal.loop-i-preserved
-loop-i-preserved c =
-    (
-      omega arith,
-      c.loop-i.invariant.1 ∙ sought_next_two _ _ _ _ _ _ (omega arith) (omega arith)
-          (sym (sought_all _ _ _ _) ∙ sym c.has_two.ensures ∙ c.if-has_two.false),
-    )
+loop-i-preserved c = (
+  omega arith,
+  c.loop-i.invariant.1 ∙ sought_next_two _ _ _ _ _ _ (omega arith) (omega arith)
+      (sym (sought_all _ _ _ _) ∙ sym c.has_two.ensures ∙ c.if-has_two.false),
+)
 
 pub returns-then-entries-i : goal.returns-then-entries-i
 returns-then-entries-i c =
