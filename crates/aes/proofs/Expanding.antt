@@ -9,8 +9,8 @@ use native.Mathlib.Numerals.{add-one}
 use native.Mathlib.Omega.{arith}
 use borrow.Author.Tests.{eq-eqb}
 use lib.Bits.{xor_zero_r}
-use lib.ListN.{length, take, drop, set, length-append, get_or-append}
-use lib.Seq.{take_all, take-length, take-suc, take-suc-set, take-append_seam, take-append-le, get_or-take, get_or-append-add}
+use lib.ListN.{length, take, set, length-append, get_or-append}
+use lib.Seq.{take_all, take-suc, take-suc-set, take-append_seam, take-append-le, get_or-take, get_or-append-add}
 use Rattle.octets.specs.Octets.{at}
 use Rattle.aes_field.specs.Field.{◌⊕◌, sub_byte}
 use Rattle.aes_rounds.specs.Rounds.{listed, word}

@@ -9,7 +9,7 @@ use lib.ListN.{length, take, length-take}
 use lib.Seq.{get_or-take, length-take-le}
 use borrow.Author.Tests.{eqb-true, eqb-false, eq-eqb, ne_eqb, leb-true, not-true, not-false}
 use Rattle.octets.specs.Numbers.{flag}
-use Rattle.octets.specs.Octets.{at, word_at}
+use Rattle.octets.specs.Octets.{at}
 use Rattle.octets.proofs.Numbering.{or_else_zero, gives_zero}
 use Rattle.octets.proofs.Tests.{both}
 use Rattle.pdu.specs.Header.{is_set, path_bit, payload_length, header_of}

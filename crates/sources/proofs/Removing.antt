@@ -5,7 +5,7 @@ use mathlib.Core.Bool.{Bool, true, false, cond}
 use mathlib.Core.List.{List, [], ◌∷◌, ◌++◌, append_assoc, append-nil}
 use mathlib.Core.Path.{◌≡◌, refl, ap, ap₂, sym, ◌∙◌}
 use lib.Dec.{eqb}
-use lib.ListN.{length, get_or, take, drop, set, length-append, length-take, length-drop}
+use lib.ListN.{length, get_or, take, drop, set, length-append, length-take}
 use lib.Seq.{take-suc, drop-cons, take_all, set_at, get_or-append-add, get_or-drop}
 use borrow.Author.Tests.{eq-eqb, ne_eqb, le-ltb, lt-ltb}
 use Rattle.octets.specs.Octets.{at, over}

@@ -3,7 +3,7 @@ use Prim.Native.Nat.{ℕ, suc, ◌+◌, ◌-◌, ◌*◌, ◌≤◌, ◌<◌}
 use native.Mathlib.Omega.{arith}
 use mathlib.Core.List.{List, ◌∷◌, ◌++◌}
 use mathlib.Core.Path.{◌≡◌, ap, sym, ◌∙◌}
-use lib.ListN.{length, take, drop, set, length-append, length-drop, length-set, get_or-append}
+use lib.ListN.{length, take, drop, set, length-append, length-drop, get_or-append}
 use lib.Seq.{take_all, get_or-drop, get_or-take, length-take-le}
 use Rattle.octets.specs.Octets.{at, placed}
 use Rattle.octets.proofs.Placing.{is_placed, nothing_placed, length_placed}

@@ -12,7 +12,7 @@ use Rattle.octets.specs.Octets.{at, AllBytes, word_at}
 use Rattle.octets.proofs.Tests.{both}
 use Rattle.pdu.specs.declared.Destination.TheVariants.{Everyone, Address}
 use Rattle.pdu.specs.declared.Header.{Header}
-use Rattle.pdu.specs.Header.{is_set, protocol, destination_bit, port, reserved, destination_place, header_of}
+use Rattle.pdu.specs.Header.{is_set, protocol, destination_bit, destination_place, header_of}
 use Rattle.pdu.specs.Sizes.{destination_flag}
 use Rattle.writing.specs.Writing.{writable, WellFormed}
 use Rattle.pdu.proofs.Inversion.{Shown}

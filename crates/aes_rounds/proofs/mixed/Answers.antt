@@ -1,9 +1,7 @@
 use mathlib.Core.Path.{refl}
 use native.Mathlib.Omega.{arith}
 use lib.ListN.{length-set}
-use Rattle.aes_rounds.specs.Rounds.{mix_column}
-use Rattle.aes_rounds.proofs.Listed.{all_written}
-use Rattle.aes_rounds.proofs.Columns.{blended, column_written}
+use Rattle.aes_rounds.proofs.Columns.{column_written}
 use borrow.Author.Rules.{rules}
 use Rattle.aes_rounds.proofs.mixed.Goals as goal
 

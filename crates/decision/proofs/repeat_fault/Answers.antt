@@ -1,4 +1,3 @@
-use Rattle.std.proofs.lemmas.Bool.{not_from_false, not_from_true}
 use mathlib.Core.Path.{sym, ◌∙◌}
 use Rattle.decision.specs.Decision.{repeat_fault}
 use Rattle.octets.proofs.Numbering.{gives_here, gives_later, gives_last, gives_none}

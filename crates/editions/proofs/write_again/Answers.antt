@@ -1,5 +1,4 @@
 use mathlib.Core.Path.{sym, ◌∙◌}
-use borrow.Author.Tests.{not-true, not-false}
 use Rattle.editions.proofs.Same.{unknown_written, known_written}
 use Rattle.editions.proofs.write_again.Goals as goal
 

@@ -19,8 +19,7 @@ shape_of-block c = c.loop-i.invariant.same
 
 pub returns : goal.returns
 returns c =
-    let l = c.loop-i in
-    (
+    let l = c.loop-i in (
       putting_end c.args.block.now c.args.place c.args.list.now _
           (c.word_value-size.ensures.0 ∙ c.laid_length.ensures) c.requires l.block l.i (omega arith) l.invariant,
       omega (arith, l.invariant.few),

@@ -1,5 +1,4 @@
 use Rattle.retained.proofs.Laws.{unfit_75, unfit_72, unfit_0}
-use borrow.Author.Tests.{not-true, not-false}
 use Rattle.retained.proofs.retain_fault.Goals as goal
 
 pub returns-then-not-is_retainable : goal.returns-then-not-is_retainable

@@ -18,7 +18,7 @@ loop-i-preserved c =
       simp length-set v.1,
       fed_more _ _ c.loop-i.i (omega arith) v.2
           (elim c.if-place-eq63.branch [
-            then-place-eq63 w ↦
+            | then-place-eq63 w ↦
                 full (c.loop-i.total % 64) _ _ w.if-place-eq63.true (w.hash-is ∙ w.compress-next.ensures)
             | else-place-eq63 w ↦ not_full (c.loop-i.total % 64) _ _ w.if-place-eq63.false w.hash-is
           ])

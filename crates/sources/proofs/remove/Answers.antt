@@ -17,12 +17,11 @@ keep-next-requires c =
     kept_room _ _ _ c.loop-at.invariant.2 (omega (arith, c.loop-at.invariant.0, c.loop-at-test.true))
 
 pub loop-at-preserved : goal.loop-at-preserved
-loop-at-preserved c =
-    (
-      c.loop-at.invariant.0,
-      omega (arith, c.loop-at-test.true),
-      kept_more _ _ _ c.loop-at.invariant.2 (omega (arith, c.loop-at.invariant.0, c.loop-at-test.true)) c.keep-next.ensures.0 c.keep-next.ensures.1,
-    )
+loop-at-preserved c = (
+  c.loop-at.invariant.0,
+  omega (arith, c.loop-at-test.true),
+  kept_more _ _ _ c.loop-at.invariant.2 (omega (arith, c.loop-at.invariant.0, c.loop-at-test.true)) c.keep-next.ensures.0 c.keep-next.ensures.1,
+)
 
 pub overflow_cast-memory : goal.overflow_cast-memory
 overflow_cast-memory c = record { fits = omega (arith, kept_64 _ _ _ c.loop-at.invariant.2) }

@@ -17,7 +17,6 @@ loop-left-init c = (
   omega arith,
   refl,
   first_not_over _ _ (λ e. c.if-next_place-eq128.false (c.next_place.ensures.0 ∙ e)),
-
 )
 
 pub next_two-place-requires : goal.next_two-place-requires

@@ -1,7 +1,4 @@
-use mathlib.Core.Path.{ap}
-use Rattle.pdu.specs.Sizes.{destination_flag}
 use Rattle.octets.proofs.Placing.{nothing_after, nothing_placed}
-use native.Mathlib.Omega.{arith}
 use Rattle.writing.proofs.put_destination.Goals as goal
 
 pub returns-in-Everyone : goal.returns-in-Everyone

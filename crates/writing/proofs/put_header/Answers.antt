@@ -1,6 +1,5 @@
 use mathlib.Core.Path.{sym, ◌∙◌}
 use native.Mathlib.Omega.{arith}
-use borrow.Author.Tests.{not-true, not-false}
 use Rattle.writing.proofs.Encoding.{not_put, not_writable, no_room, header_done}
 use Rattle.writing.proofs.put_header.Goals as goal
 

@@ -17,9 +17,8 @@ returns c =
     (omega (arith, all.0, c.path_entries-entries.ensures.0), all.1)
 
 pub loop-i-preserved : goal.loop-i-preserved
-loop-i-preserved c =
-    (
-      omega arith,
-      omega (arith, c.put_word.auto.output),
-      path_more _ _ _ _ _ _ _ _ (omega arith) c.word.ensures c.loop-i.invariant.2 c.put_word.ensures.1,
-    )
+loop-i-preserved c = (
+  omega arith,
+  omega (arith, c.put_word.auto.output),
+  path_more _ _ _ _ _ _ _ _ (omega arith) c.word.ensures c.loop-i.invariant.2 c.put_word.ensures.1,
+)

@@ -1,7 +1,6 @@
 use Rattle.retained.specs.Records.{is_used, is_due}
 use Rattle.retained.proofs.Laws.{not_passed, by_use}
 use mathlib.Core.Path.{◌∙◌}
-use borrow.Author.Tests.{not-true, not-false}
 use Rattle.retained.proofs.in_use.is_due.Goals as goal
 
 pub returns-then-not-is_past : goal.returns-then-not-is_past

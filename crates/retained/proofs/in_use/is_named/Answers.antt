@@ -3,7 +3,6 @@ use Rattle.retained.specs.Records.{is_named, same_names}
 use Rattle.retained.proofs.Laws.{not_passed, by_use}
 use Rattle.retained.proofs.Used.{names_are}
 use mathlib.Core.Path.{◌∙◌, ap}
-use borrow.Author.Tests.{not-true, not-false}
 use Rattle.retained.proofs.in_use.is_named.Goals as goal
 
 pub returns-then-not-same_names : goal.returns-then-not-same_names

@@ -16,7 +16,6 @@ returns-then-size-gt256 c = simp (
   eq-eqb _ _ c.if-byte0-ne1-2.false,
   eq-eqb _ _ c.if-byte1-ne0.false,
   lt-leb _ _ c.if-size-gt256.true,
-
 )
 
 pub returns-then-entries-ne0 : goal.returns-then-entries-ne0
@@ -26,7 +25,6 @@ returns-then-entries-ne0 c = simp (
   eq-eqb _ _ c.if-byte1-ne0.false,
   le-leb _ _ c.if-size-gt256.false,
   ne_eqb _ _ c.if-entries-ne0.true,
-
 )
 
 pub returns : goal.returns
@@ -38,5 +36,4 @@ returns c = simp (
   eq-eqb _ _ c.if-entries-ne0.false,
   c.byte_value.ensures.0,
   c.word_value.ensures.0,
-
 )
