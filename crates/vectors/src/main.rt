@@ -33,7 +33,10 @@ fn show_word(rt: &impl Print, word: u32) -> io::Result<()> {
 }
 
 fn show_digest(rt: &impl Print, message: &[u8]) -> io::Result<()> {
-    show_hash(rt, sha1_digest::finish(sha1_digest::feed(sha1_digest::begin(), message)))
+    show_hash(
+        rt,
+        sha1_digest::finish(sha1_digest::feed(sha1_digest::begin(), message)),
+    )
 }
 
 // The letter a, a million times, in a thousand parts.
@@ -112,7 +115,10 @@ fn main(rt: HostRuntime) -> io::Result<()> {
     // FIPS 180: the empty message, "abc", the message of 448 bits, and a million times the letter a.
     show_digest(&rt, b"")?;
     show_digest(&rt, b"abc")?;
-    show_digest(&rt, b"abcdbcdecdefdefgefghfghighijhijkijkljklmklmnlmnomnopnopq")?;
+    show_digest(
+        &rt,
+        b"abcdbcdecdefdefgefghfghighijhijkijkljklmklmnlmnomnopnopq",
+    )?;
     show_million(&rt)?;
     show_stream(&rt)?;
     show_counted(&rt)?;
