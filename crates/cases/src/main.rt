@@ -37,30 +37,33 @@ mod telling;
 mod verb;
 mod writing_verbs;
 
+use input::read_full;
 use line::{Line, ROOM};
+use std::io;
 
 // A text has fewer bytes; the rest of the room is empty lines.
 const TEXT_ROOM: usize = 16384;
 
-fn main() {
+fn main(rt: HostRuntime) -> io::Result<()> {
     let mut text = [b'\n'; TEXT_ROOM];
-    let count = io::read_full(0, &mut text);
-    tell_end(cases(&text), count == TEXT_ROOM);
+    let count = read_full(&mut rt.reader(), &mut text)?;
+    let last = cases(&rt, &text)?;
+    tell_end(&rt, last, count == TEXT_ROOM)
 }
 
 // A text that was cut is wrong, whatever its lines say.
-fn tell_end(last: Line, cut: bool) {
-    io::print_decimal(1, last.cases);
-    io::write_all(1, b" cases, ");
-    io::print_decimal(1, last.wrong);
+fn tell_end(rt: &impl Print, last: Line, cut: bool) -> io::Result<()> {
+    let cases = last.cases;
+    let wrong = last.wrong;
+    print!(rt; "{cases} cases, {wrong} wrong")?;
     if cut {
-        io::write_all(1, b" wrong, and the text is too long: WRONG\n");
+        println!(rt; ", and the text is too long: WRONG")
     } else {
-        io::write_all(1, b" wrong\n");
+        println!(rt; "")
     }
 }
 
-fn cases(text: &[u8]) -> Line {
+fn cases(rt: &impl Print, text: &[u8]) -> io::Result<Line> {
     let mut bytes = [0u8; ROOM];
     let mut values = [0u16; ROOM];
     let mut line = Line::new(0, 0, 0);
@@ -74,10 +77,10 @@ fn cases(text: &[u8]) -> Line {
             longer.times,
             longer.item,
         );
-        let next = judge(longer, byte, text, &bytes, &values);
+        let next = judge(rt, longer, byte, text, &bytes, &values)?;
         line = next;
     }
-    line
+    Ok(line)
 }
 
 // Puts an item so many times before a place.
@@ -98,46 +101,58 @@ fn store(
 }
 
 // At the end of a line prints its case, and begins the next line.
-fn judge(line: Line, byte: u8, text: &[u8], bytes: &[u8; ROOM], values: &[u16; ROOM]) -> Line {
+fn judge(
+    rt: &impl Print,
+    line: Line,
+    byte: u8,
+    text: &[u8],
+    bytes: &[u8; ROOM],
+    values: &[u16; ROOM],
+) -> io::Result<Line> {
     if byte != b'\n' {
-        return line;
+        return Ok(line);
     }
     if line.length == 1 {
-        return line.next(false, false);
+        return Ok(line.next(false, false));
     }
-    io::write_all(1, octets::part(text, line.start, line.shown()));
-    let right = is_right(line, bytes, values);
-    tell_verdict(right);
-    line.next(true, !right)
+    rt.write_all(octets::part(text, line.start, line.shown()))?;
+    let right = is_right(rt, line, bytes, values)?;
+    tell_verdict(rt, right)?;
+    Ok(line.next(true, !right))
 }
 
-fn tell_verdict(right: bool) {
+fn tell_verdict(rt: &impl Print, right: bool) -> io::Result<()> {
     if right {
-        io::write_all(1, b" ok\n");
+        println!(rt; " ok")
     } else {
-        io::write_all(1, b" WRONG\n");
+        println!(rt; " WRONG")
     }
 }
 
-fn is_right(line: Line, bytes: &[u8; ROOM], values: &[u16; ROOM]) -> bool {
+fn is_right(
+    rt: &impl Print,
+    line: Line,
+    bytes: &[u8; ROOM],
+    values: &[u16; ROOM],
+) -> io::Result<bool> {
     if !line.is_read() {
-        return tell_unreadable(line.refused_at());
+        return tell_unreadable(rt, line.refused_at());
     }
     let asked = section(bytes, line.output, line.end);
     if line.gives_output() {
         let input = section(bytes, line.input, line.output);
         let after = section(bytes, line.after, line.place);
-        return writing_verbs::ask(line, input, values, asked, after);
+        return writing_verbs::ask(rt, line, input, values, asked, after);
     }
-    reading_verbs::ask(line, asked, values)
+    reading_verbs::ask(rt, line, asked, values)
 }
 
 fn section(bytes: &[u8], start: usize, end: usize) -> &[u8] {
     octets::part(bytes, start, std::num::wrapping_sub_usize(end, start))
 }
 
-fn tell_unreadable(place: usize) -> bool {
-    io::write_all(1, b" can't be read at character");
-    telling::print_number(place as u64);
-    false
+fn tell_unreadable(rt: &impl Print, place: usize) -> io::Result<bool> {
+    print!(rt; " can't be read at character")?;
+    telling::print_number(rt, place as u64)?;
+    Ok(false)
 }

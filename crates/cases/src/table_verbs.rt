@@ -4,14 +4,15 @@ use crate::telling::{list, tell, wide};
 use crate::verb;
 use stations::Station;
 use stations_update::Heard;
+use std::io;
 
-pub(crate) fn ask(line: Line, values: &[u16]) -> bool {
+pub(crate) fn ask(rt: &impl Print, line: Line, values: &[u16]) -> io::Result<bool> {
     let mut memory = [0u16; Station::MEMORY];
     copy(&mut memory, list(values, line.list, line.end));
     if line.verb == verb::COUNT {
-        return counts(line, &mut memory);
+        return counts(rt, line, &mut memory);
     }
-    forgets(line, &mut memory)
+    forgets(rt, line, &mut memory)
 }
 
 fn copy(room: &mut [u16], given: &[u16]) {
@@ -24,7 +25,7 @@ fn value_at(given: &[u16], i: usize) -> u16 {
     if i < given.len() { given[i] } else { 0 }
 }
 
-fn counts(line: Line, memory: &mut [u16; Station::MEMORY]) -> bool {
+fn counts(rt: &impl Print, line: Line, memory: &mut [u16; Station::MEMORY]) -> io::Result<bool> {
     let heard = Heard {
         source: (line.asked(0) % 65536) as u16,
         echo: line.asked(1) != 0,
@@ -34,22 +35,26 @@ fn counts(line: Line, memory: &mut [u16; Station::MEMORY]) -> bool {
     let number = stations_update::count(memory, heard);
     let found = stations::station_of(memory, heard.source);
     let held = stations::held(memory);
-    tell(line, 0o222222, 0, wide(number))
-        & tell(line, 0o222222, 1, held as u64)
-        & tells_station(line, found.station)
+    Ok(
+        tell(rt, line, 0o222222, 0, wide(number))?
+            & tell(rt, line, 0o222222, 1, held as u64)?
+            & tells_station(rt, line, found.station)?,
+    )
 }
 
-fn tells_station(line: Line, station: Station) -> bool {
+fn tells_station(rt: &impl Print, line: Line, station: Station) -> io::Result<bool> {
     let reads = station.reads as u64;
     let echoes = station.echoes as u64;
-    tell(line, 0o222222, 2, reads)
-        & tell(line, 0o222222, 3, echoes)
-        & tell(line, 0o222222, 4, station.has_path as u64)
-        & tell(line, 0o222222, 5, station.shortest_path as u64)
+    Ok(
+        tell(rt, line, 0o222222, 2, reads)?
+            & tell(rt, line, 0o222222, 3, echoes)?
+            & tell(rt, line, 0o222222, 4, station.has_path as u64)?
+            & tell(rt, line, 0o222222, 5, station.shortest_path as u64)?,
+    )
 }
 
-fn forgets(line: Line, memory: &mut [u16; Station::MEMORY]) -> bool {
+fn forgets(rt: &impl Print, line: Line, memory: &mut [u16; Station::MEMORY]) -> io::Result<bool> {
     let number = stations_update::remove(memory, (line.asked(0) % 65536) as u16);
     let held = stations::held(memory);
-    tell(line, 0o22, 0, wide(number)) & tell(line, 0o22, 1, held as u64)
+    Ok(tell(rt, line, 0o22, 0, wide(number))? & tell(rt, line, 0o22, 1, held as u64)?)
 }

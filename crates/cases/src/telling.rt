@@ -2,16 +2,22 @@
 ghost use Rattle.std.specs.Prelude.{◌≤◌};
 
 use crate::line::Line;
+use std::io;
 
 // Prints a number answered, and answers whether it is the one expected in that place, and what is expected has the shape.
-pub(crate) fn tell(line: Line, shape: usize, place: usize, number: u64) -> bool {
-    print_number(number);
-    (line.shape == shape) & (line.expected(place) as u64 == number)
+pub(crate) fn tell(
+    rt: &impl Print,
+    line: Line,
+    shape: usize,
+    place: usize,
+    number: u64,
+) -> io::Result<bool> {
+    print_number(rt, number)?;
+    Ok((line.shape == shape) & (line.expected(place) as u64 == number))
 }
 
-pub(crate) fn print_number(number: u64) {
-    io::write_all(1, b" ");
-    io::print_decimal(1, number);
+pub(crate) fn print_number(rt: &impl Print, number: u64) -> io::Result<()> {
+    print!(rt; " {number}")
 }
 
 pub(crate) fn wide(x: u8) -> u64 {

@@ -6,88 +6,109 @@ use batch::{Cursor, Numbers};
 use decision::{Choice, Settings};
 use node::Answer;
 use pdu::{Destination, Written};
+use std::io;
 
-pub(crate) fn ask(line: Line, input: &[u8], values: &[u16], before: &[u8], after: &[u8]) -> bool {
+pub(crate) fn ask(
+    rt: &impl Print,
+    line: Line,
+    input: &[u8],
+    values: &[u16],
+    before: &[u8],
+    after: &[u8],
+) -> io::Result<bool> {
     let mut output = [0u8; ROOM];
     octets::put(&mut output, 0, before);
     let size = least(before.len(), ROOM);
     let room = &mut output[0..size];
-    let right = by_verb(line, input, values, room);
-    right & check::same(room, after)
+    let right = by_verb(rt, line, input, values, room)?;
+    Ok(right & (&room[..] == after))
 }
 
-fn by_verb(line: Line, input: &[u8], values: &[u16], output: &mut [u8]) -> bool {
+fn by_verb(
+    rt: &impl Print,
+    line: Line,
+    input: &[u8],
+    values: &[u16],
+    output: &mut [u8],
+) -> io::Result<bool> {
     let verb = line.verb;
     if verb == verb::WRITE {
-        return tells_written(line, writing::write_again(input, output));
+        return tells_written(rt, line, writing::write_again(input, output));
     }
     if verb == verb::PACK {
-        return tells_written(line, exchange::write_exchange(input, output));
+        return tells_written(rt, line, exchange::write_exchange(input, output));
     }
     if verb == verb::ORIGINATE {
-        return tells_written(line, origin::originate(origin_of(line), input, output));
+        return tells_written(rt, line, origin::originate(origin_of(line), input, output));
     }
     let mut block = [0u16; list_block::BLOCK_LIMIT];
     let one = list(values, line.list, line.input);
     let none = list(values, 0, 0);
     list_block::lay(&mut block, one, none, one, none, one, none, one, none);
-    hears(line, node_of(line), input, &block, output)
+    hears(rt, line, node_of(line), input, &block, output)
 }
 
-fn tells_written(line: Line, written: Written) -> bool {
+fn tells_written(rt: &impl Print, line: Line, written: Written) -> io::Result<bool> {
     let number = written.number as u64;
-    tell(line, 0o22_13, 0, number) & tell(line, 0o22_13, 1, written.length as u64)
+    Ok(tell(rt, line, 0o22_13, 0, number)? & tell(rt, line, 0o22_13, 1, written.length as u64)?)
 }
 
 fn hears(
+    rt: &impl Print,
     line: Line,
     settings: Settings,
     input: &[u8],
     lists: &[u16; list_block::BLOCK_LIMIT],
     output: &mut [u8],
-) -> bool {
+) -> io::Result<bool> {
     let verb = line.verb;
     if verb == verb::STEP {
         let start = Cursor::start();
         let stepped = batch::step(settings, lists, input, start, output);
-        return tells_step(line, batch::numbers_of(stepped));
+        return tells_step(rt, line, batch::numbers_of(stepped));
     }
     if verb == verb::HEAR {
-        return tells_answer(line, node::hear(settings, lists, input, output));
+        return tells_answer(rt, line, node::hear(settings, lists, input, output));
     }
-    delivers(line, settings, input, lists, output)
+    delivers(rt, line, settings, input, lists, output)
 }
 
 // The payload delivered is put into the output.
 fn delivers(
+    rt: &impl Print,
     line: Line,
     settings: Settings,
     input: &[u8],
     lists: &[u16],
     output: &mut [u8],
-) -> bool {
+) -> io::Result<bool> {
     let mut none = [0u8; 0];
     let answer = node::hear(settings, lists, input, &mut none);
     let payload = node::delivered(input, answer);
     octets::put(output, 0, payload);
-    tell(line, 0o2_13, 0, payload.len() as u64)
+    tell(rt, line, 0o2_13, 0, payload.len() as u64)
 }
 
-fn tells_answer(line: Line, answer: Answer) -> bool {
+fn tells_answer(rt: &impl Print, line: Line, answer: Answer) -> io::Result<bool> {
     let delivery = answer.delivery as u64;
     let repeat = answer.repeat as u64;
-    tell(line, 0o222_13, 0, delivery)
-        & tell(line, 0o222_13, 1, repeat)
-        & tell(line, 0o222_13, 2, answer.repeated_length as u64)
+    Ok(
+        tell(rt, line, 0o222_13, 0, delivery)?
+            & tell(rt, line, 0o222_13, 1, repeat)?
+            & tell(rt, line, 0o222_13, 2, answer.repeated_length as u64)?,
+    )
 }
 
-fn tells_step(line: Line, numbers: Numbers) -> bool {
+fn tells_step(rt: &impl Print, line: Line, numbers: Numbers) -> io::Result<bool> {
     match numbers {
         Numbers::Two { delivery, repeat } => {
-            tell(line, 0o22_13, 0, delivery as u64) & tell(line, 0o22_13, 1, repeat as u64)
+            Ok(
+                tell(rt, line, 0o22_13, 0, delivery as u64)?
+                    & tell(rt, line, 0o22_13, 1, repeat as u64)?,
+            )
         }
-        Numbers::Alone(number) => tell(line, 0o2_13, 0, number as u64),
-        Numbers::NoAnswer => line.shape == 0o13,
+        Numbers::Alone(number) => tell(rt, line, 0o2_13, 0, number as u64),
+        Numbers::NoAnswer => Ok(line.shape == 0o13),
     }
 }
 

@@ -1,18 +1,16 @@
 -- Laws of reading a decimal argument. Assumes nothing.
 use mathlib.Core.Path.{◌≡◌, refl, sym, ap, ◌∙◌}
-use mathlib.Core.Logic.{◌≢◌, ◌⊎◌, ⊎_elim}
+use mathlib.Core.Logic.{◌≢◌}
 use mathlib.Core.List.{List, [], ◌∷◌}
 use Prim.Native.Nat.{ℕ, ◌+◌, ◌*◌, ◌-◌, ◌^◌, ◌≤◌, ◌<◌}
 use native.Mathlib.Numerals.{add-one}
 use native.Mathlib.Omega.{arith}
 use borrow.Author.Tests.{lt-ltb, le-ltb}
-use denote.Enum.Declared.{tag_of}
 use lib.ListN.{length, get_or, drop, drop_of_length-le}
 use lib.Seq.{drop-cons}
 use Rattle.plan.specs.Argument.{with_digit, then_digit, read_on, argument_of}
 use Rattle.plan.specs.declared.argument.Argument.{Argument}
 use Rattle.plan.specs.declared.argument.Argument.TheVariants.{Number, NotDecimal, TooLong}
-use Rattle.plan.specs.contracts.argument.Argument.{the_type}
 
 -- a digit
 pub digit_low : (n b : ℕ) → b < 48 → with_digit n b ≡ NotDecimal
@@ -51,12 +49,12 @@ pub read_more : (l : List ℕ) (n i m : ℕ) {r : Argument} → i < length l →
 read_more l n i m h is number = read_step l n i h ∙ ap (λ (a : Argument). then_digit a (λ k. read_on k (drop (i + 1) l))) (sym is ∙ number)
 
 pub read_stop : (l : List ℕ) (n i : ℕ) (r : Argument) → i < length l → r ≡ with_digit n (get_or l i 0)
-    → (tag_of the_type r ≡ 1) ⊎ (tag_of the_type r ≡ 2)
+    → ((m : ℕ) → r ≢ Number m)
     → read_on n (drop i l) ≡ r
 read_stop l n i r h is other = read_step l n i h ∙ ap (λ (a : Argument). then_digit a (λ k. read_on k (drop (i + 1) l))) (sym is) ∙ stop r other
   where
-    stop : (a : Argument) → (tag_of the_type a ≡ 1) ⊎ (tag_of the_type a ≡ 2) → then_digit a (λ k. read_on k (drop (i + 1) l)) ≡ a
-    stop (Number k) o = absurd (⊎_elim {C = ⊥} (λ e. omega arith) (λ e. omega arith) o)
+    stop : (a : Argument) → ((m : ℕ) → a ≢ Number m) → then_digit a (λ k. read_on k (drop (i + 1) l)) ≡ a
+    stop (Number k) o = absurd (o k refl)
     stop NotDecimal o = refl
     stop TooLong o = refl
 

@@ -1,28 +1,48 @@
 // The table of bounds, a row for each number of nodes and a column for each hop limit.
 use crate::{say, say_once};
 use bound::Bound;
+use std::io;
 
 // Prints the bounds for 0 to 12 repeating nodes and hop limits 0 to 7.
-pub(crate) fn print_table() {
-    print_title();
+pub(crate) fn print_table(rt: &impl Print) -> io::Result<()> {
+    print_title(rt)?;
     for nodes in 0..13 {
-        print_row(nodes);
+        print_row(rt, nodes)?;
     }
+    Ok(())
 }
 
-fn print_title() {
-    say(b"The most times that one report can go out on the air, its first time counted,\n");
-    say(b"by repeating nodes N and hop limit h. A hop limit of 7 sets no limit.\n");
-    say(b"The report's originator and its destination do not count, also if they repeat.\n");
-    say(b"The report was originated with a path, every node has echo suppression on,\n");
-    say(b"the originator too, no two nodes have the same address, and no node takes a\n");
-    say(b"transmission twice.\n");
-    say_once();
-    say(b"\n");
-    say(b"  N     h=0     h=1     h=2     h=3     h=4     h=5     h=6         h=7\n");
+fn print_title(rt: &impl Print) -> io::Result<()> {
+    say(
+        rt,
+        "The most times that one report can go out on the air, its first time counted,\n",
+    )?;
+    say(
+        rt,
+        "by repeating nodes N and hop limit h. A hop limit of 7 sets no limit.\n",
+    )?;
+    say(
+        rt,
+        "The report's originator and its destination do not count, also if they repeat.\n",
+    )?;
+    say(
+        rt,
+        "The report was originated with a path, every node has echo suppression on,\n",
+    )?;
+    say(
+        rt,
+        "the originator too, no two nodes have the same address, and no node takes a\n",
+    )?;
+    say(rt, "transmission twice.\n")?;
+    say_once(rt)?;
+    say(rt, "\n")?;
+    say(
+        rt,
+        "  N     h=0     h=1     h=2     h=3     h=4     h=5     h=6         h=7\n",
+    )
 }
 
-fn print_row(nodes: u64) {
+fn print_row(rt: &impl Print, nodes: u64) -> io::Result<()> {
     let mut line = [b' '; 71];
     let row: &mut [u8] = &mut line;
     put_right(row, 3, nodes);
@@ -33,8 +53,8 @@ fn print_row(nodes: u64) {
             bound::most_transmissions(nodes, hop_limit),
         );
     }
-    say(row);
-    say(b"\n");
+    rt.write_all(row)?;
+    say(rt, "\n")
 }
 
 // Where a column ends: 8 bytes for each hop limit below 7, and 12 for the larger bounds at 7.

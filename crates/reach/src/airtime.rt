@@ -3,6 +3,7 @@ use super::words::{say, say_count, say_number};
 use bound::Bound;
 use chains::NODE_LIMIT;
 use octets::byte;
+use std::io;
 use ways::{Airtime, ROW};
 
 // The count of transmissions stops here. No PDU has more than 4,615 bytes, so that of their bytes never stops before.
@@ -11,7 +12,7 @@ const ENOUGH: u64 = 10000000;
 const ENOUGH_BYTES: u64 = 46150000000;
 
 // How often it goes out, if that was counted, and how many bytes that is, if they were asked for.
-#[derive(Drop)]
+#[derive(Clone, Copy)]
 pub(crate) struct Air {
     pub(crate) is_counted: bool,
     pub(crate) has_bytes: bool,
@@ -69,59 +70,72 @@ fn number_in(airtime: Airtime) -> u64 {
     }
 }
 
-pub(crate) fn print_airtime(hop_limit: u8, size: u16, air: Air, marks: &[u8]) {
+pub(crate) fn print_airtime(
+    rt: &impl Print,
+    hop_limit: u8,
+    size: u16,
+    air: Air,
+    marks: &[u8],
+) -> io::Result<()> {
     let repeaters = repeaters_in(marks);
-    say(b"the report goes out ");
+    say(rt, "the report goes out ")?;
     if air.is_counted {
-        say_count(air.times, b" time");
+        say_count(rt, air.times, " time")?;
     } else {
-        say_number(ENOUGH);
-        say(b" times or more, where the count stops,");
+        say_number(rt, ENOUGH)?;
+        say(rt, " times or more, where the count stops,")?;
     }
-    say(b" on this network, and ");
+    say(rt, " on this network, and ")?;
     say_most(
+        rt,
         bound::most_transmissions(repeaters, hop_limit as u64),
-        b" time",
-    );
-    say(b" on the worst one with ");
-    say_count(repeaters, b" repeater");
-    say(b"\n");
+        " time",
+    )?;
+    say(rt, " on the worst one with ")?;
+    say_count(rt, repeaters, " repeater")?;
+    say(rt, "\n")?;
     if air.has_bytes {
-        print_bytes(hop_limit, size, air, repeaters);
+        print_bytes(rt, hop_limit, size, air, repeaters)?;
     }
+    Ok(())
 }
 
-fn print_bytes(hop_limit: u8, size: u16, air: Air, repeaters: u64) {
-    say(b"that is ");
-    say_count(air.octets, b" byte");
-    say(b" on the air if the fresh report has ");
-    say_number(size as u64);
-    say(b", and ");
+fn print_bytes(
+    rt: &impl Print,
+    hop_limit: u8,
+    size: u16,
+    air: Air,
+    repeaters: u64,
+) -> io::Result<()> {
+    say(rt, "that is ")?;
+    say_count(rt, air.octets, " byte")?;
+    say(rt, " on the air if the fresh report has ")?;
+    say_number(rt, size as u64)?;
+    say(rt, ", and ")?;
     say_most(
+        rt,
         bound::most_bytes(repeaters, hop_limit as u64, size as u64),
-        b" byte",
-    );
-    say(b" on the worst one\n");
+        " byte",
+    )?;
+    say(rt, " on the worst one\n")
 }
 
-fn say_most(bound: Bound, what: &[u8]) {
+fn say_most(rt: &impl Print, bound: Bound, what: &str) -> io::Result<()> {
     match bound {
-        Bound::Exactly(number) => say_count(number, what),
+        Bound::Exactly(number) => say_count(rt, number, what),
         _ => {
-            say(b"more than 18446744073709551615");
-            say(what);
-            say(b"s");
+            say(rt, "more than 18446744073709551615")?;
+            say(rt, what)?;
+            say(rt, "s")
         }
-    };
+    }
 }
 
 // How many nodes besides the originator repeat the report.
 fn repeaters_in(marks: &[u8]) -> u64 {
     let mut repeaters: u64 = 0;
-    let mut place: usize = 1;
-    while place < marks.len() {
+    for place in 1..marks.len() {
         repeaters = with_repeater(repeaters, byte(marks, place));
-        place += 1;
     }
     repeaters
 }

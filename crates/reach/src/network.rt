@@ -6,7 +6,7 @@ ghost use Rattle.std.specs.Prelude.{◌≤◌};
 use super::stored::{keep, place_of, put_mark, put_pair};
 use chains::NODE_LIMIT;
 
-#[derive(Drop)]
+#[derive(Clone, Copy)]
 pub(crate) enum Fault {
     Nothing,
     NotDecimal,
@@ -21,7 +21,7 @@ pub(crate) enum Fault {
 }
 
 // What was read: the nodes' addresses, the pairs of their places and their marks stand in the caller's slices.
-#[derive(Drop)]
+#[derive(Clone, Copy)]
 pub(crate) struct Network {
     pub(crate) fault: Fault,
     pub(crate) stopped: bool,

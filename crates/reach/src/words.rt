@@ -1,26 +1,27 @@
 // Words and numbers on standard output, and totals over slices.
 ghost use Rattle.std.specs.Prelude.{◌≤◌};
 
-use libc::STDOUT_FILENO;
+use std::io;
 
-pub(crate) fn say(text: &[u8]) {
-    io::write_all(STDOUT_FILENO, text);
+pub(crate) fn say(rt: &impl Print, text: &str) -> io::Result<()> {
+    rt.print(text)
 }
 
-pub(crate) fn say_number(number: u64) {
-    io::print_decimal(STDOUT_FILENO, number);
+pub(crate) fn say_number(rt: &impl Print, number: u64) -> io::Result<()> {
+    rt.print(number)
 }
 
-pub(crate) fn say_count(number: u64, what: &[u8]) {
-    say_number(number);
-    say(what);
+pub(crate) fn say_count(rt: &impl Print, number: u64, what: &str) -> io::Result<()> {
+    say_number(rt, number)?;
+    say(rt, what)?;
     if number != 1 {
-        say(b"s");
+        say(rt, "s")?;
     }
+    Ok(())
 }
 
-pub(crate) fn say_address(addresses: &[u16], place: usize) {
-    say_number(address_at(addresses, place));
+pub(crate) fn say_address(rt: &impl Print, addresses: &[u16], place: usize) -> io::Result<()> {
+    say_number(rt, address_at(addresses, place))
 }
 
 fn address_at(addresses: &[u16], place: usize) -> u64 {

@@ -4,18 +4,21 @@
 ghost use Rattle.std.specs.Prelude.{◌≤◌, length, take};
 ghost use Rattle.run.specs.Run.{input_room, text_room, PrintedForAll};
 
+use input::read_full;
+use std::io;
+
 // The longest job has 17,417 bytes; one byte more is enough to tell a job that is too long.
 const INPUT_ROOM: usize = 17418;
 
 // Room for the lines of every job.
 const TEXT_ROOM: usize = 98352;
 
-fn main() {
+fn main(rt: HostRuntime) -> io::Result<()> {
     let mut bytes = [0u8; INPUT_ROOM];
     let mut text = [0u8; TEXT_ROOM];
-    let count = io::read_full(0, &mut bytes);
+    let count = read_full(&mut rt.reader(), &mut bytes)?;
     let end = answer(&bytes, count, &mut text);
-    io::write_all(1, &text[..end]);
+    rt.write_all(&text[..end])
 }
 
 // Puts what is printed for all of the input into the text, and answers where it ends. Of the input, the first `count` bytes of `bytes` were read: as
