@@ -12,7 +12,7 @@ import definitions
 
 FUNCTION = re.compile(r'^( *)(?:#\[\w+\] *)?(?:pub(?:\(\w+\))? )?(?:extern "C" )?fn (\w+)')
 CONSTANT = re.compile(r'^ *(?:pub(?:\(\w+\))? )?const (\w+)')
-PROOF = re.compile(r'proofs/(.+)/Proof\.antt')
+PROOF = re.compile(r'proofs/(.+)/(?:Proof|Answers|Invariants)\.antt')
 
 
 @dataclasses.dataclass
@@ -282,32 +282,29 @@ def rests_beside(crate, programs):
 
 
 def shape_of(line):
-    """Whether what the prover says is that a proof does not fit the function's code: the need's own form, or in a walk by hand the code that it walks over. Not
-    where it says that two statements of numbers differ."""
-    if re.search(r'the two types are `Prim\.Native\.Nat\.[^`]*` \(expected\) and `Prim\.Native\.Nat\.', line):
-        return None
-    return re.search(r'has no field|that can be named from here|expected type `tie\.Need|`[^`]*\b(?:package\.mir|prog\.Wp\.spotOf)\b', line)
+    """Whether what the prover says is that a proof names what is not there: a goal, or a step of the function, that a change of the code took away."""
+    return re.search(r'has no field|that can be named from here|is not in scope', line)
 
 
-def missed(log):
-    """The facts that a log shows as missed, as (function or file of laws, need), and the places where a proof has another shape. A law that gives a record is
-    missed field by field, as `law.field`, by the copy that the log stands in."""
+def missed(said, crate, texts):
+    """The facts that the prover tells as missed, as (function or file of laws, goal or law), and the places where a proof names what is not there. A law that
+    gives a record is missed field by field, as `law.field`, by its file's text, of the crate or changed."""
     facts, shapes = set(), set()
-    for line in re.sub(r'\n  +', ' ', log.read_text(errors='replace')).splitlines():
-        if found := re.match(r'^\S*?/?proofs/(\S+?)\.antt:(\d+):\d+: error: (?:`([^`]+)`: )?(.*)', line):
-            place, number, need, what = found.groups()
-            file, place = log.parent / f'proofs/{place}.antt', place.removesuffix('/Proof')
+    for line in re.sub(r'\n  +', ' ', said).splitlines():
+        if found := re.match(r'(?:\./)?((?:proofs|specs)/(\S+?)\.antt):(\d+):\d+: error: (?:`([^`]+)`: )?(.*)', line):
+            file, place, number, need, what = found.groups()
+            place = re.sub(r'/(?:Proof|Answers|Invariants)$', '', place)
             if shape_of(what):
                 shapes.add(f'{place} {need}')
             elif 'was not admitted' not in what:
+                text = texts.get(file) or (crate / file).read_text()
                 facts.add((place, need))
-                facts.update((place, f'{need}.{field}') for field in [given_at(file, need, int(number) - 1)] if field)
-        elif found := re.match(r'^fn \w+::(\S+): no proof: .*?`search` does not close ((?:`[^`]+`(?:, )?)+)', line):
+                facts.update((place, f'{need}.{field}') for field in [given_at(text, need, int(number) - 1)] if field)
+        elif found := re.match(r'fn \w+::(\S+): no proof: .*?`search` did not prove ((?:`[^`]+`(?:, )?)+)', line):
             facts.update((found.group(1).replace('::', '/'), need) for need in re.findall(r'`([^`]+)`', found.group(2)))
     return facts, shapes
 
 
-def given_at(file, law, number):
+def given_at(text, law, number):
     """The field of a record that a law gives at a line of its file; None where it gives none."""
-    ones = definitions.declarations(file.read_text()) if file.is_file() else []
-    return next((one.field_at(number) for one in ones if one.name == law and number in one.lines), None)
+    return next((one.field_at(number) for one in definitions.declarations(text) if one.name == law and number in one.lines), None)
