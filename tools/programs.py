@@ -11,6 +11,7 @@ import re
 import definitions
 
 FUNCTION = re.compile(r'^( *)(?:#\[\w+\] *)?(?:pub(?:\(\w+\))? )?(?:extern "C" )?fn (\w+)')
+CIRCLE = re.compile(r'^ *#\[cycle\((\w+)\)\]')
 CONSTANT = re.compile(r'^ *(?:pub(?:\(\w+\))? )?const (\w+)')
 PROOF = re.compile(r'proofs/(.+)/(?:Proof|Answers|Invariants)\.antt')
 
@@ -102,9 +103,14 @@ class Crate:
     """A crate as the rules for mutants side by side need it: which functions it has, which call which, and what rests on which definition."""
 
     def __init__(self, folder):
-        bodies, self.contracts, self.files = {}, {}, {}
+        bodies, self.contracts, self.files, self.circles = {}, {}, {}, {}
         for path in sorted((folder / 'src').rglob('*.rt')):
+            circle = None
             for line, function, body in functions_by_line(path, path.read_text()):
+                if found := CIRCLE.match(line):
+                    circle = found.group(1)
+                elif function and FUNCTION.match(line):
+                    self.circles, circle = {**self.circles, **({function: circle} if circle else {})}, None
                 if function and body:
                     bodies[function] = bodies.get(function, '') + line + '\n'
                 if function and (not body or FUNCTION.match(line)):
@@ -134,8 +140,8 @@ class Crate:
         return {function} | {other for other in self.reached(function) if function in self.reached(other)}
 
     def functions(self, place):
-        """The functions that the place of a fact stands for: itself, or those of a circle of calls, `+one+other`."""
-        return {one for one in self.bodies if one == place or place.startswith('+') and one.split('/')[-1] in place.split('+')} or {place}
+        """The functions that the place of a fact stands for: itself, or those of a circle of calls, `+name`."""
+        return {one for one in self.bodies if one == place or f'+{self.circles.get(one)}' == place} or {place}
 
     @functools.cache
     def promised(self, function, more=''):
