@@ -99,18 +99,26 @@ def functions_by_line(file, text):
             function, body = None, False
 
 
+def circles(folder):
+    """The functions of a crate that call one another, each with the name of its circle of calls."""
+    found = {}
+    for path in sorted((folder / 'src').rglob('*.rt')):
+        circle = None
+        for line, function, _ in functions_by_line(path, path.read_text()):
+            if named := CIRCLE.match(line):
+                circle = named.group(1)
+            elif circle and function:
+                found[function], circle = circle, None
+    return found
+
+
 class Crate:
     """A crate as the rules for mutants side by side need it: which functions it has, which call which, and what rests on which definition."""
 
     def __init__(self, folder):
-        bodies, self.contracts, self.files, self.circles = {}, {}, {}, {}
+        bodies, self.contracts, self.files, self.circles = {}, {}, {}, circles(folder)
         for path in sorted((folder / 'src').rglob('*.rt')):
-            circle = None
             for line, function, body in functions_by_line(path, path.read_text()):
-                if found := CIRCLE.match(line):
-                    circle = found.group(1)
-                elif function and FUNCTION.match(line):
-                    self.circles, circle = {**self.circles, **({function: circle} if circle else {})}, None
                 if function and body:
                     bodies[function] = bodies.get(function, '') + line + '\n'
                 if function and (not body or FUNCTION.match(line)):
@@ -293,9 +301,10 @@ def shape_of(line):
 
 
 def missed(said, crate, texts):
-    """The facts that the prover tells as missed, as (function or file of laws, goal or law), and the places where a proof names what is not there. A law that
-    gives a record is missed field by field, as `law.field`, by its file's text, of the crate or changed."""
-    facts, shapes = set(), set()
+    """The facts that the prover tells as missed, as (function or file of laws, goal or law), and the places where a proof names what is not there. A goal
+    without an answer is told in a note before the line of its function, or in that line. A law that gives a record is missed field by field, as `law.field`,
+    by its file's text, of the crate or changed."""
+    facts, shapes, open_goals, own = set(), set(), [], circles(crate)
     for line in re.sub(r'\n  +', ' ', said).splitlines():
         if found := re.match(r'(?:\./)?((?:proofs|specs)/(\S+?)\.antt):(\d+):\d+: error: (?:`([^`]+)`: )?(.*)', line):
             file, place, number, need, what = found.groups()
@@ -306,8 +315,14 @@ def missed(said, crate, texts):
                 text = texts.get(file) or (crate / file).read_text()
                 facts.add((place, need))
                 facts.update((place, f'{need}.{field}') for field in [given_at(text, need, int(number) - 1)] if field)
-        elif found := re.match(r'fn \w+::(\S+): no proof: .*?`search` did not prove ((?:`[^`]+`(?:, )?)+)', line):
-            facts.update((found.group(1).replace('::', '/'), need) for need in re.findall(r'`([^`]+)`', found.group(2)))
+        elif found := re.match(r'note: src/\S+?:\d+:\d+: it is not proved .*?\(`([^`]+)`\)', line):
+            open_goals.append(found.group(1))
+        elif found := re.match(r'fn \w+::(\S+): ', line):
+            searched = re.search(r'`search` did not prove ((?:`[^`]+`(?:, )?)+)', line)
+            open_goals += re.findall(r'`([^`]+)`', searched.group(1)) if searched else []
+            place = found.group(1).replace('::', '/')
+            facts.update((f'+{own[place]}' if place in own else place, goal) for goal in open_goals)
+            open_goals = []
     return facts, shapes
 
 
