@@ -9,17 +9,17 @@ DECLARED = re.compile(r'^ *(?:(?:abbrev|unfoldable|pub) )*(?:(?:record|data) (\S
 FIELD = re.compile(r'^ *(?:pub )?(\S+) :(?= |$)', re.M)
 WORD = re.compile(r'(\.?)([^\s(){}\[\],;:.«»⌜⌝"`]+)')
 UNFOLDS = re.compile(r'\bunfold(?:ing)?\s(.*?)(?:\s=\s|\sin\s|\Z)', re.S)
-USE = re.compile(r'^ *(?:(?:ghost|pub|unfoldable) )*use Rattle·\w+·(?:specs|proofs)\.(specs|proofs)\.([\w+.]+?)(?:\.\{([^}]*)\}|\.\*| as \S+)?;?$', re.M)
+USE = re.compile(r'^ *(?:(?:ghost|pub|unfoldable) )*use Rattle\.\w+\.(specs|proofs)\.([\w+.]+?)(?:\.\{([^}]*)\}|\.\*| as \S+)?;?$', re.M)
 
 
 @functools.cache
 def words(text):
-    """The names in a text, comments left out, as (whether it is a field asked for, name); of an operator the parts between its `_` too."""
+    """The names in a text, comments left out, as (whether it is a field asked for, name); of an operator the parts between its `◌` too."""
     return {(bool(dot), part) for dot, word in WORD.findall(re.sub(r'--.*|//.*', '', text)) for part in spelled(word)}
 
 
 def spelled(name):
-    return {part for part in [name, *name.split('_')] if part}
+    return {part for part in [name, *name.split('◌')] if part}
 
 
 @dataclasses.dataclass

@@ -11,8 +11,9 @@ import re
 import definitions
 
 FUNCTION = re.compile(r'^( *)(?:#\[\w+\] *)?(?:pub(?:\(\w+\))? )?(?:extern "C" )?fn (\w+)')
+CIRCLE = re.compile(r'^ *#\[cycle\((\w+)\)\]')
 CONSTANT = re.compile(r'^ *(?:pub(?:\(\w+\))? )?const (\w+)')
-PROOF = re.compile(r'proofs/(.+)/Proof\.antt')
+PROOF = re.compile(r'proofs/(.+)/(?:Proof|Answers|Invariants)\.antt')
 
 
 @dataclasses.dataclass
@@ -98,11 +99,24 @@ def functions_by_line(file, text):
             function, body = None, False
 
 
+def circles(folder):
+    """The functions of a crate that call one another, each with the name of its circle of calls."""
+    found = {}
+    for path in sorted((folder / 'src').rglob('*.rt')):
+        circle = None
+        for line, function, _ in functions_by_line(path, path.read_text()):
+            if named := CIRCLE.match(line):
+                circle = named.group(1)
+            elif circle and function:
+                found[function], circle = circle, None
+    return found
+
+
 class Crate:
     """A crate as the rules for mutants side by side need it: which functions it has, which call which, and what rests on which definition."""
 
     def __init__(self, folder):
-        bodies, self.contracts, self.files = {}, {}, {}
+        bodies, self.contracts, self.files, self.circles = {}, {}, {}, circles(folder)
         for path in sorted((folder / 'src').rglob('*.rt')):
             for line, function, body in functions_by_line(path, path.read_text()):
                 if function and body:
@@ -134,8 +148,8 @@ class Crate:
         return {function} | {other for other in self.reached(function) if function in self.reached(other)}
 
     def functions(self, place):
-        """The functions that the place of a fact stands for: itself, or those of a circle of calls, `+one+other`."""
-        return {one for one in self.bodies if one == place or place.startswith('+') and one.split('/')[-1] in place.split('+')} or {place}
+        """The functions that the place of a fact stands for: itself, or those of a circle of calls, `+name`."""
+        return {one for one in self.bodies if one == place or f'+{self.circles.get(one)}' == place} or {place}
 
     @functools.cache
     def promised(self, function, more=''):
@@ -282,32 +296,36 @@ def rests_beside(crate, programs):
 
 
 def shape_of(line):
-    """Whether what the prover says is that a proof does not fit the function's code: the need's own form, or in a walk by hand the code that it walks over. Not
-    where it says that two statements of numbers differ."""
-    if re.search(r'the two types are `Prim\.Native\.Nat\.[^`]*` \(expected\) and `Prim\.Native\.Nat\.', line):
-        return None
-    return re.search(r'has no field|that can be named from here|expected type `tie\.Need|`[^`]*\b(?:package\.mir|prog\.Wp\.spotOf)\b', line)
+    """Whether what the prover says is that a proof names what is not there: a goal, or a step of the function, that a change of the code took away."""
+    return re.search(r'has no field|that can be named from here|is not in scope', line)
 
 
-def missed(log):
-    """The facts that a log shows as missed, as (function or file of laws, need), and the places where a proof has another shape. A law that gives a record is
-    missed field by field, as `law.field`, by the copy that the log stands in."""
-    facts, shapes = set(), set()
-    for line in re.sub(r'\n  +', ' ', log.read_text(errors='replace')).splitlines():
-        if found := re.match(r'^\S*?/?proofs/(\S+?)\.antt:(\d+):\d+: error: (?:`([^`]+)`: )?(.*)', line):
-            place, number, need, what = found.groups()
-            file, place = log.parent / f'proofs/{place}.antt', place.removesuffix('/Proof')
+def missed(said, crate, texts):
+    """The facts that the prover tells as missed, as (function or file of laws, goal or law), and the places where a proof names what is not there. A goal
+    without an answer is told in a note before the line of its function, or in that line. A law that gives a record is missed field by field, as `law.field`,
+    by its file's text, of the crate or changed."""
+    facts, shapes, open_goals, own = set(), set(), [], circles(crate)
+    for line in re.sub(r'\n  +', ' ', said).splitlines():
+        if found := re.match(r'(?:\./)?((?:proofs|specs)/(\S+?)\.antt):(\d+):\d+: error: (?:`([^`]+)`: )?(.*)', line):
+            file, place, number, need, what = found.groups()
+            place = re.sub(r'/(?:Proof|Answers|Invariants)$', '', place)
             if shape_of(what):
                 shapes.add(f'{place} {need}')
             elif 'was not admitted' not in what:
+                text = texts.get(file) or (crate / file).read_text()
                 facts.add((place, need))
-                facts.update((place, f'{need}.{field}') for field in [given_at(file, need, int(number) - 1)] if field)
-        elif found := re.match(r'^fn \w+::(\S+): no proof: .*?`search` does not close ((?:`[^`]+`(?:, )?)+)', line):
-            facts.update((found.group(1).replace('::', '/'), need) for need in re.findall(r'`([^`]+)`', found.group(2)))
+                facts.update((place, f'{need}.{field}') for field in [given_at(text, need, int(number) - 1)] if field)
+        elif found := re.match(r'note: src/\S+?:\d+:\d+: it is not proved .*?\(`([^`]+)`\)', line):
+            open_goals.append(found.group(1))
+        elif found := re.match(r'fn \w+::(\S+): ', line):
+            searched = re.search(r'`search` did not prove ((?:`[^`]+`(?:, )?)+)', line)
+            open_goals += re.findall(r'`([^`]+)`', searched.group(1)) if searched else []
+            place = found.group(1).replace('::', '/')
+            facts.update((f'+{own[place]}' if place in own else place, goal) for goal in open_goals)
+            open_goals = []
     return facts, shapes
 
 
-def given_at(file, law, number):
+def given_at(text, law, number):
     """The field of a record that a law gives at a line of its file; None where it gives none."""
-    ones = definitions.declarations(file.read_text()) if file.is_file() else []
-    return next((one.field_at(number) for one in ones if one.name == law and number in one.lines), None)
+    return next((one.field_at(number) for one in definitions.declarations(text) if one.name == law and number in one.lines), None)
