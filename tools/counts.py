@@ -10,8 +10,8 @@ FUNCTION = re.compile(r'^ *(?:#\[\w+\] *)?pub (?:extern "C" )?fn \w+', re.M)
 
 def crates(top):
     """The names in crates.txt, in their order."""
-    names = [line.split('#')[0].split(':')[0].strip() for line in (top / 'crates.txt').read_text().splitlines()]
-    return [name for name in names if name]
+    names = [line.split('#')[0].split(':')[0].split() for line in (top / 'crates.txt').read_text().splitlines()]
+    return [name[0] for name in names if name]
 
 
 def lines(folder, pattern):
