@@ -1,5 +1,5 @@
 /*
- * mant.h: the MANT layer of ALERT2 for C. Link libmant.a (rt staticlib mant; for boards docs/firmware.md).
+ * mant.h: the MANT layer of ALERT2 for C. Link libmant.a (tools/build staticlib mant; for boards docs/firmware.md).
  *
  *     Reading              the fields of a PDU
  *     Originating          a fresh PDU from settings and a payload
