@@ -10,12 +10,13 @@ from typing import NamedTuple
 
 from board_header import need
 
-# All that may stand in the module: numbers of 1 to 64 bits and pointers, none made of the other, every load and store with its alignment, and two numbers as
-# one value, which lie as in a C struct. It calls its own functions, and those that move, fill and trap.
+# All that may stand in the module: numbers of 1 to 64 bits and pointers, none made of the other, every load and store with its alignment, two numbers as one
+# value, which lie as in a C struct, and bytes that are constant. It calls its own functions, and those that move, fill and trap.
 WORDS = 'add|alloca|and|br|call|extractvalue|insertvalue|lshr|mul|or|phi|ret|select|shl|sub|switch|trunc|udiv|unreachable|urem|xor|zext'
 KNOWN = re.compile(
     rf'  (%\S+ = )?(({WORDS})\b|icmp \w+ i|getelementptr (inbounds nuw )?i8, ptr |(load|store) (?!volatile|atomic).*, align ).*|    i\d+ -?\d+, label .*|  \]|'
-    r'declare void @llvm\.(memmove\.p0\.p0\.i64|memset\.p0\.i64|trap)\(.*|define .*|}|[\w.]+:( +;.*)?|(attributes|source|;|!).*|')
+    r'declare void @llvm\.(memmove\.p0\.p0\.i64|memset\.p0\.i64|trap)\(.*|define .*|}|[\w.]+:( +;.*)?|(attributes|source|;|!).*|'
+    r'@static\.\d+ = private unnamed_addr constant \[\d+ x i8\] c".*", align 1|')
 FOREIGN = re.compile(r'\b(i128|float|double|asm|addrspace|inttoptr|ptrtoint)\b|<\d+ x |\{ ptr, (?!i64 \})')
 PAIR = r'\{ i\d+, i\d+ \}'
 HEAD = re.compile(rf'define (?:noundef |zeroext )*(void|ptr|i\d+|{PAIR}) @\w+\((.*)\) #0 \{{')
@@ -30,6 +31,12 @@ RETURN = re.compile(rf'ret (?:void|(?:ptr|i\d+|{PAIR}) (%[ar]\d+))')
 # the pointer of a slice: where it is null, some address that is not
 THERE = re.compile(r'  (%r\d+) = icmp eq ptr (%a\d+), null\n  (%r\d+) = zext i1 \1 to i64\n  (%r\d+) = mul i64 \3, 4096\n'
                    r'  (%r\d+) = getelementptr i8, ptr \2, i64 \4\n')
+
+
+# whether a copy's end lies within its source, by how far it lies behind: the same of addresses of 32 bits, once they are widened
+APART = re.compile(r'^  (%r\d+) = ptrtoaddr ptr (%a\d+) to i64\n  (%r\d+) = ptrtoaddr ptr (%a\d+) to i64\n  (%r\d+) = sub i64 \1, \3\n'
+                   r'(?=  %r\d+ = icmp ult i64 \5, )', re.M)
+WIDENED = r'  \1 = ptrtoint ptr \2 to i64\n  \3 = ptrtoint ptr \4 to i64\n  \5 = sub i64 \1, \3\n'
 
 
 class Inner(NamedTuple):
@@ -180,6 +187,6 @@ def neutral(module, exports):
     """The module without its exports and without a word about x86-64, and with what stands for each export."""
     module = re.sub(r'^define (?!internal\b).*?^}\n', '', module, flags=re.M | re.S)
     module = re.sub(r'^target (datalayout|triple) = .*\n| "(target-cpu|probe-stack|stack-probe-size)"="[^"]*"', '', module, flags=re.M)
-    for line in module.splitlines():
+    for line in APART.sub('', module).splitlines():
         need(KNOWN.fullmatch(line) and not FOREIGN.search(line), f'the module holds what is not known: {line}')
-    return '\n'.join([module, *(stands_for(name, inner) for name, inner in exports.items())])
+    return '\n'.join([APART.sub(WIDENED, module), *(stands_for(name, inner) for name, inner in exports.items())])
