@@ -10,6 +10,7 @@ import shutil
 import signal
 import subprocess
 import sys
+import tempfile
 import time
 
 import board_header
@@ -228,8 +229,9 @@ def library(name, library, is_below_built=False):
         folder.mkdir(parents=True, exist_ok=True)
     if not is_below_built:
         asked(name, library, ['rt', 'lib'])
-    keeping = keeping_toolchain(TARGET / 'boards/toolchain', toolchain(), module)
-    asked(name, crate, [kit() / 'bin/rattle', 'build', *words_of(crate), '--toolchain', keeping, '-o', archive])
+    with tempfile.TemporaryDirectory() as work:  # rt takes no links in a checkout
+        keeping = keeping_toolchain(pathlib.Path(work), toolchain(), module)
+        asked(name, crate, [kit() / 'bin/rattle', 'build', *words_of(crate), '--toolchain', keeping, '-o', archive])
     if not module.is_file():
         raise Failed(f'the kit compiled {crate} from no LLVM module that was seen')
     made_from.write_text(state_of(crate, archive, module))

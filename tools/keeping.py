@@ -12,10 +12,7 @@ exec {compiler} "$@"
 
 def linked(folder, there, *left_out):
     """A folder with a link to everything in another but for what is left out."""
-    folder.mkdir(parents=True, exist_ok=True)
-    for file in folder.iterdir():
-        if file.is_symlink():
-            file.unlink()
+    folder.mkdir(exist_ok=True)
     for file in there.iterdir():
         if file.name not in left_out:
             (folder / file.name).symlink_to(file)
