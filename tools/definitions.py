@@ -9,7 +9,7 @@ DECLARED = re.compile(r'^ *(?:(?:abbrev|unfoldable|pub) )*(?:(?:record|data) (\S
 FIELD = re.compile(r'^ *(?:pub )?(\S+) :(?= |$)', re.M)
 WORD = re.compile(r'(\.?)([^\s(){}\[\],;:.«»⌜⌝"`]+)')
 UNFOLDS = re.compile(r'\bunfold(?:ing)?\s(.*?)(?:\s=\s|\sin\s|\Z)', re.S)
-USE = re.compile(r'^ *(?:(?:ghost|pub|unfoldable) )*use Rattle\.(\w+)\.(specs|proofs)\.([\w.]+?)(?:\.\{([^}]*)\}|\.\*| as \S+)?;?$', re.M)
+USE = re.compile(r'^ *(?:(?:ghost|pub|unfoldable) )*use Rattle\.\w+\.(specs|proofs)\.([\w+.]+?)(?:\.\{([^}]*)\}|\.\*| as \S+)?;?$', re.M)
 
 
 @functools.cache
@@ -116,7 +116,6 @@ class Definitions:
     the laws in `proofs/` all that it names."""
 
     def __init__(self, folder):
-        self.crate = folder.resolve().name
         self.texts = {f'{part}/{path.name}': path.read_text() for part in ('specs', 'proofs') for path in sorted((folder / part).glob('*.antt'))}
         declared = {file: declarations(text) for file, text in self.texts.items()}
         self.own = {file: {name: (file, one.name) for one in ones for name in one.names} for file, ones in declared.items()}
@@ -147,8 +146,8 @@ class Definitions:
     def known(self, text, file=None):
         """What each name means in a file: its own definitions, and those of the crate that its `use` lines bring in."""
         found = {}
-        for crate, part, module, names in USE.findall(text):
-            theirs = self.own.get(f'{part}/{module}.antt', {}) if crate == self.crate else {}
+        for part, module, names in USE.findall(text):
+            theirs = self.own.get(f'{part}/{module}.antt', {})
             for name in re.split(r',\s*', names.strip()) if names else theirs:
                 name, _, here = name.partition(' as ')
                 if name in theirs:
