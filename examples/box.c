@@ -2,7 +2,7 @@
    next slot. An alarm of its own is sent again in later slots until it is acknowledged. Stored frames stand for the modem, and the program prints what a box
    would send and do (examples/box.expected). From the repository's root:
 
-       rt staticlib mant
+       tools/build staticlib mant
        gcc -std=c11 -Wall -Wextra -pedantic examples/box.c -Iinclude target/staticlib/libmant.a -o /tmp/box && /tmp/box */
 #include <stdio.h>
 #include "mant.h"

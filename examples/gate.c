@@ -1,6 +1,6 @@
 /* Base 1000 sends gate 1600 a command, which is lost, sent again and acknowledged, and then one that nobody acknowledges. From the repository's root:
 
-       rt staticlib mant
+       tools/build staticlib mant
        gcc -std=c11 -Wall -Wextra -pedantic examples/gate.c -Iinclude target/staticlib/libmant.a -o /tmp/gate && /tmp/gate
 
    prints examples/gate.expected. */

@@ -1,6 +1,6 @@
 /* Node 2000 relays a report from gauge 1000 to base 1600, and then gets a list for each season. From the repository's root:
 
-       rt staticlib mant
+       tools/build staticlib mant
        gcc -std=c11 -Wall -Wextra -pedantic examples/relay_one.c -Iinclude target/staticlib/libmant.a -o /tmp/relay_one && /tmp/relay_one
 
    prints examples/relay_one.expected. */

@@ -1,7 +1,7 @@
 /* A gate command from 1000 to 1600. It is sealed, repeated at node 2000 and opened at the gate. A changed copy and a second copy are refused. From the
    repository's root:
 
-       rt staticlib mant
+       tools/build staticlib mant
        gcc -std=c11 -Wall -Wextra -pedantic examples/sealed.c -Iinclude target/staticlib/libmant.a -o /tmp/sealed && /tmp/sealed
 
    prints examples/sealed.expected. */

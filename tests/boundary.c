@@ -1,5 +1,5 @@
 /* What C sees at the boundary: empty slices with NULL, the fields of every struct, the limits; in boundary/ a file for each group of mant.h. From the
-   repository's root, after rt staticlib mant:
+   repository's root, after tools/build staticlib mant:
 
        gcc -std=c11 -Wall -Wextra -pedantic tests/boundary.c tests/boundary/[a-z]*.c -Iinclude target/staticlib/libmant.a -o /tmp/boundary && /tmp/boundary
 

@@ -6,19 +6,12 @@ import subprocess
 import sys
 import time
 
-from trying import TOP, copied, heeding, script
-
-import building
+from trying import TOP, copied, heeding, script, written
 
 TOOLS = ('building', 'board_header', 'board_module', 'board_shim', 'boards', 'command', 'digits', 'keeping', 'paging')
 PARTS = ('relay', *(f'tools/{name}.py' for name in TOOLS), 'docs/NUMBERS.md', 'examples')
-# as the real one: what has a stamp is not built again
-BUILDS = 'mkdir -p target/bin target/stamp\n[ -e target/stamp/relay ] || { cp built target/bin/relay && touch target/stamp/relay; }\n'
-
-
-def built():
-    """The built program as a file that this machine runs."""
-    return building.runnable(TOP / 'target/bin/relay')
+BUILDS = 'mkdir -p crates/relay/out\ncp built crates/relay/out/relay && echo rt: running out/relay\n'  # as the real one, which also runs what it built
+BUILT = TOP / 'target/bin/relay'
 
 
 class Scratch:
@@ -26,8 +19,9 @@ class Scratch:
 
     def __init__(self, folder, rt=BUILDS, program=None):
         self.top = copied(folder, PARTS, rt)
+        written(self.top, {'crates.txt': 'relay:\n', 'crates/relay/src/main.rt': ''})
         if program is None:
-            shutil.copy(built(), self.top / 'built')
+            shutil.copy(BUILT, self.top / 'built')
         else:
             script(self.top / 'built', program)
         self.path = f'{self.top}/bin:{os.environ["PATH"]}'

@@ -1,6 +1,6 @@
 /* How deep each call goes on the stack. Before a call the stack below it is painted, after it the lowest byte that has lost its paint is looked for; what
    lies between that and the caller's stack pointer is the call's, its return address and what the C library's functions take included. From the
-   repository's root, after rt staticlib mant:
+   repository's root, after tools/build staticlib mant:
 
        gcc -std=c11 -O2 -Wall -Wextra -pedantic tests/stack.c -Iinclude target/staticlib/libmant.a -o /tmp/stack && LD_BIND_NOW=1 /tmp/stack
 

@@ -52,6 +52,11 @@ def script(file, lines):
     file.chmod(0o755)
 
 
+def fake_rt(top, lines):
+    """Makes an `rt` of these shell lines, which run at the top of a scratch folder, in its bin/."""
+    script(top / 'bin/rt', f'cd "$(dirname "$0")/.."\n{lines}')
+
+
 def copied(folder, parts, rt):
     """Copies parts of this repository to a folder, with an `rt` of these shell lines in its bin/."""
     top = pathlib.Path(folder)
@@ -59,7 +64,7 @@ def copied(folder, parts, rt):
         (top / part).parent.mkdir(exist_ok=True)
         copy = shutil.copytree if (TOP / part).is_dir() else shutil.copy
         copy(TOP / part, top / part)
-    script(top / 'bin/rt', rt)
+    fake_rt(top, rt)
     return top
 
 

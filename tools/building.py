@@ -1,22 +1,21 @@
 """Builds from the present sources, for the commands at the top, tools/build and the tests: one build at a time in a clone, and none left running. What is
-built is for x86-64; on another processor it runs under the emulator of the Rattle kit, and a library is also made for that processor (tools/boards.py)."""
+built is for x86-64, as the Rattle kit is; tools/boards.py makes the library for other processors."""
 import contextlib
 import fcntl
 import hashlib
 import json
 import os
 import pathlib
-import platform
-import shlex
 import shutil
 import signal
 import subprocess
 import sys
+import tempfile
 import time
 
 import board_header
 import boards
-import keeping
+from keeping import keeping_toolchain
 import paging
 
 TOP = pathlib.Path(__file__).resolve().parent.parent
@@ -24,7 +23,6 @@ TARGET = TOP / 'target'
 QUIET = 1.5  # seconds before a build says that it goes on
 SIGNALS = (signal.SIGINT, signal.SIGTERM, signal.SIGHUP)
 NO_KIT = '`rt`, of the Rattle kit, is not in PATH: install the kit, or add to PATH the folder where its `rt` lies'
-X86_64 = b'\x3e\x00'  # the processor, in bytes 18 and 19 of a program's file
 
 
 class Failed(Exception):
@@ -80,34 +78,35 @@ def started(words, **more):
         raise
 
 
-def run_rt(name, words, **settings):
-    """Runs rt, with these settings in its environment; after a while, with a line on standard error that grows. Its status and what it said."""
-    began, told = time.monotonic(), False
-    with started(['rt', *words], cwd=TOP, env=os.environ | settings, stdout=subprocess.PIPE, stderr=subprocess.STDOUT) as child:
+def told(name, what, words, folder):
+    """Runs a command in a folder; after a while, with a line on standard error that grows. Its status and what it said."""
+    began, is_told = time.monotonic(), False
+    with started(words, cwd=folder, stdin=subprocess.DEVNULL, stdout=subprocess.PIPE, stderr=subprocess.STDOUT) as child:
         while True:
             try:
                 said = child.communicate(timeout=QUIET)[0]
                 break
             except subprocess.TimeoutExpired:
-                say('.' if told else f'{name}: proving and building {words[-1]} ', end='')
-                told = True
+                say('.' if is_told else f'{name}: proving and building {what} ', end='')
+                is_told = True
             except BaseException:
-                if told:
+                if is_told:
                     say('')
                 raise
-    if told:
-        say(f' {"done" if child.returncode == 0 else "failed"}, {time.monotonic() - began:.0f} s')
+    if is_told:
+        say(f' {"done" if child.returncode == 0 else "ended"}, {time.monotonic() - began:.0f} s')
     return child.returncode, said.decode(errors='replace')
 
 
-def rt(name, *words, **settings):
+def asked(name, crate, words, passes=None):
+    """Runs a command of the kit in the folder of a crate. It has to end with status 0, or where `passes` is given, to say these words."""
     try:
-        status, said = run_rt(name, words, **settings)
+        status, said = told(name, crate, words, TOP / 'crates' / crate)
     except OSError as error:
-        raise Failed(f'`rt`, of the Rattle kit, cannot be run: {error.strerror}' if shutil.which('rt') else NO_KIT) from error
-    if status != 0:
+        raise Failed(f'{words[0]} cannot be run: {error.strerror}') from error
+    if passes not in said if passes else status != 0:
         fail_where_read_only()
-        raise Failed(f'{said[-2000:]}`rt {" ".join(words)}` failed')
+        raise Failed(f'{said[-2000:]}`{" ".join(map(str, words[:2]))}` failed in crates/{crate}')
 
 
 def fail_where_read_only():
@@ -120,117 +119,157 @@ def fail_where_read_only():
         raise Failed(f'{TARGET} cannot be written, and what is there is not built from the present sources')
 
 
-def programs(name, *crates):
-    """Proves and builds programs. rt does not look whether what it built is still there, so a stamp without its file is taken away."""
-    for stamp in (TARGET / 'stamp').glob('*'):
-        if not (TARGET / 'bin' / stamp.name).is_file() and not (TARGET / 'rlib' / f'{stamp.name}.rlib').exists():
-            stamp.unlink()
-    rt(name, 'check', *crates)
-    for crate in crates:
-        if not os.access(TARGET / 'bin' / crate, os.X_OK):
-            raise Failed(f'`rt check {crate}` left no program target/bin/{crate}')
+def kit():
+    """The folder of the Rattle kit."""
+    found = shutil.which('rt')
+    if not found:
+        raise Failed(NO_KIT)
+    return pathlib.Path(found).resolve().parent.parent
 
 
 def toolchain():
-    """The folder of the Rattle kit's toolchain for this machine."""
-    home = os.environ.get('RATTLE_HOME') or pathlib.Path(shutil.which('rt') or '/nowhere/bin/rt').resolve().parent.parent
-    return pathlib.Path(home) / 'on' / platform.machine() / 'toolchain'
+    return kit() / 'toolchain'
 
 
-def emulated(program):
-    """The words that run a program for x86-64 on another processor."""
-    tools = toolchain()
-    emulator = tools / 'bin/qemu-x86_64'
-    if not os.access(emulator, os.X_OK):
-        raise Failed(f'{program} is for x86-64, this machine is {platform.machine()}, and there is no emulator {emulator}')
-    return [emulator, tools / 'lib/ld-linux-x86-64.so.2', '--library-path', tools / 'lib', program]
+def crates():
+    """The crates that each crate names, by crates.txt."""
+    lines = [line.split('#')[0] for line in (TOP / 'crates.txt').read_text().splitlines()]
+    return {line.split(':')[0].split()[0]: line.split(':')[1].split() for line in lines if ':' in line}
 
 
-def words_for(program):
-    """The words that run a program on this machine: its own name, or those of the emulator before it."""
-    program = pathlib.Path(program).resolve()
-    with open(program, 'rb') as file:
-        head = file.read(20)
-    is_own = platform.machine() == 'x86_64' or head[:4] != b'\x7fELF' or head[18:20] != X86_64
-    return [program] if is_own else emulated(program)
-
-
-def runnable(program):
-    """A program as a file that this machine runs: itself, or for another processor's a script that runs it."""
-    program, words = pathlib.Path(program).resolve(), words_for(program)
-    if words == [program]:
-        return program
-    words = ' '.join(shlex.quote(str(word)) for word in words)
-    script = program.with_name(f'{program.name}.emulated')
-    made = script.with_name(f'{script.name}.{os.getpid()}')
-    made.write_text(f'#!/bin/sh\nexec {words} "$@"\n')
-    made.chmod(0o755)
-    made.replace(script)
-    return script
+def below(crate):
+    """A crate and all that it stands on, of this repository."""
+    every, wanted, seen = crates(), [crate], {}
+    while wanted:
+        one = wanted.pop()
+        if one in every and one not in seen:
+            seen[one] = True
+            wanted += every[one]
+    return list(seen)
 
 
 def sources_of(crate):
-    """The files that a library is made of, its own and those of the crates below it."""
-    lines = [line.split('#')[0] for line in (TOP / 'crates.txt').read_text().splitlines()]
-    below = {line.split(':')[0].strip(): line.split(':')[1] for line in lines if ':' in line}
-    wanted, seen = [crate], set()
-    while wanted:
-        crate = wanted.pop()
-        if crate in below and crate not in seen:
-            seen.add(crate)
-            wanted += below[crate].split()
-    folders = [TOP / 'crates' / name / part for name in seen for part in ('src', 'specs', 'proofs')]
+    """The files that a crate is made of, its own and those of the crates below it."""
+    folders = [TOP / 'crates' / name / part for name in below(crate) for part in ('src', 'specs', 'proofs')]
     return [TOP / 'crates.txt', *sorted(file for folder in folders for file in folder.rglob('*') if file.is_file())]
 
 
-def module_of(crate):
-    """Where the LLVM module is kept that a library is compiled from."""
-    return TARGET / 'boards' / f'{crate}.bc'
-
-
-def state_of(crate, archive):
-    """A sum over the kit's name, the sources, and the archive and the module made from them."""
-    kit = subprocess.run(['rt', 'version'], capture_output=True).stdout
-    total = hashlib.sha256(kit)
-    for file in [*sources_of(crate), archive, module_of(crate)]:
+def state_of(crate, *made):
+    """A sum over the kit's name, the sources of a crate, and what was made of them."""
+    name = kit() / 'KIT-ID'
+    total = hashlib.sha256(name.read_bytes() if name.is_file() else b'')
+    for file in [*sources_of(crate), *made]:
         content = file.read_bytes()
         total.update(f'{file.relative_to(TOP)} {len(content)}\n'.encode() + content)
     return total.hexdigest()
 
 
-def library(name, crate):
-    """Proves a library, and writes its archive for C, its module, and an archive for this machine's processor, unless those that are there were made here
-    from the same sources."""
-    archive, made_from = TARGET / 'staticlib' / f'lib{crate}.a', TARGET / 'staticlib' / f'lib{crate}.from'
-    if not shutil.which('rt'):
-        raise Failed(NO_KIT)
+def is_made(crate, made_from, *made):
+    """Whether these files were made here from the present sources of a crate."""
     try:
-        built = all(file.is_file() for file in (archive, module_of(crate), made_from)) and made_from.read_text() == state_of(crate, archive)
+        return all(file.is_file() for file in (made_from, *made)) and made_from.read_text() == state_of(crate, *made)
     except OSError as error:
         raise Failed(f'{error.filename}: {error.strerror}') from error
-    if not built:
+
+
+def copied(file, to):
+    """Puts a copy of a file in place of another, which is never there in part."""
+    made = to.with_name(f'{to.name}.{os.getpid()}')
+    try:
+        to.parent.mkdir(parents=True, exist_ok=True)
+        shutil.copy(file, made)
+        made.replace(to)
+    except OSError as error:
+        fail_where_read_only()
+        raise Failed(f'{error.filename}: {error.strerror}') from error
+    finally:
+        made.unlink(missing_ok=True)
+
+
+def programs(name, *named):
+    """Proves and builds programs, unless those that are there were made here from the present sources. `rt run` also runs each once, with nothing on standard
+    input; how that ends says nothing."""
+    kit()
+    for crate in named:
+        program, made_from = TARGET / 'bin' / crate, TARGET / 'bin' / f'{crate}.from'
+        if is_made(crate, made_from, program):
+            continue
         fail_where_read_only()
         made_from.unlink(missing_ok=True)
-        module_of(crate).parent.mkdir(parents=True, exist_ok=True)
-        kit = keeping.keeping_kit(TARGET / 'boards/kit', toolchain(), module_of(crate))
-        rt(name, 'staticlib', crate, RATTLE_HOME=str(kit))
-        made_from.write_text(state_of(crate, archive))
-    for_this_processor(crate, archive)
+        asked(name, crate, ['rt', 'run', crate], passes=f'rt: running out/{crate}')
+        take_program(crate)
 
 
-def for_this_processor(crate, archive):
-    """Puts the archive for this machine's processor into target/native, where Rust, Python and the benchmark link it: on x86-64 the one that the kit made."""
-    own = TARGET / 'native' / f'lib{crate}.a'
-    if platform.machine() != 'x86_64':
-        target = f'{platform.machine()}-linux'
-        if target not in boards.TARGETS:
-            raise Failed(f'the library is not made for {platform.machine()}')
-        make_boards(crate, [target])
-        archive = TARGET / 'boards' / target / archive.name
-    if not own.is_file() or own.read_bytes() != archive.read_bytes():
-        fail_where_read_only()
-        own.parent.mkdir(parents=True, exist_ok=True)
-        shutil.copyfile(archive, own)
+def take_program(crate):
+    """Takes a program that rt has built."""
+    built, program = TOP / 'crates' / crate / 'out' / crate, TARGET / 'bin' / crate
+    if not os.access(built, os.X_OK):
+        raise Failed(f'rt left no program crates/{crate}/out/{crate}')
+    copied(built, program)
+    program.with_name(f'{crate}.from').write_text(state_of(crate, program))
+
+
+def module_of(library):
+    """Where the LLVM module is kept that a library is compiled from."""
+    return TARGET / 'boards' / f'{library}.bc'
+
+
+def library(name, library, is_below_built=False):
+    """Proves a library, and writes its archive for C and its module, unless those that are there were made here from the same sources. What C gets of crate
+    NAME is exported by crate NAME_c."""
+    kit()
+    crate, archive, made_from = f'{library}_c', TARGET / 'staticlib' / f'lib{library}.a', TARGET / 'staticlib' / f'lib{library}.from'
+    module = module_of(library)
+    if is_made(crate, made_from, archive, module):
+        return
+    fail_where_read_only()
+    made_from.unlink(missing_ok=True)
+    module.unlink(missing_ok=True)
+    for folder in (archive.parent, module.parent):
+        folder.mkdir(parents=True, exist_ok=True)
+    if not is_below_built:
+        asked(name, library, ['rt', 'lib'])
+    with tempfile.TemporaryDirectory() as work:  # rt takes no links in a checkout
+        keeping = keeping_toolchain(pathlib.Path(work), toolchain(), module)
+        asked(name, crate, [kit() / 'bin/rattle', 'build', *words_of(crate), '--toolchain', keeping, '-o', archive])
+    if not module.is_file():
+        raise Failed(f'the kit compiled {crate} from no LLVM module that was seen')
+    made_from.write_text(state_of(crate, archive, module))
+
+
+def words_of(crate):
+    """What `rattle build` is told of a static library: where the libraries lie that it stands on, those of the repository as rt has built them."""
+    top, named, own = kit(), crates()[crate], crates()
+    words = ['--crate-name', crate, 'src/lib.rt', '--crate-type', 'staticlib', '--backend', 'llvm', '--links', f'{crate}=', '--jobs', str(os.cpu_count())]
+    words += ['--antt-project', top / 'rattle/logic/antt-project.json', '--logic-built', top / 'logic_built', '-L', f'dependency={top}/rlibs']
+    for one in ['std', *named]:
+        words += ['--extern', f'{one}={rlibs_of(one) if one in own else top / "rlibs"}/{one}.rlib']
+    for one in below(crate)[1:]:
+        words += ['-L', f'dependency={rlibs_of(one)}']
+    return words
+
+
+def rlibs_of(crate):
+    return TOP / 'crates' / crate / 'out/rlib'
+
+
+def take(name, said):
+    """After `rt ci`, which said what stands in this file: takes the programs that it built, and builds the libraries for C over the crates that it proved. What
+    it built stays in out/, unless an earlier check had its own libraries there, which it puts back; then rt builds upon these."""
+    said, every = pathlib.Path(said), crates()
+    try:
+        passed, last = said.read_text().rstrip().endswith(' passed, 0 failed'), said.stat().st_mtime
+    except OSError as error:
+        raise Failed(f'{said}: {error.strerror}') from error
+    newer = [file for crate in every for file in sources_of(crate) if file.stat().st_mtime > last]
+    if newer or not passed:
+        raise Failed(f'{newer[0]} is newer than {said}' if newer else f'by {said} `rt ci` did not pass')
+    for crate in every:
+        if (TOP / 'crates' / crate / 'src/main.rt').is_file():
+            take_program(crate)
+    for crate in every:
+        if crate.endswith('_c') and crate[:-2] in every:
+            library(name, crate[:-2], is_below_built=not any((rlibs_of(one) / 'stamp').is_file() for one in below(crate)))
 
 
 def make_boards(crate, targets):
@@ -264,10 +303,10 @@ def page(name):
 
 
 def shared(name, crate):
-    """Makes of a library a file that Python loads, for this machine's processor, by the kit's own linker, unless the one that is there was made here from
-    the same archive. What it needs of the C library is there where Python runs."""
+    """Makes of a library a file that Python loads, by the kit's own linker, unless the one that is there was made here from the same archive. What it needs of
+    the C library is there where Python runs."""
     library(name, crate)
-    archive, loaded = TARGET / 'native' / f'lib{crate}.a', TARGET / 'python' / f'lib{crate}.so'
+    archive, loaded = TARGET / 'staticlib' / f'lib{crate}.a', TARGET / 'python' / f'lib{crate}.so'
     made_from, made = loaded.with_suffix('.from'), loaded.with_name(f'{loaded.name}.{os.getpid()}')
 
     def state():

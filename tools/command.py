@@ -60,7 +60,7 @@ def ran(name, words, given, **more):
     with building.alone(name):
         building.programs(name, name)
         try:
-            with building.started([*building.words_for(program), *words], stdin=subprocess.PIPE, stdout=subprocess.PIPE, **more) as child:
+            with building.started([program, *words], stdin=subprocess.PIPE, stdout=subprocess.PIPE, **more) as child:
                 return (*child.communicate(given), child.returncode)
         except OSError as error:
             raise End(4, f'{program} cannot be run: {error.strerror}') from error

@@ -10,8 +10,13 @@ FUNCTION = re.compile(r'^ *(?:#\[\w+\] *)?pub (?:extern "C" )?fn \w+', re.M)
 
 def crates(top):
     """The names in crates.txt, in their order."""
-    names = [line.split('#')[0].split(':')[0].strip() for line in (top / 'crates.txt').read_text().splitlines()]
-    return [name for name in names if name]
+    names = [line.split('#')[0].split(':')[0].split() for line in (top / 'crates.txt').read_text().splitlines()]
+    return [name[0] for name in names if name]
+
+
+def static_libraries(top):
+    """The crates that only export what others have: their functions are the exported ones."""
+    return re.findall(r'^(\w+) +staticlib *:', (top / 'crates.txt').read_text(), re.M)
 
 
 def lines(folder, pattern):
@@ -50,7 +55,8 @@ def renewed(top, text, seconds):
 
 
 def public_functions(top):
-    return sum(len(FUNCTION.findall(file.read_text())) for name in crates(top) for file in (top / 'crates' / name / 'src').rglob('*.rt'))
+    named = [name for name in crates(top) if name not in static_libraries(top)]
+    return sum(len(FUNCTION.findall(file.read_text())) for name in named for file in (top / 'crates' / name / 'src').rglob('*.rt'))
 
 
 def declared(top):

@@ -20,14 +20,14 @@ def floors(top):
         if line.startswith('## '):
             found.append((name, words.strip(), []))
         elif name.strip() and not line.startswith('#'):
-            found[-1][2].append(name.strip())
+            found[-1][2].append(name.split()[0])
     return found
 
 
 def unsupported(top):
     """The crates that stand on one that comes later, each with that one."""
     lines = [line.split('#')[0].partition(':') for line in (top / 'crates.txt').read_text().splitlines()]
-    names = [name.strip() for name, _, _ in lines]
+    names = [' '.join(name.split()[:1]) for name, _, _ in lines]
     for place, (_, _, below) in enumerate(lines):
         yield from ((names[place], other) for other in below.split() if other in names[place:])
 

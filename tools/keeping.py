@@ -12,22 +12,17 @@ exec {compiler} "$@"
 
 def linked(folder, there, *left_out):
     """A folder with a link to everything in another but for what is left out."""
-    folder.mkdir(parents=True, exist_ok=True)
+    folder.mkdir(exist_ok=True)
     for file in there.iterdir():
-        link = folder / file.name
-        if file.name not in left_out and not link.is_symlink():
-            link.symlink_to(file)
+        if file.name not in left_out:
+            (folder / file.name).symlink_to(file)
 
 
-def keeping_kit(folder, toolchain, kept):
-    """A kit like the one that has this toolchain, whose compiler also keeps the module that it compiles."""
-    machine = toolchain.parent
-    own = folder / 'on' / machine.name
-    linked(folder, machine.parent.parent, 'on')
-    linked(own, machine, 'toolchain')
-    linked(own / 'toolchain', toolchain, 'bin')
-    linked(own / 'toolchain/bin', toolchain / 'bin', 'clang')
-    compiler = own / 'toolchain/bin/clang'
+def keeping_toolchain(folder, toolchain, kept):
+    """A toolchain like this one, whose compiler also keeps the module that it compiles."""
+    linked(folder, toolchain, 'bin')
+    linked(folder / 'bin', toolchain / 'bin', 'clang')
+    compiler = folder / 'bin/clang'
     compiler.write_text(KEEPER.format(kept=kept, compiler=toolchain / 'bin/clang'))
     compiler.chmod(0o755)
     return folder

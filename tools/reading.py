@@ -6,13 +6,13 @@ import re
 
 import definitions
 
-USE = re.compile(r'^ *(?:(?:ghost|pub|unfoldable) )*use Rattle·(\w+?)(?:·specs)?\.specs\.([\w+.-]+?)(?:\.\{([^}]*)\}| as (\S+))?;?$', re.M)
-TOKEN = re.compile(r'[^\s(){}\[\],;⌜⌝"`]+')
+USE = re.compile(r'^ *(?:(?:ghost|pub|unfoldable) )*use Rattle\.(\w+)\.specs\.([\w.]+?)(?:\.\{([^}]*)\}| as (\S+))?;?$', re.M)
+TOKEN = re.compile(r'[^\s(){}\[\],;"`]+')
 FUNCTION = re.compile(r'\bfn (\w+)(.*?)\n *\{\n', re.S)
 EXPORTED = re.compile(r'\bextern "C" fn (\w+)')
 CALL = re.compile(r'\b(\w+)::(?:\w+::)*(\w+)\(')
 BELIEVED_WHOLE = ('audit', 'promises')  # crates whose definitions are what is claimed, and the form of a promise
-CALLED_FROM_OUTSIDE = 'mant'
+CALLED_FROM_OUTSIDE = 'mant_c'
 TESTS = ('cases', 'vectors')  # programs that only try the others
 TYPE = re.compile(r'^ *pub (?:struct|enum) (\w+)', re.M)
 
@@ -48,8 +48,9 @@ class Reading:
         return {**found, **self.own.get(place, {})}
 
     def named(self, text, known):
-        tokens = set(TOKEN.findall(re.sub(r'--.*|//.*', '', text)))
-        return {key for name, key in known.items() if name in tokens or (name.startswith('_') and tokens & definitions.spelled(name))}
+        whole = set(TOKEN.findall(re.sub(r'--.*|//.*', '', text)))
+        tokens = {'.'.join(parts[:size]) for parts in (token.split('.') for token in whole) for size in range(1, len(parts) + 1)}
+        return {key for name, key in known.items() if name in tokens or '◌' in name and tokens & definitions.spelled(name)}
 
     def contracts(self, crate):
         """What the contract of each function of a crate names."""
@@ -93,11 +94,16 @@ def skipped(top):
             yield f'| `crates/{crate}/specs/{file}.antt` | {names} |'
 
 
+def defined(top):
+    """The names of all definitions."""
+    return {name for *_, name in Reading(top).under}
+
+
 def namesakes(top):
     """The names that more than one file defines, of definitions and of the types that src declares for them, each with its files."""
     files = {}
     for crate, file, name in Reading(top).under:
-        files.setdefault(name.strip('_'), set()).add(f'crates/{crate}/specs/{file}.antt')
+        files.setdefault(name.strip('◌'), set()).add(f'crates/{crate}/specs/{file}.antt')
     for file in top.glob('crates/*/src/**/*.rt'):
         for name in TYPE.findall(file.read_text()):
             files.setdefault(name, set()).add(str(file.relative_to(top)))

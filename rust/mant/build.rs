@@ -7,7 +7,7 @@ use std::env;
 use std::path::{Path, PathBuf};
 
 const ELSEWHERE: &str = "libmant.a is for x86-64 Linux. On another processor: \
-    `tools/build staticlib mant` in the repository, and MANT_LIB_DIR=../target/native, \
+    `tools/build boards` in the repository, on x86-64, and MANT_LIB_DIR=../target/boards/TARGET, \
     which counts from its folder rust";
 
 fn main() {
@@ -23,7 +23,7 @@ fn main() {
         println!("cargo:rustc-link-search=native={}", folder().display());
     } else {
         println!(
-            "cargo:warning={} is not there: make it with `rt staticlib mant`, or set MANT_LIB_DIR to its folder",
+            "cargo:warning={} is not there: make it with `tools/build staticlib mant`, or set MANT_LIB_DIR to its folder",
             library.display()
         );
     }

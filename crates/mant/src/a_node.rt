@@ -12,13 +12,7 @@ use boundary::{MantAnswer, MantNode, MantStep};
 // the node chooses. The repeated PDU is written at the start of the output where the repeat number is 0, and the output keeps its bytes past it; with
 // any other repeat number the output is left as it was. The last sender is told with every number but 17 and those of the lists and of reading.
 // Document 01, "One PDU at one node"; document 02, W-205, W-209 and W-211.
-#[unsafe(no_mangle)]
-pub extern "C" fn mant_hear(
-    node: MantNode,
-    lists: &[u16],
-    received: &[u8],
-    output: &mut [u8],
-) -> MantAnswer
+pub fn mant_hear(node: MantNode, lists: &[u16], received: &[u8], output: &mut [u8]) -> MantAnswer
     ensures { HearsInC (node_of (node_from_c node) (lists_in lists.now))
         received.now output.old result output.new }
 {
@@ -35,8 +29,7 @@ pub extern "C" fn mant_hear(
 // lists that cursor has ended, at the same place. Any cursor gets an answer; one past the batch's end, or of a walk that ended, gets kind 1. A batch that
 // is too long gets kind 2 at every cursor, if the edition is 11 or 12; 17 comes before that. The output is changed as by `mant_hear`, and not at all with
 // kinds 1 and 2. Document 01, "A batch"; document 02, W-209 and W-211.
-#[unsafe(no_mangle)]
-pub extern "C" fn mant_step(
+pub fn mant_step(
     node: MantNode,
     lists: &[u16],
     batch: &[u8],
@@ -71,8 +64,7 @@ pub extern "C" fn mant_step(
 
 // The same node with all four kinds of list set to one choice: 1 the first lists, 2 the second ones; any other number sets 0, none. All else stays as it
 // was. Document 02, W-211.
-#[unsafe(no_mangle)]
-pub extern "C" fn mant_change_over(node: MantNode, choice: u64) -> MantNode
+pub fn mant_change_over(node: MantNode, choice: u64) -> MantNode
     ensures { result ≡ changed_over node choice }
 {
     let chosen = choice_number(choice);

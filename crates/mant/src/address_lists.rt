@@ -7,8 +7,7 @@ use lists::ListFault;
 
 // Whether an address is in some range of the list, both ends included. An empty list holds none; a last value without a partner is no range.
 // Document 01, "One PDU at one node", what a list is.
-#[unsafe(no_mangle)]
-pub extern "C" fn mant_list_holds(list: &[u16], address: u16) -> bool
+pub fn mant_list_holds(list: &[u16], address: u16) -> bool
     ensures { result ≡ holds list.now address }
 {
     lists::holds(list, address)
@@ -16,8 +15,7 @@ pub extern "C" fn mant_list_holds(list: &[u16], address: u16) -> bool
 
 // Checks the eight lists of a block and returns the first fault: its number, 22, 21 or 20, and the place of its list, 0 to 7, kind by kind and in each kind
 // the first list before the second, chosen or not. If no list has a fault, it returns 0 and 8. Document 01, "One PDU at one node", 1; document 02, W-211.
-#[unsafe(no_mangle)]
-pub extern "C" fn mant_list_fault(lists: &[u16]) -> ListFault
+pub fn mant_list_fault(lists: &[u16]) -> ListFault
     ensures { result ≡ fault_and_list (lists_in lists.now) }
 {
     lists::fault(lists)
@@ -26,8 +24,7 @@ pub extern "C" fn mant_list_fault(lists: &[u16]) -> ListFault
 // Lays eight lists of any length into the block: their lengths, then their values. What stands behind these is left as it is. Of a list of more than 128
 // values 129 are laid, and so it still has fault 22. Returns the first fault of the lists, as `mant_list_fault` does. Without a fault the block holds
 // exactly these lists. Document 01, "One PDU at one node", 1; document 02, W-211.
-#[unsafe(no_mangle)]
-pub extern "C" fn mant_lay_eight<'a>(
+pub fn mant_lay_eight<'a>(
     block: &mut [u16; list_block::BLOCK_LIMIT],
     source_pass_first: &'a [u16],
     source_pass_second: &'a [u16],

@@ -1,5 +1,5 @@
-// The functions exported to C, each a thin call of a proved function, with numbers, slices, arrays lent by address and structs by value;
-// include/mant.h declares them in these groups.
+// The functions that C gets, each a thin call of a proved function, with numbers, slices, arrays lent by address and structs by value; crate `mant_c`
+// exports them, and include/mant.h declares them in these groups.
 #![tactic(auto)]
 
 pub mod a_node;

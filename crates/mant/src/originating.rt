@@ -9,8 +9,7 @@ use pdu::Written;
 // Writes a fresh PDU at the start of the output and answers 0 and its length, or 17, 10 to 13, 16 or 14, in that order, with length 0 and the output as
 // it was. The PDU ID counts for reliable service only. Output past the PDU keeps its bytes.
 // Document 01, "Origination", and "Numbers answered", 10 to 14; document 02, W-209.
-#[unsafe(no_mangle)]
-pub extern "C" fn mant_originate(settings: MantFresh, payload: &[u8], output: &mut [u8]) -> Written
+pub fn mant_originate(settings: MantFresh, payload: &[u8], output: &mut [u8]) -> Written
     ensures { (result ≡ originated (fresh_from_c settings) payload.now (length output.old))
         × (output.new ≡ originated_output (fresh_from_c settings) payload.now output.old) }
 {

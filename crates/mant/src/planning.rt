@@ -15,8 +15,7 @@ use ways::Airtime;
 // Writes for each node of a network how many hearings its shortest chain from the node at `from` has, or 255 where there is none, as
 // `chains::find_lengths` does: a chain goes through nodes that repeat, and not by the node at `failed`; 255 there says that none has failed. Document 02,
 // W-208.
-#[unsafe(no_mangle)]
-pub extern "C" fn mant_chain_lengths(
+pub fn mant_chain_lengths(
     pairs: &[u8],
     marks: &[u8],
     from: usize,
@@ -29,8 +28,7 @@ pub extern "C" fn mant_chain_lengths(
 }
 
 // The least hop limit that reaches all nodes, by their lengths as `mant_chain_lengths` writes them; 8 where none does. Document 02, W-208.
-#[unsafe(no_mangle)]
-pub extern "C" fn mant_least_hop_limit(lengths: &[u8]) -> u8
+pub fn mant_least_hop_limit(lengths: &[u8]) -> u8
     ensures { result ≡ least_in_c (least_hop lengths.now) }
 {
     boundary::least_in_c(chains::least_hop_limit(lengths))
@@ -38,8 +36,7 @@ pub extern "C" fn mant_least_hop_limit(lengths: &[u8]) -> u8
 
 // How often one fresh message with a path goes out on a network, as `ways::transmissions` counts it. `counts` gets how often each node sends it. Crate
 // `planning_own_network`, `within`, `exact` and `by_count`.
-#[unsafe(no_mangle)]
-pub extern "C" fn mant_network_transmissions(
+pub fn mant_network_transmissions(
     pairs: &[u8],
     from: usize,
     hop_limit: u64,
@@ -58,8 +55,7 @@ pub extern "C" fn mant_network_transmissions(
 
 // How many bytes these transmissions have together, if the fresh message has `size` bytes. `counts` gets each node's own bytes. A size above 65,535 is
 // not served, and nothing is written.
-#[unsafe(no_mangle)]
-pub extern "C" fn mant_network_bytes(
+pub fn mant_network_bytes(
     pairs: &[u8],
     from: usize,
     hop_limit: u64,
@@ -99,8 +95,7 @@ fn narrow(size: u64) -> u16
 // originator too, no two nodes have the same address, and none takes a transmission twice. A radio hears each transmission once; a decoder that hands a
 // frame over twice breaks that. Any numbers are answered: number 10 for a hop limit above 7, else `too_large` where 64 bits do not hold the value.
 // Document 01, "Checked by hand", the bound of demand 3; document 02, W-203.
-#[unsafe(no_mangle)]
-pub extern "C" fn mant_most_transmissions(nodes: u64, hop_limit: u64) -> MantBound
+pub fn mant_most_transmissions(nodes: u64, hop_limit: u64) -> MantBound
     ensures { result ≡ bound_in_c (bound_answer hop_limit (bound nodes hop_limit)) }
 {
     boundary::bound_in_c(bound::most_transmissions(nodes, hop_limit))
@@ -109,8 +104,7 @@ pub extern "C" fn mant_most_transmissions(nodes: u64, hop_limit: u64) -> MantBou
 // The most bytes that those transmissions have together, if the fresh message has `size` bytes. That holds where `mant_most_transmissions` does.
 // Any size is answered, also one that no PDU has: number 10 for a hop limit above 7, else `too_large` where 64 bits do not hold the value.
 // Document 01, "One PDU at one node", by how much a PDU grows.
-#[unsafe(no_mangle)]
-pub extern "C" fn mant_most_bytes(nodes: u64, hop_limit: u64, size: u64) -> MantBound
+pub fn mant_most_bytes(nodes: u64, hop_limit: u64, size: u64) -> MantBound
     ensures { result ≡ bound_in_c (bound_answer hop_limit (bytes_bound nodes hop_limit size)) }
 {
     boundary::bound_in_c(bound::most_bytes(nodes, hop_limit, size))
@@ -119,8 +113,7 @@ pub extern "C" fn mant_most_bytes(nodes: u64, hop_limit: u64, size: u64) -> Mant
 // The most transmissions that one command can cause, where it is sent once and then again at most `tries` times, its acknowledgements counted: its
 // destination answers every copy that arrives. `answer_nodes` and `answer_hop_limit` are the acknowledgement's. That holds where `mant_most_transmissions`
 // does for both. Number 10 for a hop limit above 7, else `too_large` where 64 bits do not hold the value. Document 02, W-210.
-#[unsafe(no_mangle)]
-pub extern "C" fn mant_most_for_command(
+pub fn mant_most_for_command(
     tries: u64,
     nodes: u64,
     hop_limit: u64,
@@ -140,8 +133,7 @@ pub extern "C" fn mant_most_for_command(
 }
 
 // The sizes that the layer keeps to. Document 01, "Sizes", and for the list's values "Numbers answered", 22.
-#[unsafe(no_mangle)]
-pub extern "C" fn mant_limits() -> MantLimits
+pub fn mant_limits() -> MantLimits
     ensures { result ≡ limits_in_c }
 {
     boundary::limits_in_c()

@@ -17,8 +17,7 @@ use retained_operations::Ask;
 
 // Retains a PDU in the first free record of the table, with the time and count 0, and writes nothing. Refusals: 74, 73, 75, 72, 71, 70, in that order.
 // `last` is the last accepted time, 0 before the first; the outcome has it for the next call. Document 02, W-210.
-#[unsafe(no_mangle)]
-pub extern "C" fn mant_retain(table: &mut [Retained], last: u64, time: u64, pdu: &[u8]) -> Outcome
+pub fn mant_retain(table: &mut [Retained], last: u64, time: u64, pdu: &[u8]) -> Outcome
     ensures { (result ≡ retain table.old last time pdu.now)
         × (table.new ≡ table_retained table.old last time pdu.now) }
 {
@@ -30,8 +29,7 @@ pub extern "C" fn mant_retain(table: &mut [Retained], last: u64, time: u64, pdu:
 // One step at a time: the first record in use that was last sent `delay` seconds ago or more is sent again, its bytes written at the start of the output; or,
 // where its count is not below `tries`, dropped and reported failed. Where none is due the time is accepted all the same. Refusals: 74, 73, 77, in that
 // order. Document 02, W-210.
-#[unsafe(no_mangle)]
-pub extern "C" fn mant_retry(
+pub fn mant_retry(
     table: &mut [Retained],
     last: u64,
     time: u64,
@@ -55,8 +53,7 @@ pub extern "C" fn mant_retry(
 // the first record that it matches; a delivered PDU of protocol 1 with ACK clear is answered by an acknowledgement, written at the start of the output. Bytes
 // that are no PDU, one for another address and one with an added header do nothing, whatever the answer. Refusals: 10 and 11 where an acknowledgement is due,
 // 74, 77, in that order. It takes no time. Document 02, W-210.
-#[unsafe(no_mangle)]
-pub extern "C" fn mant_acknowledge(
+pub fn mant_acknowledge(
     table: &mut [Retained],
     last: u64,
     own: u16,
@@ -120,8 +117,7 @@ fn hear_and_respond(
 
 // What `mant_hear` answers, whatever the table holds; and what the PDU then does, as by `mant_acknowledge` with the node's own delivery. The output has the
 // repeated PDU or the acknowledgement, at its start: one PDU never calls for both. Document 02, W-210.
-#[unsafe(no_mangle)]
-pub extern "C" fn mant_hear_reliably(
+pub fn mant_hear_reliably(
     node: MantNode,
     lists: &[u16],
     table: &mut [Retained],

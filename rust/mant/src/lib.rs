@@ -34,11 +34,11 @@
 //! `mant_network_transmissions` [`Network::transmissions`], `mant_meaning`
 //! [`Refusal::meaning`]. A flag beside a value in C is an [`Option`] here.
 //!
-//! Linking needs `libmant.a`. `rt staticlib mant` makes it for x86-64 Linux in
-//! the repository's `target/staticlib`, where it is looked for first. On
-//! another processor `tools/build staticlib mant` makes one to try, and
-//! `MANT_LIB_DIR=../target/native` names its folder. A relative path counts
-//! from the repository's folder `rust`.
+//! Linking needs `libmant.a`. `tools/build staticlib mant` makes it for x86-64
+//! Linux in the repository's `target/staticlib`, where it is looked for first.
+//! For another processor `tools/build boards TARGET` makes it on x86-64, and
+//! `MANT_LIB_DIR=../target/boards/TARGET` names its folder. A relative path
+//! counts from the repository's folder `rust`.
 //!
 //! A report goes out, and repeater 2000 hears it:
 //!
