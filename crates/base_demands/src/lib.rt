@@ -1,3 +1,2 @@
 // No code: the three demands, each as one record.
 #![tactic(auto)]
-

@@ -1,3 +1,2 @@
 // No code: what `relay` prints, as one record.
 #![tactic(auto)]
-

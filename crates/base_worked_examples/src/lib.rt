@@ -1,3 +1,2 @@
 // No code: document 01, "Checked by hand", the cases marked P.
 #![tactic(auto)]
-

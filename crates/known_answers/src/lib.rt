@@ -1,3 +1,2 @@
 // The standards' worked examples, by the definitions: proofs alone.
 #![tactic(auto)]
-

@@ -13,35 +13,35 @@ use Rattle.mant.specs.contracts.reliable_messages.mant_retry as mant-retry-contr
 use Rattle.mant.specs.contracts.reliable_messages.mant_acknowledge as mant-acknowledge-contract
 use Rattle.mant.specs.contracts.reliable_messages.mant_hear_reliably as mant-hear-reliably-contract
 
-pub find_room_lem : PromisedInLogic find-room-contract.ended (λ M 𝓤. find-room-contract.clauses 𝓤) (λ κs x. x)
+pub find_room_lem : PromisedInLogic find-room-contract.ended (λ M 𝓤 𝓛. find-room-contract.clauses 𝓛) (λ κs x. x)
 find_room_lem =
     record {
       unconditional = λ M 𝓤 𝓛 mem run κs a g. id⊢ 𝓤 (emp 𝓤);
       determined = λ M 𝓤 𝓛 mem run κs a g h x y s t. both_facts 𝓤 (λ p q. p ∙ sym q);
     }
 
-pub find_due_lem : PromisedInLogic find-due-contract.ended (λ M 𝓤. find-due-contract.clauses 𝓤) (λ κs x. x)
+pub find_due_lem : PromisedInLogic find-due-contract.ended (λ M 𝓤 𝓛. find-due-contract.clauses 𝓛) (λ κs x. x)
 find_due_lem =
     record {
       unconditional = λ M 𝓤 𝓛 mem run κs a g. id⊢ 𝓤 (emp 𝓤);
       determined = λ M 𝓤 𝓛 mem run κs a g h x y s t. both_facts 𝓤 (λ p q. p ∙ sym q);
     }
 
-pub store : PromisedInLogicWithOutput store-contract.ended (λ M 𝓤. store-contract.clauses 𝓤) (λ κs s. s.0.now)
+pub store : PromisedInLogicWithOutput store-contract.ended (λ M 𝓤 𝓛. store-contract.clauses 𝓛) (λ κs s. s.0.now)
 store =
     record {
       unconditional = λ M 𝓤 𝓛 mem run κs a g. id⊢ 𝓤 (emp 𝓤);
       determined = λ M 𝓤 𝓛 mem run κs a g h x y s t. both_facts 𝓤 (λ p q. (refl, p ∙ sym q));
     }
 
-pub free : PromisedInLogicWithOutput free-contract.ended (λ M 𝓤. free-contract.clauses 𝓤) (λ κs s. s.0.now)
+pub free : PromisedInLogicWithOutput free-contract.ended (λ M 𝓤 𝓛. free-contract.clauses 𝓛) (λ κs s. s.0.now)
 free =
     record {
       unconditional = λ M 𝓤 𝓛 mem run κs a g. id⊢ 𝓤 (emp 𝓤);
       determined = λ M 𝓤 𝓛 mem run κs a g h x y s t. both_facts 𝓤 (λ p q. (p.0 ∙ sym q.0, p.1 ∙ sym q.1));
     }
 
-pub resend : PromisedInLogicWithOutput resend-contract.ended (λ M 𝓤. resend-contract.clauses 𝓤)
+pub resend : PromisedInLogicWithOutput resend-contract.ended (λ M 𝓤 𝓛. resend-contract.clauses 𝓛)
     (λ κs s. both s.0.now s.1.1.0.now)
 resend =
     record {
@@ -50,14 +50,14 @@ resend =
           (λ p q. (refl, λ i. ((p.0 ∙ sym q.0) i, (p.1 ∙ sym q.1) i)));
     }
 
-pub mant_retain_lem : PromisedInLogicWithOutput mant-retain-contract.ended (λ M 𝓤. mant-retain-contract.clauses 𝓤) (λ κs s. s.0.now)
+pub mant_retain_lem : PromisedInLogicWithOutput mant-retain-contract.ended (λ M 𝓤 𝓛. mant-retain-contract.clauses 𝓛) (λ κs s. s.0.now)
 mant_retain_lem =
     record {
       unconditional = λ M 𝓤 𝓛 mem run κs a g. id⊢ 𝓤 (emp 𝓤);
       determined = λ M 𝓤 𝓛 mem run κs a g h x y s t. both_facts 𝓤 (λ p q. (p.0 ∙ sym q.0, p.1 ∙ sym q.1));
     }
 
-pub mant_retry_lem : PromisedInLogicWithOutput mant-retry-contract.ended (λ M 𝓤. mant-retry-contract.clauses 𝓤)
+pub mant_retry_lem : PromisedInLogicWithOutput mant-retry-contract.ended (λ M 𝓤 𝓛. mant-retry-contract.clauses 𝓛)
     (λ κs s. both s.0.now s.1.1.1.1.1.0.now)
 mant_retry_lem =
     record {
@@ -66,7 +66,7 @@ mant_retry_lem =
           (λ p q. (p.0 ∙ sym q.0, λ i. ((p.1 ∙ sym q.1) i, (p.2 ∙ sym q.2) i)));
     }
 
-pub mant_acknowledge_lem : PromisedInLogicWithOutput mant-acknowledge-contract.ended (λ M 𝓤. mant-acknowledge-contract.clauses 𝓤)
+pub mant_acknowledge_lem : PromisedInLogicWithOutput mant-acknowledge-contract.ended (λ M 𝓤 𝓛. mant-acknowledge-contract.clauses 𝓛)
     (λ κs s. both s.0.now s.1.1.1.1.1.1.0.now)
 mant_acknowledge_lem =
     record {
@@ -75,7 +75,7 @@ mant_acknowledge_lem =
           (λ p q. (p.0 ∙ sym q.0, λ i. ((p.1 ∙ sym q.1) i, (p.2 ∙ sym q.2) i)));
     }
 
-pub mant_hear_reliably_lem : PromisedInLogicWithOutput mant-hear-reliably-contract.ended (λ M 𝓤. mant-hear-reliably-contract.clauses 𝓤)
+pub mant_hear_reliably_lem : PromisedInLogicWithOutput mant-hear-reliably-contract.ended (λ M 𝓤 𝓛. mant-hear-reliably-contract.clauses 𝓛)
     (λ κs s. both s.1.1.0.now s.1.1.1.1.1.1.0.now)
 mant_hear_reliably_lem =
     record {

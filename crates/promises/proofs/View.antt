@@ -31,28 +31,28 @@ same_view : {x y : Pdu} {bytes : Bor (List ℕ)} {extent : Extent} → (x.bytes 
     → (y.bytes ≡ bytes) × (y.at ≡ extent) → x ≡ y
 same_view p q = λ i. record { bytes = (p.0 ∙ sym q.0) i; at = (p.1 ∙ sym q.1) i }
 
-pub opened : PromisedInLogic open-contract.ended (λ M 𝓤. open-contract.clauses 𝓤) (λ κs x. x)
+pub opened : PromisedInLogic open-contract.ended (λ M 𝓤 𝓛. open-contract.clauses 𝓛) (λ κs x. x)
 opened =
     record {
       unconditional = λ M 𝓤 𝓛 mem run κs a g. id⊢ 𝓤 (emp 𝓤);
       determined = λ M 𝓤 𝓛 mem run κs a g h x y s t. both 𝓤 (λ p q. same_view p q);
     }
 
-pub summarize : PromisedInLogic summarize-contract.ended (λ M 𝓤. summarize-contract.clauses 𝓤) (λ κs x. x)
+pub summarize : PromisedInLogic summarize-contract.ended (λ M 𝓤 𝓛. summarize-contract.clauses 𝓛) (λ κs x. x)
 summarize =
     record {
       unconditional = λ M 𝓤 𝓛 mem run κs a g. id⊢ 𝓤 (emp 𝓤);
       determined = λ M 𝓤 𝓛 mem run κs a g h x y s t. both 𝓤 (λ p q. p ∙ sym q);
     }
 
-pub path_address_lem : PromisedInLogic path-address-contract.ended (λ M 𝓤. path-address-contract.clauses 𝓤) (λ κs x. x)
+pub path_address_lem : PromisedInLogic path-address-contract.ended (λ M 𝓤 𝓛. path-address-contract.clauses 𝓛) (λ κs x. x)
 path_address_lem =
     record {
       unconditional = λ M 𝓤 𝓛 mem run κs a g. id⊢ 𝓤 (emp 𝓤);
       determined = λ M 𝓤 𝓛 mem run κs a g h x y s t. both 𝓤 (λ p q. p ∙ sym q);
     }
 
-pub path_has_lem : PromisedInLogic path-has-contract.ended (λ M 𝓤. path-has-contract.clauses 𝓤) (λ κs x. x)
+pub path_has_lem : PromisedInLogic path-has-contract.ended (λ M 𝓤 𝓛. path-has-contract.clauses 𝓛) (λ κs x. x)
 path_has_lem =
     record {
       unconditional = λ M 𝓤 𝓛 mem run κs a g. id⊢ 𝓤 (emp 𝓤);

@@ -7,5 +7,4 @@ returns c = simp (
   c.early_number-early.ensures,
   c.kind_for-kind.ensures,
   c.ack_length-length.ensures,
-
 )

@@ -20,7 +20,6 @@ loop-left-preserved c = (
   omega arith,
   c.loop-left.invariant.1 ∙ range_right _ _ _ _ _ (omega arith) (omega arith) (omega arith)
       (omega (arith, c.word.ensures, c.word-in-loop-left.ensures)),
-
 )
 
 pub returns : goal.returns

@@ -13,6 +13,6 @@ returns c =
     let room = length a.output.now in
     let said = c.hear_and_respond-heard.ensures in
     let freed =
-        acknowledge_tied a.table.now a.last a.sending room a.received.now a.node.own (delivery_number node room a.received.now)
-        _ _ _ said.1 c.free-outcome.ensures in
+    acknowledge_tied a.table.now a.last a.sending room a.received.now a.node.own (delivery_number node room a.received.now)
+    _ _ _ said.1 c.free-outcome.ensures in
     (said.0, freed.0, freed.1, said.2)
