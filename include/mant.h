@@ -153,7 +153,7 @@ MANT_SIZE(MantWritten, 16);
  *
  * Memory: none.
  * Numbers: 17, 1 to 6; in writing again also 14.
- * Stack: mant_read 176, mant_path_address 136, mant_path_has 136, mant_write_again 232.
+ * Stack: mant_read 200, mant_path_address 112, mant_path_has 112, mant_write_again 224.
  */
 
 /* In bytes; the path in addresses. */
@@ -216,7 +216,7 @@ MantWritten mant_write_again(uint64_t edition, const uint8_t *bytes, size_t byte
  *
  * Memory: none.
  * Numbers: 17, 10 to 13, 16, 14.
- * Stack: mant_originate 80.
+ * Stack: mant_originate 104.
  */
 
 /* Settings of a fresh PDU. Edition, hop limit and port are wide, so that 263 arrives as 263 and is refused. An edition not set is 0, and gets 17. */
@@ -258,7 +258,7 @@ MantWritten mant_originate(MantFresh settings, const uint8_t *payload, size_t pa
  *         static const uint16_t lists[] = {[MANT_SOURCE_PASS_FIRST] = 2, [MANT_LIST_VALUES] = 1001, 1999};
  *     Every slice is a block: a length past its end is 0, and no list goes past it. The calls that hear check all eight lists each time.
  * Numbers: both 17, 20 to 22, 1 to 6, 30, 42, 31 to 34, 40; delivery 35, 39; repeat 36 to 38, 41; a batch 54.
- * Stack: mant_change_over 8, mant_list_holds 8, mant_list_fault 24, mant_lay_lists 160, mant_hear 344, mant_step 408.
+ * Stack: mant_change_over 8, mant_list_holds 8, mant_list_fault 24, mant_lay_lists 200, mant_hear 392, mant_step 456.
  */
 
 /* Values in a list, words in a MantListBlock, bytes in a batch. */
@@ -457,7 +457,7 @@ MantStep mant_step(MantNode node, const uint16_t *lists, size_t lists_length, co
  *     one may not be found.
  * Numbers: 55, 56.
  * Stack: mant_stations_held 8, mant_station_at 8, mant_station_of 40, mant_remove_station 40, mant_count_heard 72, mant_count_answer 72,
- *     mant_hear_and_count 408.
+ *     mant_hear_and_count 424.
  */
 
 #define MANT_STATION_LIMIT 128
@@ -547,7 +547,7 @@ MantListened mant_hear_and_count(MantNode node, const uint16_t *lists, size_t li
  *     held, their bytes, and where behind byte 6 they lie, back to back. It is empty if the first two are 0. In malformed memory PDUs are held as far as they
  *     can be read, but mant_queue_level and mant_queue_add go by the numbers alone. So clear a MantQueue that was not zeroed.
  * Numbers: 60 to 62.
- * Stack: mant_queue_add 24, mant_queue_level 8, mant_queue_take 80, mant_queue_clear 8.
+ * Stack: mant_queue_add 64, mant_queue_level 8, mant_queue_take 96, mant_queue_clear 8.
  */
 
 #define MANT_QUEUE_PDUS 32
@@ -605,7 +605,7 @@ void mant_queue_clear(MantQueue *queue);
  * returns 59. Find type 20 with mant_element_at and read it alone, as the example does.
  * Memory: none.
  * Numbers: in reading 57 to 59, 1 to 6, 63; in writing 1 to 6, 14; in mant_element_at 57.
- * Stack: mant_element_at 8, mant_read_exchange 496, mant_write_exchange 168.
+ * Stack: mant_element_at 8, mant_read_exchange 464, mant_write_exchange 128.
  */
 
 /* The most bytes that mant_write_exchange writes. An exchange that is read may have up to 32,771, with other elements in it. */
@@ -677,7 +677,7 @@ MantWritten mant_write_exchange(const uint8_t *bytes, size_t bytes_length, uint8
  *     sent_at to now. A record is in use if its length is at most MANT_RETAINED_LIMIT and its PDU could be retained. Every other is free. A call changes one
  *     record at most; "first" means at the lowest place.
  * Numbers: 10, 11, 70 to 75, 77.
- * Stack: mant_retain 456, mant_retry 408, mant_hear_reliably 648, mant_acknowledge 552.
+ * Stack: mant_retain 720, mant_retry 440, mant_hear_reliably 680, mant_acknowledge 480.
  */
 
 /* Records in a table, and bytes of the longest PDU retained. */
@@ -829,7 +829,7 @@ static inline MantOutcome mant_reliable_acknowledge(MantReliable *reliable, uint
  *     Opening writes the first word and the source's two. In malformed memory the first entry of a source counts. To seal, none: the caller counts message
  *     numbers.
  * Numbers: in sealing 1 to 6, 88, 85, 86, 87; in opening 1 to 6, 80 to 84, 87; in mant_message_number 1 to 6, 80, 81.
- * Stack: mant_seal 1,480, mant_open 1,496, mant_message_number 184, mant_remove_source 8.
+ * Stack: mant_seal 1,448, mant_open 1,448, mant_message_number 144, mant_remove_source 8.
  */
 
 #define MANT_SOURCE_LIMIT 64
@@ -895,8 +895,8 @@ bool mant_remove_source(MantSources *record, uint16_t source);
  * to bound transmissions, and leave it out to see who is reached for certain.
  * Memory: for the two counts of a network a table of 256 bytes a node, with any contents. If the network is served, it is all zeros afterwards.
  * Numbers: 10.
- * Stack: mant_chain_lengths 104, mant_least_hop_limit 8, mant_network_transmissions 45,152, mant_network_bytes 45,208, mant_most_transmissions 8,
- *     mant_most_bytes 8, mant_most_for_command 32, mant_limits 8. The two counts of a network take 176 bytes for each node of a path: at hop limits 0 to 6 at
+ * Stack: mant_chain_lengths 104, mant_least_hop_limit 40, mant_network_transmissions 32,792, mant_network_bytes 32,800, mant_most_transmissions 8,
+ *     mant_most_bytes 16, mant_most_for_command 16, mant_limits 8. The two counts of a network take 176 bytes for each node of a path: at hop limits 0 to 6 at
  *     most 1,512 bytes.
  */
 

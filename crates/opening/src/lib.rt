@@ -128,6 +128,32 @@ fn note(fault: u8, memory: &mut [u32; sources::MEMORY], source: u16, number: u32
     sources::accept(memory, source, number);
 }
 
+// Opens, as `open` does, a PDU that nothing refuses before the key is used. By itself, so that the expanded key lies on the stack once and not twice.
+fn open_with_key(
+    key: [u8; 16],
+    memory: &mut [u32; sources::MEMORY],
+    pdu: &[u8],
+    output: &mut [u8],
+) -> Written
+    requires { keyless_fault memory.old pdu.now ≡ 0 }
+    ensures { (result ≡ open_written key memory.old pdu.now (length output.old))
+        × (output.new ≡ open_output key memory.old pdu.now output.old)
+        × (memory.new ≡ memory_after_opening key memory.old pdu.now (length output.old)) }
+{
+    let keys = aes::expand(key);
+    let header = pdu::header_of(pdu);
+    let late = keyed_fault(&keys, memory, pdu, header, output.len());
+    let sealed = pdu::parts::payload(pdu, header);
+    let number = message::number_in(sealed);
+    let nonce = message::nonce(header.source, number);
+    let length = put_plain(late, &keys, nonce, sealed, output);
+    note(late, memory, header.source, number);
+    Written {
+        number: late,
+        length,
+    }
+}
+
 // Opens the sealed PDU at the start of `pdu` under a key, against the record in `memory`: writes the plain payload at the start of the output, notes
 // the message number as the last accepted from the source, and answers 0 and the payload's length. Answers 1 to 6 where there is no PDU, 80 where it is
 // not encrypted, 81 where its payload is too short for number and hash, 82 where the number is not greater than the last accepted from the source, 83
@@ -147,16 +173,5 @@ pub fn open(
     if early != 0 {
         return message::refused(early);
     }
-    let keys = aes::expand(key);
-    let header = pdu::header_of(pdu);
-    let late = keyed_fault(&keys, memory, pdu, header, output.len());
-    let sealed = pdu::parts::payload(pdu, header);
-    let number = message::number_in(sealed);
-    let nonce = message::nonce(header.source, number);
-    let length = put_plain(late, &keys, nonce, sealed, output);
-    note(late, memory, header.source, number);
-    Written {
-        number: late,
-        length,
-    }
+    open_with_key(key, memory, pdu, output)
 }

@@ -1,5 +1,4 @@
 use Rattle.opening.proofs.Deciding.{not_genuine, source_refused, room_refused, none_refused}
-use borrow.Author.Tests.{not-true, not-false}
 use Rattle.opening.proofs.keyed_fault.Goals as goal
 
 pub returns-then-not-is_genuine : goal.returns-then-not-is_genuine

@@ -1,5 +1,5 @@
-use Rattle.opening.proofs.Opened.{refused, early, ready, opened}
-use mathlib.Core.Path.{sym, ◌∙◌}
+use Rattle.opening.proofs.Opened.{refused, early}
+use mathlib.Core.Path.{◌∙◌}
 use Rattle.opening.proofs.open.Goals as goal
 
 pub returns-then-early-ne0 : goal.returns-then-early-ne0
@@ -8,29 +8,3 @@ returns-then-early-ne0 c =
     let number = early a.key a.memory.now a.pdu.now a.output.now _ c.keyless_fault-early.ensures c.if-early-ne0.true in
     let same = refused a.key a.memory.now a.pdu.now a.output.now _ number c.if-early-ne0.true in
     (c.refused.ensures ∙ same.0, same.1, same.2)
-
-pub keyed_fault-late-requires : goal.keyed_fault-late-requires
-keyed_fault-late-requires c = c.header_of-header.ensures
-
-pub put_plain-length-requires : goal.put_plain-length-requires
-put_plain-length-requires c =
-    let a = c.args in
-    let none = sym c.keyless_fault-early.ensures ∙ c.if-early-ne0.false in
-    let header_is = c.header_of-header.ensures in
-    let payload-is = c.payload-sealed.ensures.bytes in
-    let number_is = c.number_in-number.ensures in
-    let keys-are = c.expand-keys.ensures in
-    let is = ready a.key a.memory.now a.pdu.now a.output.now _ _ _ _ _ _ none header_is payload-is number_is keys-are
-    c.nonce-nonce.ensures c.keyed_fault-late.ensures in
-    (is.0, is.1)
-
-pub returns : goal.returns
-returns c =
-    let a = c.args in
-    let none = sym c.keyless_fault-early.ensures ∙ c.if-early-ne0.false in
-    let header_is = c.header_of-header.ensures in
-    let payload-is = c.payload-sealed.ensures.bytes in
-    let number_is = c.number_in-number.ensures in
-    let keys-are = c.expand-keys.ensures in
-    opened a.key a.memory.now a.pdu.now a.output.now _ _ _ _ _ _ none header_is payload-is number_is keys-are
-    c.nonce-nonce.ensures c.keyed_fault-late.ensures _ _ _ c.put_plain-length.ensures c.note.ensures
