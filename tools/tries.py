@@ -7,6 +7,7 @@ import pathlib
 import shutil
 import subprocess
 import tempfile
+import threading
 
 import programs
 
@@ -23,8 +24,14 @@ def kit():
 
 
 def linked(folder, to):
-    """Copies what a check kept: of what was proved by links, since a check replaces such a file and never writes into it."""
-    shutil.copytree(folder, to, copy_function=lambda one, other: os.link(one, other) if one.endswith('.oantt') else shutil.copy2(one, other))
+    """Copies what a check kept: of what was proved by links where these can be made, since a check replaces such a file and never writes into it."""
+    def copied(one, other):
+        with contextlib.suppress(OSError):
+            if one.endswith('.oantt'):
+                return os.link(one, other)
+        return shutil.copy2(one, other)
+
+    shutil.copytree(folder, to, copy_function=copied)
 
 
 def texts_of(crate, wrong):
@@ -42,7 +49,7 @@ class Prover:
     """Checks crates of a repository with other texts in place of their own."""
 
     def __init__(self, top, jobs=1):
-        self.crates, self.jobs, self.uses = top / 'crates', jobs, {}
+        self.crates, self.jobs, self.uses, self.turn = top / 'crates', jobs, {}, threading.Lock()
         for line in (top / 'crates.txt').read_text().splitlines():
             name, colon, uses = line.split('#')[0].partition(':')
             if colon:
@@ -57,6 +64,10 @@ class Prover:
         for other in self.own(name):
             found += [one for one in [*self.below(other), other] if one not in found]
         return found
+
+    def size(self, name):
+        """How much text a crate has, by which the time of a check is guessed."""
+        return sum(path.stat().st_size for part in PARTS for path in (self.crates / name / part).rglob('*') if path.is_file())
 
     def library(self, name):
         return self.crates / name / 'out/rlib' / f'{name}.rlib'
@@ -77,7 +88,8 @@ class Prover:
         """Has `rt check` prove a crate as it is, and build the libraries below it, unless these are all of `rt ci`, which builds them anew."""
         if all(self.library(other).is_dir() and not (self.library(other).parent / 'stamp').is_file() for other in self.below(name)):
             return
-        ran = subprocess.run(['rt', 'check'], cwd=self.crates / name, stdout=subprocess.PIPE, stderr=subprocess.STDOUT, text=True, check=False)
+        with self.turn:
+            ran = subprocess.run(['rt', 'check'], cwd=self.crates / name, stdout=subprocess.PIPE, stderr=subprocess.STDOUT, text=True, check=False)
         if ran.returncode:
             raise Failed(f'{name} is not proved as it is: run `rt check` in crates/{name}')
 
