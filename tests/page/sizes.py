@@ -5,7 +5,7 @@ import re
 import facts
 
 GAP, STRAINED = 84, 0.03  # how long one hearing is drawn; how far distances are off in a grid that is drawn well, squared and in the mean
-LIMIT = 100  # milliseconds of the processor from a change to its answers and drawing
+LIMIT = 150  # milliseconds of the processor from a change to its answers and drawing
 WORK = ('ScriptDuration', 'LayoutDuration', 'RecalcStyleDuration')
 TIMED = """const s = document.getElementById('source'); s.value = arguments[0]; const t = performance.now(); s.dispatchEvent(new Event('input'));
 document.body.getBoundingClientRect(); return performance.now() - t"""
