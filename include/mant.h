@@ -20,8 +20,8 @@
  * - changes no output and no lent memory if that number is not 0, and sets the fields beside `number` to 0, unless its comment says otherwise.
  * - writes output from its first byte on, and keeps the bytes behind. MANT_PDU_LIMIT bytes are room for every PDU.
  * - takes the PDU at the start of the bytes and ignores what follows, unless its comment says otherwise. 1 to 6: there is no PDU.
- * - keeps nothing between calls, allocates nothing, does no input or output, and needs only memcpy, memmove and memset. Calls may run at once unless they
- *   share memory that one of them changes.
+ * - keeps nothing between calls, allocates nothing, does no input or output, and needs only memcpy and memset. Calls may run at once unless they share memory
+ *   that one of them changes.
  * - is proved against the specs/ folders of crates/. Not proved: the six functions defined here and, off x86-64, a shim in C (docs/AUDIT.md).
  *
  * The caller:

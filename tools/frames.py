@@ -1,8 +1,8 @@
 """How deep each call of the library can go on the stack, over every way through its code, counted in the disassembly.
 
 Each function is followed from its first instruction, with count of what is pushed, reserved and released, and what the functions take that it calls is
-added. A call through a pointer, a frame of no fixed size and a function that calls itself and is not in LEVELS cannot be counted, and are faults. Of memcpy,
-memmove and memset the return address is counted, and not what the C library takes; nor are the arguments that a caller puts on the stack."""
+added. A call through a pointer, a frame of no fixed size and a function that calls itself and is not in LEVELS cannot be counted, and are faults. Of memcpy
+and memset the return address is counted, and not what the C library takes; nor are the arguments that a caller puts on the stack."""
 import functools
 import re
 import shutil
@@ -12,7 +12,7 @@ TOOL = 'llvm-objdump'
 # how often it is under way at once: elements go four levels down, and the fifth is refused; a path has each of up to 255 nodes once
 LEVELS = {'elements::run_fault': 5, 'ways::count_from': 255}
 PADDING = ('nop', 'cs', 'data16', 'int3')
-OUTSIDE = {'memcpy', 'memmove', 'memset'}
+OUTSIDE = {'memcpy', 'memset'}
 FUNCTION = re.compile(r'^[0-9a-f]+ <(.+)>:$')
 TARGET = re.compile(r'^\t\t[0-9a-f]+:\s+R_X86_64_\w+\s+(?:\.text\.)?([\w:]+)')
 CODE = re.compile(r'^\s*([0-9a-f]+):\s+(\S+)\s*([^#]*)')

@@ -10,7 +10,7 @@ use native.Mathlib.Omega.{arith}
 use borrow.Author.Tests.{eq-eqb}
 use lib.Bits.{xor_zero_r}
 use lib.ListN.{length, take, set, length-append, get_or-append}
-use lib.Seq.{take_all, take-suc, take-suc-set, take-append_seam, take-append-le, get_or-take, get_or-append-add}
+use lib.Seq.{take_all, take-suc, take-suc-set, take-append-le, get_or-take, get_or-append-add}
 use Rattle.octets.specs.Octets.{at}
 use Rattle.aes_field.specs.Field.{◌⊕◌, sub_byte}
 use Rattle.aes_rounds.specs.Rounds.{listed, word}
@@ -53,10 +53,6 @@ module _ (p : ℕ) (v : List ℕ) {s : ℕ} (fourth : p / 4 % 4 ≡ 0) (substitu
   scrambled_first z q =
       let e : p / 16 ≡ p / 4 / 4 = sym (div-div-eq-div-mul p 4 4) in
       ap (λ (x : ℕ). s ⊕ x) q ∙ sym (scrambled ∙ ap₂ (λ (n k : ℕ). s ⊕ at (rcon n) k) (sym e) z)
-
--- the first of two lists, taken back by its length
-pub key_first : (n : ℕ) (l rest : List ℕ) → length l ≡ n → take n (l ++ rest) ≡ l
-key_first n l rest e = ap (λ (k : ℕ). take k (l ++ rest)) (sym e) ∙ take-append_seam l rest
 
 module _ (key : List ℕ) (sixteen : length key ≡ 16) where
   length_expansion : (n : ℕ) → length (expansion key n) ≡ 16 + 4 * n

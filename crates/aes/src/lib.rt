@@ -1,7 +1,7 @@
 // AES-128: the key expanded, and one block of 16 bytes enciphered.
 #![tactic(auto)]
 
-ghost use Rattle.std.specs.Prelude.{◌≡◌, ◌+◌, ◌*◌, ◌/◌, ◌%◌, ◌≤◌, ◌<◌, ◌++◌, length, drop};
+ghost use Rattle.std.specs.Prelude.{◌≡◌, ◌+◌, ◌*◌, ◌/◌, ◌%◌, ◌≤◌, ◌<◌, length};
 ghost use Rattle.octets.specs.Octets.{at};
 ghost use Rattle.aes_field.specs.Field.{substitutes};
 ghost use Rattle.aes.specs.Cipher.{round_key, cipher, power, temp, key_expansion};
@@ -40,7 +40,7 @@ pub fn expand(key: [u8; 16]) -> [u8; 176]
 {
     let table = all_substitutes();
     let mut w = [0u8; 176];
-    lay_key(key, &mut w);
+    octets::put(&mut w, 0, &key);
     let mut p: usize = 16;
     while p < 176 {
         let from = p - p % 4;
@@ -51,13 +51,6 @@ pub fn expand(key: [u8; 16]) -> [u8; 176]
     w
 }
 
-// The key's own bytes, laid at the start of the expanded key. FIPS 197, 5.2.
-fn lay_key(key: [u8; 16], w: &mut [u8; 176])
-    ensures { w.new ≡ key ++ drop 16 w.old }
-{
-    w[..16].copy_from_slice(&key);
-}
-
 // Round `n`'s 16 bytes of the expanded key. FIPS 197, 5.1.4.
 fn round_key(keys: &[u8], n: usize) -> [u8; 16]
     requires { 16 * n + 16 ≤ length keys.now }
@@ -65,7 +58,7 @@ fn round_key(keys: &[u8], n: usize) -> [u8; 16]
 {
     let mut k = [0u8; 16];
     let at = 16 * n;
-    k.copy_from_slice(&keys[at..at + 16]);
+    octets::put(&mut k, 0, &keys[at..at + 16]);
     k
 }
 

@@ -2,10 +2,11 @@ use mathlib.Core.Path.{◌≡◌, sym, ap, ◌∙◌}
 use Prim.Native.Nat.{ℕ}
 use mathlib.Core.List.{List}
 use native.Mathlib.Omega.{arith}
-use lib.ListN.{length, take, drop, replicate, length-set}
+use lib.ListN.{length, take, replicate, length-set}
 use lib.Seq.{length-take-le}
 use Rattle.aes.specs.Cipher.{expansion, key_expansion}
-use Rattle.aes.proofs.Expanding.{key_first, begins, byte_laid, all_laid}
+use Rattle.octets.proofs.Placing.{placed_start, length_placed, take_over}
+use Rattle.aes.proofs.Expanding.{begins, byte_laid, all_laid}
 use borrow.Author.Rules.{rules}
 use Rattle.aes.proofs.expand.Goals as goal
 
@@ -21,8 +22,8 @@ loop-p-preserved c =
 
 pub loop-p-init : goal.loop-p-init
 loop-p-init c =
-    let w = c.lay_key.new.w in
-    let size : length w ≡ 176 = search rules in
+    let w = c.put.new.output in
+    let size : length w ≡ 176 = ap length c.put.ensures.1 ∙ length_placed (replicate 176 0) 0 c.args.key in
     let l : length (take 16 w) ≡ 16 = length-take-le 16 w (omega arith) in
     (omega arith, omega arith, size, l, sym (begins (take 16 w) l 40))
 
@@ -30,6 +31,8 @@ pub returns : goal.returns
 unfolding key_expansion
 returns c =
     let v = c.loop-p.invariant in
+    let size : length c.args.key ≡ 16 = search rules in
     all_laid _ v.3 c.loop-p.w c.loop-p.p v.4 v.2 c.loop-p-test.false
     ∙ ap (λ (l : List ℕ). expansion l 40)
-    (ap (take 16) c.lay_key.ensures ∙ key_first 16 c.args.key (drop 16 (replicate 176 0)) (search rules))
+    (ap (take 16) (c.put.ensures.1 ∙ placed_start c.args.key (replicate 176 0) (omega (arith, size)))
+    ∙ take_over c.args.key (replicate 176 0) 16 size)
