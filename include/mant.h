@@ -153,7 +153,7 @@ MANT_SIZE(MantWritten, 16);
  *
  * Memory: none.
  * Numbers: 17, 1 to 6; in writing again also 14.
- * Stack: mant_read 200, mant_path_address 112, mant_path_has 112, mant_write_again 224.
+ * Stack: mant_read 200, mant_path_address 112, mant_path_has 112, mant_write_again 240.
  */
 
 /* In bytes; the path in addresses. */
@@ -216,7 +216,7 @@ MantWritten mant_write_again(uint64_t edition, const uint8_t *bytes, size_t byte
  *
  * Memory: none.
  * Numbers: 17, 10 to 13, 16, 14.
- * Stack: mant_originate 104.
+ * Stack: mant_originate 96.
  */
 
 /* Settings of a fresh PDU. Edition, hop limit and port are wide, so that 263 arrives as 263 and is refused. An edition not set is 0, and gets 17. */
@@ -547,7 +547,7 @@ MantListened mant_hear_and_count(MantNode node, const uint16_t *lists, size_t li
  *     held, their bytes, and where behind byte 6 they lie, back to back. It is empty if the first two are 0. In malformed memory PDUs are held as far as they
  *     can be read, but mant_queue_level and mant_queue_add go by the numbers alone. So clear a MantQueue that was not zeroed.
  * Numbers: 60 to 62.
- * Stack: mant_queue_add 64, mant_queue_level 8, mant_queue_take 96, mant_queue_clear 8.
+ * Stack: mant_queue_add 48, mant_queue_level 8, mant_queue_take 104, mant_queue_clear 8.
  */
 
 #define MANT_QUEUE_PDUS 32
