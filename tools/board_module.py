@@ -33,12 +33,6 @@ THERE = re.compile(r'  (%r\d+) = icmp eq ptr (%a\d+), null\n  (%r\d+) = zext i1 
                    r'  (%r\d+) = getelementptr i8, ptr \2, i64 \4\n')
 
 
-# whether a copy's end lies within its source, by how far it lies behind: the same of addresses of 32 bits, once they are widened
-APART = re.compile(r'^  (%r\d+) = ptrtoaddr ptr (%a\d+) to i64\n  (%r\d+) = ptrtoaddr ptr (%a\d+) to i64\n  (%r\d+) = sub i64 \1, \3\n'
-                   r'(?=  %r\d+ = icmp ult i64 \5, )', re.M)
-WIDENED = r'  \1 = ptrtoint ptr \2 to i64\n  \3 = ptrtoint ptr \4 to i64\n  \5 = sub i64 \1, \3\n'
-
-
 class Inner(NamedTuple):
     """An inner function. It takes ('result', bytes), ('struct', bytes), ('fields', places and types), ('slice', 16), ('number', type) or ('pointer', 0) each;
     bytes are 0 where the module does not say. Where it returns two numbers, ('pair', places and types) stands first."""
@@ -187,6 +181,6 @@ def neutral(module, exports):
     """The module without its exports and without a word about x86-64, and with what stands for each export."""
     module = re.sub(r'^define (?!internal\b).*?^}\n', '', module, flags=re.M | re.S)
     module = re.sub(r'^target (datalayout|triple) = .*\n| "(target-cpu|probe-stack|stack-probe-size)"="[^"]*"', '', module, flags=re.M)
-    for line in APART.sub('', module).splitlines():
+    for line in module.splitlines():
         need(KNOWN.fullmatch(line) and not FOREIGN.search(line), f'the module holds what is not known: {line}')
-    return '\n'.join([APART.sub(WIDENED, module), *(stands_for(name, inner) for name, inner in exports.items())])
+    return '\n'.join([module, *(stands_for(name, inner) for name, inner in exports.items())])
