@@ -896,8 +896,8 @@ bool mant_remove_source(MantSources *record, uint16_t source);
  * Memory: for the two counts of a network a table of 256 bytes a node, with any contents. If the network is served, it is all zeros afterwards.
  * Numbers: 10.
  * Stack: mant_chain_lengths 104, mant_least_hop_limit 40, mant_network_transmissions 32,792, mant_network_bytes 32,800, mant_most_transmissions 8,
- *     mant_most_bytes 16, mant_most_for_command 16, mant_limits 8. The two counts of a network take 176 bytes for each node of a path: at hop limits 0 to 6 at
- *     most 1,512 bytes.
+ *     mant_most_bytes 16, mant_most_for_command 16, mant_limits 8. The two counts of a network take 128 bytes for each node of a path: at hop limits 0 to 6 at
+ *     most 1,056 bytes.
  */
 
 /* The most nodes of a network, and a table for every network. */

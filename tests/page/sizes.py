@@ -6,7 +6,7 @@ import facts
 
 GAP, STRAINED = 84, 0.03  # how long one hearing is drawn; how far distances are off in a grid that is drawn well, squared and in the mean
 LIMIT = 100  # milliseconds of the processor from a change to its answers and drawing
-LEAST, MOST = 2, 30  # tries: what else runs on a machine makes a try slower, and none faster
+LEAST, MOST = 2, 30  # tries: a machine that is busy with other things is slower for a while
 WORK = ('ScriptDuration', 'LayoutDuration', 'RecalcStyleDuration')
 TIMED = """const s = document.getElementById('source'); s.value = arguments[0]; const t = performance.now(); s.dispatchEvent(new Event('input'));
 document.body.getBoundingClientRect(); return performance.now() - t"""
