@@ -72,7 +72,8 @@ module _ (bytes : List ℕ) where
     sought_next_two place next n left e f h =
         let g : next ≡ place + 2 + 2 = omega arith in
         rw (g, f, add_two left)
-        (neither_way (eqb (word_at bytes place) address) (eqb (word_at bytes (place + 2)) address) (in_path address (addresses_at bytes (place + 2 + 2) left)) h)
+        (neither_way (eqb (word_at bytes place) address) (eqb (word_at bytes (place + 2)) address)
+        (in_path address (addresses_at bytes (place + 2 + 2) left)) h)
 
     pub sought_none : (place n : ℕ) → n ≡ 0 → sought place n ≡ false
     unfolding sought in_path addresses_at

@@ -16,7 +16,9 @@ slice_range-put_mid : (a k n : ℕ) (xs ys : List ℕ) → a ≤ length xs → n
 slice_range-put_mid a k n xs ys within fits =
     let same : (a + n) - a ≡ n = omega arith in
     let after = post_of a k xs in
-    ap (take ((a + n) - a)) (drop_at (take a xs) (ys ++ after) a (length-take-le a xs within)) ∙ ap (λ m. take m (ys ++ after)) same ∙ take-append-le n ys after fits
+    ap (take ((a + n) - a)) (drop_at (take a xs) (ys ++ after) a (length-take-le a xs within))
+    ∙ ap (λ m. take m (ys ++ after)) same
+    ∙ take-append-le n ys after fits
 
 pub loop-count-preserved : goal.loop-count-preserved
 loop-count-preserved g c =
@@ -25,5 +27,7 @@ loop-count-preserved g c =
     let room = length c.loop-count.bytes - from in
     let within = c.loop-count.invariant.0 in
     let part = slice_range-put_mid from room more c.loop-count.bytes c.read.new.buf within c.in_ok-more.ensures.bound.0 in
-    let joined = take_split from (from + more) c.loop-count.bytes (put_mid from room c.loop-count.bytes c.read.new.buf) (omega arith) (take-put_mid_below _ _ _ _ _ (le_refl _) within) in
-    (search rules, subst (Consumes _ _) (ap (λ l. take from c.loop-count.bytes ++ l) (sym part) ∙ joined) (Consumes-trans _ _ _ _ _ c.loop-count.invariant.1 c.in_ok-more.ensures.bytes.0))
+    let front = take-put_mid_below _ _ _ _ _ (le_refl _) within in
+    let joined = take_split from (from + more) c.loop-count.bytes (put_mid from room c.loop-count.bytes c.read.new.buf) (omega arith) front in
+    let consumed = Consumes-trans _ _ _ _ _ c.loop-count.invariant.1 c.in_ok-more.ensures.bytes.0 in
+    (search rules, subst (Consumes _ _) (ap (λ l. take from c.loop-count.bytes ++ l) (sym part) ∙ joined) consumed)
