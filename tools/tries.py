@@ -101,8 +101,8 @@ class Prover:
                     shutil.copytree(self.crates / name / part, f'{room}/{part}')
             for file, text in texts.items():
                 pathlib.Path(room, file).write_text(text)
-            ran = subprocess.run([*self.words(name), '--incremental', seed], cwd=room, stdin=subprocess.DEVNULL, stdout=subprocess.PIPE, stderr=subprocess.STDOUT,
-                                 text=True, errors='replace', check=False)
+            words = [*self.words(name), '--incremental', seed]
+            ran = subprocess.run(words, cwd=room, stdin=subprocess.DEVNULL, stdout=subprocess.PIPE, stderr=subprocess.STDOUT, text=True, errors='replace')
         return ran.stdout, ran.returncode
 
     @contextlib.contextmanager
