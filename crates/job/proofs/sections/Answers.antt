@@ -29,29 +29,22 @@ returns-in_default-third c =
 pub returns-in_default-fourth : goal.returns-in_default-fourth
 returns-in_default-fourth c =
     let b = c.args.bytes.now in let own = c.args.own in let flags = c.args.flags in
+    let p = c.in-At.source_pass in let r = c.in-At-second.source_reject in
     let first = begun own flags b c.list_at-first.ensures in
     let second = next_list _ (after_second own flags b) first c.in-At.is c.list_end.ensures c.list_at-second.ensures in
-    let third = next_list _ (after_third own flags b c.in-At.source_pass) second c.in-At-second.is c.list_end-2.ensures c.list_at-third.ensures in
-    let fourth =
-        next_list _ (after_fourth own flags b c.in-At.source_pass c.in-At-second.source_reject) third
-        c.in-At-third.is c.list_end-3.ensures c.list_at-fourth.ensures
-    in
+    let third = next_list _ (after_third own flags b p) second c.in-At-second.is c.list_end-2.ensures c.list_at-third.ensures in
+    let fourth = next_list _ (after_fourth own flags b p r) third c.in-At-third.is c.list_end-3.ensures c.list_at-fourth.ensures in
     refused_here fourth c.in_default-fourth.is c.taken_number-in_default-fourth.ensures
 
 pub returns-in_default-last : goal.returns-in_default-last
 returns-in_default-last c =
     let b = c.args.bytes.now in let own = c.args.own in let flags = c.args.flags in
+    let p = c.in-At.source_pass in let r = c.in-At-second.source_reject in let d = c.in-At-third.destination_pass in
     let first = begun own flags b c.list_at-first.ensures in
     let second = next_list _ (after_second own flags b) first c.in-At.is c.list_end.ensures c.list_at-second.ensures in
-    let third = next_list _ (after_third own flags b c.in-At.source_pass) second c.in-At-second.is c.list_end-2.ensures c.list_at-third.ensures in
-    let fourth =
-        next_list _ (after_fourth own flags b c.in-At.source_pass c.in-At-second.source_reject) third
-        c.in-At-third.is c.list_end-3.ensures c.list_at-fourth.ensures
-    in
-    let last =
-        next_batch _ (after_batch own flags b c.in-At.source_pass c.in-At-second.source_reject c.in-At-third.destination_pass) fourth
-        c.in-At-fourth.is c.list_end-4.ensures c.batch_at-last.ensures
-    in
+    let third = next_list _ (after_third own flags b p) second c.in-At-second.is c.list_end-2.ensures c.list_at-third.ensures in
+    let fourth = next_list _ (after_fourth own flags b p r) third c.in-At-third.is c.list_end-3.ensures c.list_at-fourth.ensures in
+    let last = next_batch _ (after_batch own flags b p r d) fourth c.in-At-fourth.is c.list_end-4.ensures c.batch_at-last.ensures in
     refused_here last c.in_default-last.is c.taken_number-in_default-last.ensures
 
 pub list_end-requires : goal.list_end-requires
@@ -82,33 +75,21 @@ overflow_add-batch c =
 pub returns-then-batch-bytes : goal.returns-then-batch-bytes
 returns-then-batch-bytes c =
     let b = c.args.bytes.now in let own = c.args.own in let flags = c.args.flags in
+    let p = c.in-At.source_pass in let r = c.in-At-second.source_reject in let d = c.in-At-third.destination_pass in
     let first = begun own flags b c.list_at-first.ensures in
     let second = next_list _ (after_second own flags b) first c.in-At.is c.list_end.ensures c.list_at-second.ensures in
-    let third = next_list _ (after_third own flags b c.in-At.source_pass) second c.in-At-second.is c.list_end-2.ensures c.list_at-third.ensures in
-    let fourth =
-        next_list _ (after_fourth own flags b c.in-At.source_pass c.in-At-second.source_reject) third
-        c.in-At-third.is c.list_end-3.ensures c.list_at-fourth.ensures
-    in
-    let last =
-        next_batch _ (after_batch own flags b c.in-At.source_pass c.in-At-second.source_reject c.in-At-third.destination_pass) fourth
-        c.in-At-fourth.is c.list_end-4.ensures c.batch_at-last.ensures
-    in
-    left_over own flags b c.in-At.source_pass c.in-At-second.source_reject c.in-At-third.destination_pass c.in-At-fourth.destination_reject
-    c.in-At-last.batch last c.in-At-last.is c.if-batch-bytes.true
+    let third = next_list _ (after_third own flags b p) second c.in-At-second.is c.list_end-2.ensures c.list_at-third.ensures in
+    let fourth = next_list _ (after_fourth own flags b p r) third c.in-At-third.is c.list_end-3.ensures c.list_at-fourth.ensures in
+    let last = next_batch _ (after_batch own flags b p r d) fourth c.in-At-fourth.is c.list_end-4.ensures c.batch_at-last.ensures in
+    left_over own flags b p r d c.in-At-fourth.destination_reject c.in-At-last.batch last c.in-At-last.is c.if-batch-bytes.true
 
 pub returns : goal.returns
 returns c =
     let b = c.args.bytes.now in let own = c.args.own in let flags = c.args.flags in
+    let p = c.in-At.source_pass in let r = c.in-At-second.source_reject in let d = c.in-At-third.destination_pass in
     let first = begun own flags b c.list_at-first.ensures in
     let second = next_list _ (after_second own flags b) first c.in-At.is c.list_end.ensures c.list_at-second.ensures in
-    let third = next_list _ (after_third own flags b c.in-At.source_pass) second c.in-At-second.is c.list_end-2.ensures c.list_at-third.ensures in
-    let fourth =
-        next_list _ (after_fourth own flags b c.in-At.source_pass c.in-At-second.source_reject) third
-        c.in-At-third.is c.list_end-3.ensures c.list_at-fourth.ensures
-    in
-    let last =
-        next_batch _ (after_batch own flags b c.in-At.source_pass c.in-At-second.source_reject c.in-At-third.destination_pass) fourth
-        c.in-At-fourth.is c.list_end-4.ensures c.batch_at-last.ensures
-    in
-    whole own flags b c.in-At.source_pass c.in-At-second.source_reject c.in-At-third.destination_pass c.in-At-fourth.destination_reject
-    c.in-At-last.batch last c.in-At-last.is c.if-batch-bytes.false
+    let third = next_list _ (after_third own flags b p) second c.in-At-second.is c.list_end-2.ensures c.list_at-third.ensures in
+    let fourth = next_list _ (after_fourth own flags b p r) third c.in-At-third.is c.list_end-3.ensures c.list_at-fourth.ensures in
+    let last = next_batch _ (after_batch own flags b p r d) fourth c.in-At-fourth.is c.list_end-4.ensures c.batch_at-last.ensures in
+    whole own flags b p r d c.in-At-fourth.destination_reject c.in-At-last.batch last c.in-At-last.is c.if-batch-bytes.false
