@@ -153,7 +153,7 @@ MANT_SIZE(MantWritten, 16);
  *
  * Memory: none.
  * Numbers: 17, 1 to 6; in writing again also 14.
- * Stack: mant_read 200, mant_path_address 112, mant_path_has 112, mant_write_again 240.
+ * Stack: mant_read 208, mant_path_address 112, mant_path_has 112, mant_write_again 240.
  */
 
 /* In bytes; the path in addresses. */
@@ -456,7 +456,7 @@ MantStep mant_step(MantNode node, const uint16_t *lists, size_t lists_length, co
  *     read, those that echo dropped, and one more than the shortest path count, or 0. Words behind them stay. In malformed memory where addresses do not rise,
  *     one may not be found.
  * Numbers: 55, 56.
- * Stack: mant_stations_held 8, mant_station_at 8, mant_station_of 40, mant_remove_station 40, mant_count_heard 72, mant_count_answer 72,
+ * Stack: mant_stations_held 8, mant_station_at 8, mant_station_of 24, mant_remove_station 24, mant_count_heard 88, mant_count_answer 88,
  *     mant_hear_and_count 424.
  */
 
@@ -605,7 +605,7 @@ void mant_queue_clear(MantQueue *queue);
  * returns 59. Find type 20 with mant_element_at and read it alone, as the example does.
  * Memory: none.
  * Numbers: in reading 57 to 59, 1 to 6, 63; in writing 1 to 6, 14; in mant_element_at 57.
- * Stack: mant_element_at 8, mant_read_exchange 464, mant_write_exchange 128.
+ * Stack: mant_element_at 8, mant_read_exchange 384, mant_write_exchange 128.
  */
 
 /* The most bytes that mant_write_exchange writes. An exchange that is read may have up to 32,771, with other elements in it. */
@@ -829,7 +829,7 @@ static inline MantOutcome mant_reliable_acknowledge(MantReliable *reliable, uint
  *     Opening writes the first word and the source's two. In malformed memory the first entry of a source counts. To seal, none: the caller counts message
  *     numbers.
  * Numbers: in sealing 1 to 6, 88, 85, 86, 87; in opening 1 to 6, 80 to 84, 87; in mant_message_number 1 to 6, 80, 81.
- * Stack: mant_seal 1,448, mant_open 1,448, mant_message_number 144, mant_remove_source 8.
+ * Stack: mant_seal 1,512, mant_open 1,480, mant_message_number 144, mant_remove_source 8.
  */
 
 #define MANT_SOURCE_LIMIT 64
@@ -895,9 +895,9 @@ bool mant_remove_source(MantSources *record, uint16_t source);
  * to bound transmissions, and leave it out to see who is reached for certain.
  * Memory: for the two counts of a network a table of 256 bytes a node, with any contents. If the network is served, it is all zeros afterwards.
  * Numbers: 10.
- * Stack: mant_chain_lengths 104, mant_least_hop_limit 40, mant_network_transmissions 32,792, mant_network_bytes 32,800, mant_most_transmissions 8,
- *     mant_most_bytes 16, mant_most_for_command 16, mant_limits 8. The two counts of a network take 128 bytes for each node of a path: at hop limits 0 to 6 at
- *     most 1,056 bytes.
+ * Stack: mant_chain_lengths 120, mant_least_hop_limit 8, mant_network_transmissions 20,648, mant_network_bytes 20,672, mant_most_transmissions 8,
+ *     mant_most_bytes 16, mant_most_for_command 16, mant_limits 8. The two counts of a network take 80 bytes for each node of a path: at hop limits 0 to 6 at
+ *     most 832 bytes.
  */
 
 /* The most nodes of a network, and a table for every network. */

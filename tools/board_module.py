@@ -11,12 +11,13 @@ from typing import NamedTuple
 from board_header import need
 
 # All that may stand in the module: numbers of 1 to 64 bits and pointers, none made of the other, every load and store with its alignment, two numbers as one
-# value, which lie as in a C struct, and bytes that are constant. It calls its own functions, and those that move, fill and trap.
+# value, which lie as in a C struct, and bytes that are constant, which are all zero where they are read as more than bytes. It calls its own functions, and
+# those that move, fill and trap.
 WORDS = 'add|alloca|and|br|call|extractvalue|insertvalue|lshr|mul|or|phi|ret|select|shl|sub|switch|trunc|udiv|unreachable|urem|xor|zext'
 KNOWN = re.compile(
     rf'  (%\S+ = )?(({WORDS})\b|icmp \w+ i|getelementptr (inbounds nuw )?i8, ptr |(load|store) (?!volatile|atomic).*, align ).*|    i\d+ -?\d+, label .*|  \]|'
     r'declare void @llvm\.(memmove\.p0\.p0\.i64|memset\.p0\.i64|trap)\(.*|define .*|}|[\w.]+:( +;.*)?|(attributes|source|;|!).*|'
-    r'@static\.\d+ = private unnamed_addr constant \[\d+ x i8\] c".*", align 1|')
+    r'@static\.\d+ = private unnamed_addr constant \[\d+ x i8\] (c".*", align 1|zeroinitializer, align \d+)|')
 FOREIGN = re.compile(r'\b(i128|float|double|asm|addrspace|inttoptr|ptrtoint)\b|<\d+ x |\{ ptr, (?!i64 \})')
 PAIR = r'\{ i\d+, i\d+ \}'
 HEAD = re.compile(rf'define (?:noundef |zeroext )*(void|ptr|i\d+|{PAIR}) @\w+\((.*)\) #0 \{{')

@@ -1,12 +1,12 @@
 -- Laws that the answer to a delivered PDU is proved by.
 use native.Mathlib.Omega.{arith}
 use mathlib.Core.Path.{◌≡◌, refl, sym, ◌∙◌, ap, ap₂}
-use Prim.Native.Nat.{ℕ, zero, suc, ◌<◌, ◌≤◌}
+use Prim.Native.Nat.{ℕ, zero, suc, ◌≤◌}
 use mathlib.Core.Bool.{Bool, true, false, not, cond, ◌&&◌}
 use mathlib.Core.List.{List, [], ◌++◌, append-nil}
 use lib.Dec.{eqb, ltb}
 use lib.ListN.{length}
-use borrow.Author.Tests.{lt-ltb, le-ltb, ltb-false, eqb-true, eq-eqb, ne_eqb}
+use borrow.Author.Tests.{ltb-false, eqb-true, ne_eqb}
 use Rattle.octets.specs.Numbers.{◌gives◌, ◌or_else◌}
 use Rattle.octets.specs.Octets.{over}
 use Rattle.octets.proofs.Numbering.{or_else_zero, gives_zero, or_else_assoc}
@@ -14,7 +14,6 @@ use Rattle.octets.proofs.Tests.{both}
 use Rattle.pdu.specs.declared.Header.{Header}
 use Rattle.pdu.specs.Header.{header_of}
 use Rattle.pdu.specs.Sizes.{path_start, pdu_length}
-use Rattle.pdu.specs.Reading.{read_of, reading_number}
 use Rattle.writing.specs.Writing.{header_bytes, path_bytes, encode, writable, header_output}
 use Rattle.writing.proofs.Encoding.{header_done}
 use Rattle.writing.proofs.Within.{all_within}
@@ -23,7 +22,7 @@ use Rattle.retained.specs.Records.{names_of}
 use Rattle.retained.specs.Table.{records_fault}
 use Rattle.retained_operations.specs.declared.Ask.{Ask}
 use Rattle.acknowledgements.specs.declared.Sending.{Sending}
-use Rattle.acknowledgements.specs.Delivered.{is_for_this, is_delivered_here, is_answered, ack_header, acknowledgement, acknowledge_number, output_acknowledged}
+use Rattle.acknowledgements.specs.Delivered.{is_delivered_here, is_answered, ack_header, acknowledgement, acknowledge_number, output_acknowledged}
 use Rattle.acknowledgements.specs.Responding.{early_number, late_number, ask_for, ask_acknowledge, is_written}
 
 -- a PDU can have the header of an acknowledgement
@@ -38,62 +37,6 @@ ack_writable sending names hop port =
       reserved = omega arith;
       payload = omega arith;
     })
-
-module _ (sending : Sending) where
-  pub early_10 : (due : Bool) → due ≡ true → 7 < sending.hop_limit → 10 ≡ early_number due sending
-  unfolding ◌gives◌ ◌or_else◌
-  early_10 due e h = simp (e, lt-ltb 7 sending.hop_limit h)
-
-  pub early_11 : (due : Bool) → due ≡ true → sending.hop_limit ≤ 7 → 15 < sending.port → 11 ≡ early_number due sending
-  unfolding ◌gives◌ ◌or_else◌
-  early_11 due e h k = simp (e, le-ltb 7 sending.hop_limit h, lt-ltb 15 sending.port k)
-
-  pub early_0 : (due : Bool) → due ≡ true → sending.hop_limit ≤ 7 → sending.port ≤ 15 → 0 ≡ early_number due sending
-  unfolding ◌gives◌ ◌or_else◌
-  early_0 due e h k = simp (e, le-ltb 7 sending.hop_limit h, le-ltb 15 sending.port k)
-
-  pub early_none : (due : Bool) → due ≡ false → 0 ≡ early_number due sending
-  unfolding ◌gives◌ ◌or_else◌
-  early_none due e = simp e
-
-pub late_77 : (due : Bool) (room n : ℕ) → due ≡ true → room < n → 77 ≡ late_number due room n
-unfolding ◌gives◌
-late_77 due room n e h = simp (e, lt-ltb room n h)
-
-pub late_0 : (due : Bool) (room n : ℕ) → due ≡ true → n ≤ room → 0 ≡ late_number due room n
-unfolding ◌gives◌
-late_0 due room n e h = simp (e, le-ltb room n h)
-
-pub late_none : (due : Bool) (room n : ℕ) → due ≡ false → 0 ≡ late_number due room n
-unfolding ◌gives◌
-late_none due room n e = simp e
-
-module _ (own delivery : ℕ) (received : List ℕ) where
-  pub not_given : (delivery ≡ 0 → ⊥) → false ≡ is_delivered_here own delivery received
-  unfolding is_delivered_here
-  not_given e = simp (ne_eqb delivery 0 e)
-
-  pub not_read : (fault : ℕ) → delivery ≡ 0 → fault ≡ reading_number (read_of received) → (fault ≡ 0 → ⊥) → false ≡ is_delivered_here own delivery received
-  unfolding is_delivered_here
-  not_read fault e f g = simp (eq-eqb delivery 0 e, ← f, ne_eqb fault 0 g)
-
-  pub for_this : (fault : ℕ) (header : Header) (r : Bool) → delivery ≡ 0 → fault ≡ reading_number (read_of received) → fault ≡ 0 → header ≡ header_of received
-      → r ≡ is_for_this own header → r ≡ is_delivered_here own delivery received
-  unfolding is_delivered_here
-  for_this fault header r e f g h k = simp (eq-eqb delivery 0 e, ← f, eq-eqb fault 0 g) (k ∙ ap (is_for_this own) h)
-
-module _ (records : ℕ) (due : Bool) (early late : ℕ) where
-  pub no_1 : due ≡ false → false ≡ is_written records due early late
-  no_1 d = simp d
-
-  pub no_2 : due ≡ true → (early ≡ 0 → ⊥) → false ≡ is_written records due early late
-  no_2 d e = simp (d, ne_eqb early 0 e)
-
-  pub no_3 : due ≡ true → early ≡ 0 → (records ≡ 16 → ⊥) → false ≡ is_written records due early late
-  no_3 d e r = simp (d, eq-eqb early 0 e, ne_eqb records 16 r)
-
-  pub no_4 : due ≡ true → early ≡ 0 → records ≡ 16 → eqb late 0 ≡ is_written records due early late
-  no_4 d e r = simp (d, eq-eqb early 0 e, eq-eqb records 16 r)
 
 -- an acknowledgement that is written is within its bits
 only : (x y : Bool) → x ≡ true → (x && y) ≡ false → y ≡ false

@@ -35,79 +35,55 @@ fn is_for_own(own: u16, destination: Destination) -> bool
 fn is_for_this(own: u16, header: Header) -> bool
     ensures { result ≡ is_for_this own header }
 {
-    if header.protocol != 1 {
-        return false;
-    }
-    let destination = header.destination;
-    if is_for_own(own, destination) {
-        return !header.added_header;
-    }
-    false
+    header.protocol == 1 && is_for_own(own, header.destination) && !header.added_header
 }
 
 // Whether a PDU of protocol 1 was delivered at the node with this own address, by the number that the node gave and by the bytes.
+#[tactic(auto, unfolding(crate::specs::Delivered::is_delivered_here))]
 fn is_delivered(own: u16, delivery: u8, received: &[u8]) -> bool
     ensures { result ≡ is_delivered_here own delivery received.now }
 {
-    if delivery != 0 {
-        return false;
-    }
-    if pdu::fault(received) != 0 {
-        return false;
-    }
-    is_for_this(own, pdu::header_of(received))
-}
-
-fn both(a: bool, b: bool) -> bool
-    ensures { result ≡ (a && b) }
-{
-    if a { b } else { false }
+    delivery == 0 && pdu::fault(received) == 0 && is_for_this(own, pdu::header_of(received))
 }
 
 fn kind_for(due: bool, frees: bool) -> Kind
     ensures { result ≡ cond due Answer (cond frees Search Nothing) }
 {
     if due {
-        return Kind::Answer;
+        Kind::Answer
+    } else if frees {
+        Kind::Search
+    } else {
+        Kind::Nothing
     }
-    if frees {
-        return Kind::Search;
-    }
-    Kind::Nothing
 }
 
 fn names_for(due: bool, names: Names) -> Names
     ensures { result ≡ cond due names (exchanged names) }
 {
     if due {
-        return names;
+        names
+    } else {
+        retained::exchange(names)
     }
-    retained::exchange(names)
 }
 
 fn early_number(due: bool, sending: Sending) -> u8
     ensures { result ≡ early_number due sending }
 {
-    if due {
-        if 7 < sending.hop_limit {
-            return 10;
-        }
-        if 15 < sending.port {
-            return 11;
-        }
+    if due && 7 < sending.hop_limit {
+        10
+    } else if due && 15 < sending.port {
+        11
+    } else {
+        0
     }
-    0
 }
 
 fn late_number(due: bool, room: usize, size: usize) -> u8
     ensures { result ≡ late_number due room size }
 {
-    if due {
-        if room < size {
-            return 77;
-        }
-    }
-    0
+    if due && room < size { 77 } else { 0 }
 }
 
 // The length of an acknowledgement: 9 received, and the path count with the path bit.
@@ -121,24 +97,19 @@ fn ask_for(due: bool, frees: bool, last: u64, sending: Sending, room: usize, nam
     ensures { result ≡ ask_for due frees last sending room names }
 {
     let length = ack_length(sending, names);
-    let kind = kind_for(due, frees);
-    let early = early_number(due, sending);
-    let late = late_number(due, room, length);
-    let names = names_for(due, names);
     Ask {
-        kind,
-        early,
-        late,
+        kind: kind_for(due, frees),
+        early: early_number(due, sending),
+        late: late_number(due, room, length),
         last,
         time: last,
-        delay: 0,
-        tries: 0,
-        room: 0,
-        names,
+        names: names_for(due, names),
         length,
+        ..Ask::default()
     }
 }
 
+// Kept: every field is written, so that all of an acknowledgement stands here.
 fn ack_header(sending: Sending, names: Names) -> Header
     requires { (sending.hop_limit ≤ 7) × (sending.port ≤ 15) }
     ensures { result ≡ ack_header sending names }
@@ -164,16 +135,7 @@ fn ack_header(sending: Sending, names: Names) -> Header
 fn is_written(records: usize, due: bool, early: u8, late: u8) -> bool
     ensures { result ≡ is_written records due early late }
 {
-    if !due {
-        return false;
-    }
-    if early != 0 {
-        return false;
-    }
-    if records != 16 {
-        return false;
-    }
-    late == 0
+    due && early == 0 && records == 16 && late == 0
 }
 
 // What a PDU that a node heard asks of a table of so many records: that the record which it acknowledges is freed, that it is said to be answered, or nothing.
@@ -193,18 +155,11 @@ pub fn respond(
     let here = is_delivered(own, delivery, received);
     let header = pdu::header_of(received);
     let names = retained::names_of(received);
-    let due = both(here, !header.ack);
-    let ask = ask_for(
-        due,
-        both(here, header.ack),
-        last,
-        sending,
-        output.len(),
-        names,
-    );
+    let due = here && !header.ack;
+    let frees = here && header.ack;
+    let ask = ask_for(due, frees, last, sending, output.len(), names);
     if is_written(records, due, ask.early, ask.late) {
         writing::put_header(output, ack_header(sending, names));
-        return ask;
     }
     ask
 }

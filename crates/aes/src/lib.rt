@@ -27,7 +27,7 @@ fn temp_byte(table: &[u8; 256], p: usize, v: [u8; 4]) -> u8
     if p / 4 % 4 != 0 {
         return v[p % 4];
     }
-    let substitute = table[octets::byte_value(v[(p + 1) % 4])];
+    let substitute = table[usize::from(v[(p + 1) % 4])];
     if p % 4 != 0 {
         return substitute;
     }
@@ -41,12 +41,10 @@ pub fn expand(key: [u8; 16]) -> [u8; 176]
     let table = all_substitutes();
     let mut w = [0u8; 176];
     octets::put(&mut w, 0, &key);
-    let mut p: usize = 16;
-    while p < 176 {
+    for p in 16..176 {
         let from = p - p % 4;
         let before = [w[from - 4], w[from - 3], w[from - 2], w[from - 1]];
         w[p] = w[p - 16] ^ temp_byte(&table, p, before);
-        p += 1;
     }
     w
 }
@@ -67,11 +65,9 @@ pub fn encipher(keys: &[u8; 176], block: [u8; 16]) -> [u8; 16]
     ensures { result ≡ cipher keys.now block }
 {
     let mut s = add_round_key(block, round_key(keys, 0));
-    let mut n: usize = 1;
-    while n < 10 {
+    for n in 1..10 {
         let next = one_round(s, round_key(keys, n));
         s = next;
-        n += 1;
     }
     last_round(s, round_key(keys, 10))
 }

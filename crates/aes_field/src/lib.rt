@@ -31,6 +31,7 @@ pub fn all_substitutes() -> [u8; 256]
 }
 
 // x times an element. FIPS 197, 4.2.1.
+#[tactic(auto, unfolding(crate::specs::Field::xtime))]
 pub fn doubled(b: u8) -> u8
     ensures { result ≡ xtime b }
 {

@@ -1,7 +1,7 @@
 // The rounds of AES: what is done with the state of 16 bytes.
 #![tactic(auto)]
 
-ghost use Rattle.std.specs.Prelude.{◌≡◌, cond, ◌∷◌, []};
+ghost use Rattle.std.specs.Prelude.{◌≡◌, ◌∷◌, []};
 ghost use Rattle.aes_field.specs.Field.{substitutes};
 ghost use Rattle.aes_rounds.specs.Rounds.{sub_bytes, shift_rows, mix_column, mix_columns, add_round_key, round, last_round};
 
@@ -12,10 +12,8 @@ pub fn add_round_key(s: [u8; 16], k: [u8; 16]) -> [u8; 16]
     ensures { result ≡ add_round_key s k }
 {
     let mut sum = s;
-    let mut i: usize = 0;
-    while i < 16 {
+    for i in 0..16 {
         sum[i] = s[i] ^ k[i];
-        i += 1;
     }
     sum
 }
@@ -27,10 +25,8 @@ fn shifted(table: &[u8; 256], s: [u8; 16]) -> [u8; 16]
     ensures { result ≡ shift_rows (sub_bytes s) }
 {
     let mut rows = s;
-    let mut i: usize = 0;
-    while i < 16 {
-        rows[i] = table[octets::byte_value(s[5 * i % 16])];
-        i += 1;
+    for i in 0..16 {
+        rows[i] = table[usize::from(s[5 * i % 16])];
     }
     rows
 }
@@ -56,40 +52,31 @@ fn mixed(s: [u8; 16]) -> [u8; 16]
     ensures { result ≡ mix_columns s }
 {
     let mut columns = s;
-    let mut at: usize = 0;
-    while at < 16 {
+    for c in 0..4 {
+        let at = 4 * c;
         let column = mix(s[at], s[at + 1], s[at + 2], s[at + 3]);
         columns[at] = column[0];
         columns[at + 1] = column[1];
         columns[at + 2] = column[2];
         columns[at + 3] = column[3];
-        at += 4;
     }
     columns
 }
 
-// The state with its columns mixed, or as it is. FIPS 197, 5.1.
-fn mixed_where(mixes: bool, s: [u8; 16]) -> [u8; 16]
-    ensures { result ≡ cond mixes (mix_columns s) s }
-{
-    if mixes {
-        return mixed(s);
-    }
-    s
-}
-
 // A round. FIPS 197, 5.1.
+#[tactic(auto, unfolding(crate::specs::Rounds::round))]
 pub fn one_round(s: [u8; 16], k: [u8; 16]) -> [u8; 16]
     ensures { result ≡ round s k }
 {
     let table = all_substitutes();
-    add_round_key(mixed_where(true, shifted(&table, s)), k)
+    add_round_key(mixed(shifted(&table, s)), k)
 }
 
 // The last round, which mixes no columns. FIPS 197, 5.1.
+#[tactic(auto, unfolding(crate::specs::Rounds::last_round))]
 pub fn last_round(s: [u8; 16], k: [u8; 16]) -> [u8; 16]
     ensures { result ≡ last_round s k }
 {
     let table = all_substitutes();
-    add_round_key(mixed_where(false, shifted(&table, s)), k)
+    add_round_key(shifted(&table, s), k)
 }

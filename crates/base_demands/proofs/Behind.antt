@@ -7,10 +7,11 @@ use mathlib.Core.Logic.{by_cases}
 use mathlib.Core.Path.{◌≡◌, refl, ap, sym, ◌∙◌}
 use borrow.Author.Tests.{eq-eqb, ne_eqb}
 use lib.ListN.{length}
+use Rattle.std.specs.Prelude.{Ok, Result}
 use Rattle.octets.specs.Octets.{AllBytes, over}
 use Rattle.octets.proofs.Words.{bytes_joined}
+use Rattle.pdu.specs.declared.Refusal.{Refusal}
 use Rattle.pdu.specs.declared.Header.{Header}
-use Rattle.pdu.specs.declared.Reading.TheVariants.{Pdu}
 use Rattle.pdu.specs.Header.{header_of}
 use Rattle.pdu.specs.Reading.{read_of, exactly_one}
 use Rattle.pdu.proofs.Exact.{exact, exact_reads, exact_path, exact_payload}
@@ -23,14 +24,14 @@ use Rattle.node.proofs.Encoded.{same_bytes}
 use Rattle.node.proofs.Heard.{repeats}
 use Rattle.node.proofs.Repeating.{ready}
 
-same_header : (a b : Header) → Pdu a ≡ Pdu b → a ≡ b
+same_header : (a b : Header) → ◌≡◌ {A = Result Header Refusal} (Ok a) (Ok b) → a ≡ b
 same_header a b e = cc
 
 module _ (node : Node) (pdu rest : List ℕ) (one : exactly_one pdu ≡ true) where
-  reads : read_of pdu ≡ Pdu (header_of pdu)
+  reads : read_of pdu ≡ Ok (header_of pdu)
   reads = (exact pdu one).reads
 
-  reads_more : read_of (pdu ++ rest) ≡ Pdu (header_of pdu)
+  reads_more : read_of (pdu ++ rest) ≡ Ok (header_of pdu)
   reads_more = exact_reads pdu one rest ∙ reads
 
   header_same : header_of (pdu ++ rest) ≡ header_of pdu

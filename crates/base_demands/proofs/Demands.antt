@@ -8,13 +8,11 @@ use mathlib.Core.Path.{◌≡◌, refl, ap, sym, ◌∙◌}
 use lib.Dec.{ltb}
 use lib.ListN.{length, take, drop}
 use borrow.Author.Tests.{ne_eqb, eqb-false, lt-ltb, le-ltb}
+use Rattle.std.specs.Prelude.{Result, Ok, Err, None}
 use Rattle.octets.specs.Octets.{AllBytes, over}
 use Rattle.pdu.specs.declared.Destination.{Destination}
 use Rattle.pdu.specs.declared.Destination.TheVariants.{Everyone, Address}
 use Rattle.pdu.specs.declared.Header.{Header}
-use Rattle.pdu.specs.declared.Reading.{Reading}
-use Rattle.pdu.specs.declared.Reading.TheVariants.{Pdu, Refused}
-use Rattle.pdu.specs.declared.Sender.TheVariants.{Unknown}
 use Rattle.pdu.specs.declared.Written.{Written}
 use Rattle.pdu.specs.Sizes.{pdu_limit, pdu_length}
 use Rattle.pdu.specs.declared.Refusal.{Refusal}
@@ -49,7 +47,7 @@ use Rattle.bound.specs.Answer.{within64_bits, bound_answer}
 use Rattle.boundary.specs.Boundary.{bound_in_c}
 use Rattle.bound.proofs.Series.{bound_more}
 use Rattle.bound.proofs.Values.{bound_3_2, bound_3_6, bound_3_7, bound_no_hops, bound_no_nodes}
-use Rattle.flood.specs.Air.{Repeater, address}
+use Rattle.flood.specs.Air.{address}
 use Rattle.flood.proofs.Counting.{demand_3, demand_3_bytes}
 use Rattle.flood.proofs.Counting as counting
 use Rattle.flood.proofs.Demand as demand
@@ -61,10 +59,10 @@ use Rattle.base_demands.proofs.Behind.{behind}
 use Rattle.base_demands.proofs.Putting.{put_untouched, put_reads_back, well_formed_put}
 use Rattle.base_demands.specs.Demands.{Demand1, Demand2, Demand3}
 
-written_as_was : (reading : Reading) (bytes output : List ℕ) → ((written_of reading (length output)).number ≡ 0 → ⊥)
+written_as_was : (reading : Result Header Refusal) (bytes output : List ℕ) → ((written_of reading (length output)).number ≡ 0 → ⊥)
     → output_of reading bytes output ≡ output
-written_as_was (Refused refusal) bytes output ne = refl
-written_as_was (Pdu header) bytes output ne = go (ltb (length output) (pdu_length header)) ne
+written_as_was (Err refusal) bytes output ne = refl
+written_as_was (Ok header) bytes output ne = go (ltb (length output) (pdu_length header)) ne
   where
     go : (t : Bool) → (◌≡◌ {A = ℕ}
         (cond {A = Written} t (record { number = 14; length = 0 }) (record { number = 0; length = pdu_length header })).number 0 → ⊥)
@@ -116,12 +114,12 @@ too_many_hops settings payload output h = go (known settings.edition) refl
     go false e = early 17 (edition_refused settings payload e) (omega arith)
 
 -- a fault of the edition or of the lists
-refused : (node : Node) (received output : List ℕ) (n : ℕ) → (n ≡ 0 → ⊥) → node_fault node ≡ n → Hears node received output (given_twice n 0 Unknown) output
+refused : (node : Node) (received output : List ℕ) (n : ℕ) → (n ≡ 0 → ⊥) → node_fault node ≡ n → Hears node received output (given_twice n 0 None) output
 refused node received output n some fault =
     (sym (fault_answer node n some fault received (length output)), sym (fault_output node n some fault received output))
 
-unreadable : (node : Node) (received output : List ℕ) (refusal : Refusal) → node_fault node ≡ 0 → read_of received ≡ Refused refusal
-    → Hears node received output (given_twice (refusal_number refusal) 0 Unknown) output
+unreadable : (node : Node) (received output : List ℕ) (refusal : Refusal) → node_fault node ≡ 0 → read_of received ≡ Err refusal
+    → Hears node received output (given_twice (refusal_number refusal) 0 None) output
 unreadable node received output refusal clean e =
     let some : refusal_number refusal ≡ 0 → ⊥ = λ z. omega (arith, z, (refusal_within refusal).0) in
     let unread = reading_unread node received refusal clean e in
@@ -143,7 +141,7 @@ total =
       any_lists = holds_laid;
     }
 
-again_same : (bytes output : List ℕ) (header : Header) → AllBytes bytes → read_of bytes ≡ Pdu header → pdu_length header ≤ length output
+again_same : (bytes output : List ℕ) (header : Header) → AllBytes bytes → read_of bytes ≡ Ok header → pdu_length header ≤ length output
     → (write_again bytes (length output) ≡ record { number = 0; length = pdu_length header })
     × (written_again bytes output ≡ over (take (pdu_length header) bytes) output)
 unfolding write_again written_again
@@ -151,12 +149,12 @@ again_same bytes output header small e fits =
     let room = le-ltb (length output) (pdu_length header) fits in
     (rw (e, room), rw (e, room) (ap (λ (front : List ℕ). over front output) (written_same bytes header small e)))
 
-same_header : (a b : Header) → Pdu a ≡ Pdu b → a ≡ b
+same_header : (a b : Header) → ◌≡◌ {A = Result Header Refusal} (Ok a) (Ok b) → a ≡ b
 same_header a b e = cc
 
-repeat_back : (node : Node) (room : ℕ) (received : List ℕ) (header : Header) → AllBytes received → read_of received ≡ Pdu header
+repeat_back : (node : Node) (room : ℕ) (received : List ℕ) (header : Header) → AllBytes received → read_of received ≡ Ok header
     → repeat_number node room received ≡ 0
-    → (read_of (repeated node.settings.own received) ≡ Pdu (repeated_header header))
+    → (read_of (repeated node.settings.own received) ≡ Ok (repeated_header header))
     × (path_in (repeated_header header) (repeated node.settings.own received)
     ≡ path_in header received ++ cond header.path_bit (node.settings.own ∷ []) [])
     × (payload_in (repeated_header header) (repeated node.settings.own received) ≡ payload_in header received)
@@ -200,9 +198,9 @@ exactly =
       read_well_formed = λ bytes header small e. shown_well_formed bytes header small e;
       path_asked = λ bytes header i address e. rw e (refl, refl);
       no_path_asked = λ bytes refusal i address e. rw e (refl, refl);
-      view_17 = λ bytes extent edition e. rw e refl;
-      view_refused = λ bytes extent edition e some. rw (e, ne_eqb extent.number 0 some) refl;
-      view_shows = λ bytes extent edition e none. rw (e, none) refl;
+      view_17 = λ bytes span edition e. rw e refl;
+      view_refused = λ bytes span edition e some. rw (e, ne_eqb span.number 0 some) refl;
+      view_shows = λ bytes span edition e none. rw (e, none) refl;
       opened_summary = opened_summary;
       opened_path = λ bytes i address. (opened_address bytes i, opened_has bytes address);
       opened_payload = λ bytes header e. rw e refl;

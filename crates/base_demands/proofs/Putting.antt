@@ -7,11 +7,11 @@ use mathlib.Core.Path.{◌≡◌, refl, ap, ap₂, sym, ◌∙◌}
 use lib.Dec.{eqb}
 use lib.ListN.{length, take, drop}
 use lib.Seq.{drop_at}
+use Rattle.std.specs.Prelude.{Ok}
 use Rattle.octets.specs.Octets.{over}
 use Rattle.octets.proofs.Placing.{take_over}
 use Rattle.octets.proofs.Tests.{both}
 use Rattle.pdu.specs.declared.Header.{Header}
-use Rattle.pdu.specs.declared.Reading.TheVariants.{Pdu}
 use Rattle.pdu.specs.Sizes.{path_entries, path_start}
 use Rattle.pdu.specs.Reading.{read_of}
 use Rattle.pdu.specs.Parts.{path_in, payload_in}
@@ -91,7 +91,7 @@ put_untouched header output none = go (is_put header (length output)) refl
 abbrev pub PutBack : Header → List ℕ → List ℕ → List ℕ → List ℕ → ℕ → Type 0
 PutBack header path payload rest output long =
     let bytes = take long (header_output header output) ++ path_bytes path ++ payload ++ rest in
-    (read_of bytes ≡ Pdu (called_for header)) × (path_in (called_for header) bytes ≡ path) × (payload_in (called_for header) bytes ≡ payload)
+    (read_of bytes ≡ Ok (called_for header)) × (path_in (called_for header) bytes ≡ path) × (payload_in (called_for header) bytes ≡ payload)
     × (drop long (header_output header output) ≡ drop long output)
 
 pub put_reads_back : (header : Header) (path payload rest output : List ℕ) → (header_written header (length output) ≡ 0 → ⊥)

@@ -1,21 +1,19 @@
 -- The three demands, each as one record; `proofs/Demands.antt` gives each of them and cites its parts.
-use Rattle.std.specs.Prelude.{ℕ, ◌+◌, ◌*◌, ◌^◌, ◌<◌, ◌≤◌, true, false, cond, ◌≢◌, ◌⊎◌, ◌≡◌, eqb, length, take, drop}
+use Rattle.std.specs.Prelude.{ℕ, ◌+◌, ◌*◌, ◌^◌, ◌<◌, ◌≤◌, true, false, cond, ◌≢◌, ◌⊎◌, ◌≡◌, eqb, length, take, drop, Ok, Err, None}
 use mathlib.Core.List.{List, [], ◌∷◌, ◌++◌, map, Memᴰ, Nodup}
 use Rattle.std.proofs.Math.Option.{none, some}
 use Rattle.octets.specs.Octets.{AllBytes, at, over}
 use Rattle.pdu.specs.declared.Destination.TheVariants.{Address}
-use Rattle.pdu.specs.declared.Extent.{Extent}
 use Rattle.pdu.specs.declared.Header.{Header}
-use Rattle.pdu.specs.declared.Reading.TheVariants.{Pdu, Refused}
 use Rattle.pdu.specs.declared.Refusal.{Refusal}
-use Rattle.pdu.specs.declared.Sender.TheVariants.{Unknown}
 use Rattle.pdu.specs.Header.{destination_in, pdu_id_in, header_with, header_of, source_of}
 use Rattle.pdu.specs.Sizes.{path_limit, pdu_limit, path_entries, path_start, pdu_length}
-use Rattle.pdu.specs.Reading.{read_of, extent_of, exactly_one, refusal_number}
+use Rattle.pdu.specs.Reading.{read_of, exactly_one, refusal_number}
 use Rattle.pdu.specs.Parts.{path_in, path_address, in_path, payload_in, last_sender}
 use Rattle.writing.specs.Writing.{header_bytes, path_bytes, encode, header_written, header_output, write_again, written_again, WellFormed}
 use Rattle.editions.specs.Editions.{known, bits_under, shown_with, read_under}
-use Rattle.view.specs.View.{no_summary, summary_of, path_address_in, path_has, header_in, summary_at}
+use Rattle.view.specs.declared.Span.{Span}
+use Rattle.view.specs.View.{summary_of, path_address_in, path_has, span_of, header_in, summary_at}
 use Rattle.origin.specs.declared.FreshSettings.{FreshSettings}
 use Rattle.origin.specs.Origination.{fresh_header, fresh, origination_number, originated, originated_output}
 use Rattle.lists.specs.Lists.{Lists, list_fault, lists_in, laid}
@@ -55,12 +53,12 @@ pub record Demand1 : Type 0 where
   -- an edition that is not known is refused with 17 whatever the lists are, and lists with a fault with its number, whatever is chosen: given twice, nothing
   -- is taken and the output is as it was (document 02, W-209 and W-211)
   pub edition_refused : (node : Node) (received output : List ℕ) → known node.settings.edition ≡ false
-      → Hears node received output (given_twice 17 0 Unknown) output
+      → Hears node received output (given_twice 17 0 None) output
   pub lists_refused : (node : Node) (received output : List ℕ) → known node.settings.edition ≡ true → (list_fault node.lists ≡ 0 → ⊥)
-      → Hears node received output (given_twice (list_fault node.lists) 0 Unknown) output
+      → Hears node received output (given_twice (list_fault node.lists) 0 None) output
   -- and so are bytes that cannot be read, with 1 to 6
   pub reading_refused : (node : Node) (received output : List ℕ) (refusal : Refusal) → known node.settings.edition ≡ true → list_fault node.lists ≡ 0
-      → read_of received ≡ Refused refusal → Hears node received output (given_twice (refusal_number refusal) 0 Unknown) output
+      → read_of received ≡ Err refusal → Hears node received output (given_twice (refusal_number refusal) 0 None) output
   -- any lent block holds eight lists, and any eight lists lie in some block; in 16-bit words, those of at most 65,535 values each
   pub any_lists : (lists : Lists) → lists_in (laid lists) ≡ lists
 
@@ -87,16 +85,16 @@ called_for header =
 -- Demand 2, exact. The contracts say that reading, writing and the node's decision are the definitions; these say that the definitions fit together.
 pub record Demand2 : Type 0 where
   -- what is read and written again is the same bytes, at the start of an output that has room for them
-  pub written_again_lem : (bytes output : List ℕ) (header : Header) → AllBytes bytes → read_of bytes ≡ Pdu header → pdu_length header ≤ length output
+  pub written_again_lem : (bytes output : List ℕ) (header : Header) → AllBytes bytes → read_of bytes ≡ Ok header → pdu_length header ≤ length output
       → (write_again bytes (length output) ≡ record { number = 0; length = pdu_length header })
       × (written_again bytes output ≡ over (take (pdu_length header) bytes) output)
   -- what is written reads back, whatever follows it
   pub reads_back : (header : Header) (path payload rest : List ℕ) → WellFormed header path payload
-      → (read_of (encode header path payload ++ rest) ≡ Pdu header) × (path_in header (encode header path payload ++ rest) ≡ path)
+      → (read_of (encode header path payload ++ rest) ≡ Ok header) × (path_in header (encode header path payload ++ rest) ≡ path)
       × (payload_in header (encode header path payload ++ rest) ≡ payload)
   -- and so does what was originated, as it was set
   pub fresh_reads_back : (settings : FreshSettings) (payload rest : List ℕ) (room : ℕ) → origination_number settings payload room ≡ 0
-      → (read_of (fresh settings payload ++ rest) ≡ Pdu (fresh_header settings (length payload)))
+      → (read_of (fresh settings payload ++ rest) ≡ Ok (fresh_header settings (length payload)))
       × (path_in (fresh_header settings (length payload)) (fresh settings payload ++ rest) ≡ [])
       × (payload_in (fresh_header settings (length payload)) (fresh settings payload ++ rest) ≡ payload)
   -- a header put on its own reads back once its path and payload follow it, a PDU ID and a path count that are not called for as 0; the output behind it
@@ -104,42 +102,42 @@ pub record Demand2 : Type 0 where
   pub put_reads_back : (header : Header) (path payload rest output : List ℕ) → let long = header_written header (length output) in
       (long ≡ 0 → ⊥) → length path ≡ path_entries header → length payload ≡ header.payload_length
       → let bytes = take long (header_output header output) ++ path_bytes path ++ payload ++ rest in
-      (read_of bytes ≡ Pdu (called_for header)) × (path_in (called_for header) bytes ≡ path) × (payload_in (called_for header) bytes ≡ payload)
+      (read_of bytes ≡ Ok (called_for header)) × (path_in (called_for header) bytes ≡ path) × (payload_in (called_for header) bytes ≡ payload)
       × (drop long (header_output header output) ≡ drop long output)
   pub well_formed_put : (header : Header) (path payload output : List ℕ) → WellFormed (called_for header) path payload → path_start header ≤ length output
       → (header_written header (length output) ≡ path_start header) × (header_output header output ≡ over (header_bytes header) output)
   -- what was read is well-formed, so that `reads_back` is about all of it
-  pub read_well_formed : (bytes : List ℕ) (header : Header) → AllBytes bytes → read_of bytes ≡ Pdu header
+  pub read_well_formed : (bytes : List ℕ) (header : Header) → AllBytes bytes → read_of bytes ≡ Ok header
       → WellFormed header (path_in header bytes) (payload_in header bytes)
   -- the path that is asked of bytes: of what was read its address at a place, and whether it holds an address; of what was not read none
-  pub path_asked : (bytes : List ℕ) (header : Header) (i address : ℕ) → read_of bytes ≡ Pdu header
+  pub path_asked : (bytes : List ℕ) (header : Header) (i address : ℕ) → read_of bytes ≡ Ok header
       → (path_address_in (read_of bytes) bytes i ≡ path_address header bytes i) × (path_has (read_of bytes) bytes address ≡ in_path address (path_in header bytes))
-  pub no_path_asked : (bytes : List ℕ) (refusal : Refusal) (i address : ℕ) → read_of bytes ≡ Refused refusal
+  pub no_path_asked : (bytes : List ℕ) (refusal : Refusal) (i address : ℕ) → read_of bytes ≡ Err refusal
       → (path_address_in (read_of bytes) bytes i ≡ 0) × (path_has (read_of bytes) bytes address ≡ false)
-  -- a view made with any extent: 17, then the extent's number; else what its bytes show, with the extent's path count and lengths
-  pub view_17 : (bytes : List ℕ) (extent : Extent) (edition : ℕ) → known edition ≡ false → summary_at bytes extent edition ≡ no_summary 17
-  pub view_refused : (bytes : List ℕ) (extent : Extent) (edition : ℕ) → known edition ≡ true → (extent.number ≡ 0 → ⊥)
-      → summary_at bytes extent edition ≡ no_summary extent.number
-  pub view_shows : (bytes : List ℕ) (extent : Extent) (edition : ℕ) → known edition ≡ true → extent.number ≡ 0
-      → let header = header_with bytes (destination_in bytes) (pdu_id_in bytes) extent.path_count in summary_at bytes extent edition
-      ≡ record {
-        number = 0;
+  -- a view made with any span: 17, then the span's number; else what its bytes show, with the span's path count and lengths
+  pub view_17 : (bytes : List ℕ) (span : Span) (edition : ℕ) → known edition ≡ false → summary_at bytes span edition ≡ Err 17
+  pub view_refused : (bytes : List ℕ) (span : Span) (edition : ℕ) → known edition ≡ true → (span.number ≡ 0 → ⊥)
+      → summary_at bytes span edition ≡ Err span.number
+  pub view_shows : (bytes : List ℕ) (span : Span) (edition : ℕ) → known edition ≡ true → span.number ≡ 0
+      → let header = header_with bytes (destination_in bytes) (pdu_id_in bytes) span.path_count in summary_at bytes span edition
+      ≡ Ok
+      (record {
         header = shown_with (bits_under edition (at bytes 1)) header;
         last_sender = last_sender header bytes;
-        header_length = extent.header_length;
-        pdu_length = extent.pdu_length;
-      }
-  -- and one opened on bytes has the extent of what is read there: it shows what reading under that edition shows, and the path that is asked of them
-  pub opened_summary : (bytes : List ℕ) (edition : ℕ) → summary_at bytes (extent_of (read_of bytes)) edition ≡ summary_of (read_under edition bytes) bytes
-  pub opened_path : (bytes : List ℕ) (i address : ℕ) → let header = header_in bytes (extent_of (read_of bytes)) in
+        header_length = span.header_length;
+        pdu_length = span.pdu_length;
+      })
+  -- and one opened on bytes has the span of what is read there: it shows what reading under that edition shows, and the path that is asked of them
+  pub opened_summary : (bytes : List ℕ) (edition : ℕ) → summary_at bytes (span_of (read_of bytes)) edition ≡ summary_of (read_under edition bytes) bytes
+  pub opened_path : (bytes : List ℕ) (i address : ℕ) → let header = header_in bytes (span_of (read_of bytes)) in
       (path_address header bytes i ≡ path_address_in (read_of bytes) bytes i) × (in_path address (path_in header bytes) ≡ path_has (read_of bytes) bytes address)
-  pub opened_payload : (bytes : List ℕ) (header : Header) → read_of bytes ≡ Pdu header
-      → (extent_of (read_of bytes)).payload_length ≡ header.payload_length
+  pub opened_payload : (bytes : List ℕ) (header : Header) → read_of bytes ≡ Ok header
+      → (span_of (read_of bytes)).payload_length ≡ header.payload_length
   -- a repeat reads back as the received header with hop limit, count and path changed as said, the own address after the last path entry, and the
   -- same payload; it is never longer than a PDU may be
   pub repeat_reads_back : (node : Node) (room : ℕ) (received : List ℕ) (header : Header) → AllBytes received
-      → read_of received ≡ Pdu header → repeat_number node room received ≡ 0
-      → (read_of (repeated node.settings.own received) ≡ Pdu (repeated_header header))
+      → read_of received ≡ Ok header → repeat_number node room received ≡ 0
+      → (read_of (repeated node.settings.own received) ≡ Ok (repeated_header header))
       × (path_in (repeated_header header) (repeated node.settings.own received)
       ≡ path_in header received ++ cond header.path_bit (node.settings.own ∷ []) [])
       × (payload_in (repeated_header header) (repeated node.settings.own received) ≡ payload_in header received)

@@ -19,8 +19,9 @@ use Rattle.batch.proofs.Stepping.{not_too_long}
 use Rattle.text.specs.Text.{text, digit, decimal_within, decimal, hex}
 use Rattle.lines.specs.Lines.{first_line, shown, pdu_line, last_line, refused_line}
 use Rattle.job.specs.declared.Job.{Job}
-use Rattle.job.specs.declared.JobReading.TheVariants as reading
-use Rattle.job.specs.Jobs.{job_head, ranges_number, list_number, batch_number, list_section, batch_section, sections_of, job_of, settings_of, batch_in, node_in}
+use Rattle.std.specs.Prelude.{Ok, Err}
+use Rattle.job.specs.declared.JobRefusal.{JobRefusal}
+use Rattle.job.specs.Jobs.{job_refusal_number, job_head, ranges_read, list_section, batch_section, sections_of, job_of, settings_of, batch_in, node_in}
 use Rattle.job.proofs.Inversion.{job_in, node_right}
 use Rattle.run.specs.Run.{room_for_one, pdu_lines, walk_lines, batch_lines, run_lines, printed}
 use Rattle.run.proofs.Jobs.{batch_short}
@@ -39,9 +40,10 @@ one_before : (line : List ℕ) (lines : List (List ℕ)) → flatten (line ∷ l
 unfolding flatten
 one_before line lines = refl
 
-refused : (bytes : List ℕ) (number : ℕ) → job_of bytes ≡ reading.Refused number → printed bytes ≡ text "refused " ++ decimal number ++ text "\n"
+refused : (bytes : List ℕ) (refusal : JobRefusal) → job_of bytes ≡ Err refusal
+    → printed bytes ≡ text "refused " ++ decimal (job_refusal_number refusal) ++ text "\n"
 unfolding printed run_lines refused_line flatten
-refused bytes number e = rw e (with_last [] (refused_line number))
+refused bytes refusal e = rw e (with_last [] (refused_line (job_refusal_number refusal)))
 
 -- a walk that is not too long has no number of its own
 module _ (node : Node) (room : ℕ) (batch : List ℕ) where
@@ -61,7 +63,7 @@ module _ (node : Node) (room : ℕ) (batch : List ℕ) where
       go false true below = below
       go false false below = refl
 
-module _ (bytes : List ℕ) (job : Job) (e : job_of bytes ≡ reading.Job job) where
+module _ (bytes : List ℕ) (job : Job) (e : job_of bytes ≡ Ok job) where
   abbrev node : Node
   node = node_in bytes job
 
@@ -89,12 +91,12 @@ module _ (bytes : List ℕ) (job : Job) (e : job_of bytes ≡ reading.Job job) w
 
 pub relay_output : RelayOutput
 unfolding printed run_lines batch_lines walk_lines pdu_lines flatten first_line pdu_line last_line refused_line shown hex decimal decimal_within digit
-    job_of job_head sections_of list_section batch_section list_number batch_number ranges_number settings_of walk walk_from delivery_number repeat_number stop_fault
-    node_fault node_or_reading_fault drop_fault echo_fault pass_fault delivery_fault repeat_fault taken heard_from repeated read_of header_of addresses_at in_path last_or
-    fault_of first_fault low_above_high ◌gives◌ ◌or_else◌
+    job_of job_head sections_of list_section batch_section ranges_read settings_of walk walk_from delivery_number repeat_number stop_fault
+    node_fault node_or_reading_fault drop_fault echo_fault pass_fault delivery_fault repeat_fault taken heard_from repeated read_of header_of
+    addresses_at in_path last_or fault_of first_fault low_above_high ◌gives◌ ◌or_else◌
 relay_output =
     record {
-      refused = λ bytes number e. refused bytes number e;
+      refused = λ bytes refusal e. refused bytes refusal e;
       job_printed = λ bytes job e. job_printed bytes job e;
       no_fault = λ bytes job e. (node_right bytes job (job_in bytes job e), not_54 bytes job e);
       longest_text = λ bytes small. printed_within bytes small;

@@ -1,6 +1,6 @@
 -- Document 01, "The program `relay`", as one record, with W-205's sixth field; `proofs/RelayOutput.antt` gives it from its parts. `printed` is all that is
 -- printed for the bytes of a job.
-use Rattle.std.specs.Prelude.{ℕ, ◌≤◌, ◌≡◌, length, take}
+use Rattle.std.specs.Prelude.{ℕ, ◌≤◌, ◌≡◌, length, take, Ok, Err}
 use mathlib.Core.List.{List, [], ◌∷◌, ◌++◌, flatten}
 use Rattle.octets.specs.Octets.{AllBytes}
 use Rattle.node.specs.Answers.{node_fault}
@@ -8,8 +8,8 @@ use Rattle.batch.specs.Walk.{walk}
 use Rattle.text.specs.Text.{text, decimal}
 use Rattle.lines.specs.Lines.{first_line, last_line}
 use Rattle.job.specs.declared.Job.{Job}
-use Rattle.job.specs.declared.JobReading.TheVariants as reading
-use Rattle.job.specs.Jobs.{job_number, job_of, batch_in, node_in}
+use Rattle.job.specs.declared.JobRefusal.{JobRefusal}
+use Rattle.job.specs.Jobs.{job_refusal_number, job_number, job_of, batch_in, node_in}
 use Rattle.run.specs.Run.{room_for_one, pdu_lines, printed, Ran}
 
 -- own address 2000, echo and repeating on, and four empty lists, as document 01's example begins
@@ -29,13 +29,14 @@ fault bytes = job_number (job_of bytes)
 
 pub record RelayOutput : Type 0 where
   -- a bad job prints only `refused` and the number
-  pub refused : (bytes : List ℕ) (number : ℕ) → job_of bytes ≡ reading.Refused number → printed bytes ≡ text "refused " ++ decimal number ++ text "\n"
+  pub refused : (bytes : List ℕ) (refusal : JobRefusal) → job_of bytes ≡ Err refusal
+      → printed bytes ≡ text "refused " ++ decimal (job_refusal_number refusal) ++ text "\n"
   -- any other the own address, a line for each PDU of the walk, and the last line: how many these are, and the offset of the first byte not taken
-  pub job_printed : (bytes : List ℕ) (job : Job) → job_of bytes ≡ reading.Job job
+  pub job_printed : (bytes : List ℕ) (job : Job) → job_of bytes ≡ Ok job
       → let node = node_in bytes job in let batch = batch_in bytes job in let found = walk node room_for_one batch in
       printed bytes ≡ first_line job.own ++ (flatten (pdu_lines node batch 1 found.offsets) ++ last_line (length found.offsets) found.end)
   -- its edition is known, none of its lists has a fault, and its walk is not 54
-  pub no_fault : (bytes : List ℕ) (job : Job) → job_of bytes ≡ reading.Job job
+  pub no_fault : (bytes : List ℕ) (job : Job) → job_of bytes ≡ Ok job
       → (node_fault (node_in bytes job) ≡ 0) × ((walk (node_in bytes job) room_for_one (batch_in bytes job)).number ≡ 0)
   -- no job prints more than 98,352 characters, and in a text of that room `run::relay` leaves them all
   pub longest_text : (bytes : List ℕ) → AllBytes bytes → length (printed bytes) ≤ 98352

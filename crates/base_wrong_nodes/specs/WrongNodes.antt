@@ -1,8 +1,7 @@
 -- Document 01, "What the contracts must say", the programs to try against demand 2, and "Slips to rule out", as one record; `proofs/WrongNodes.antt` gives it
 -- from its parts.
-use Rattle.std.specs.Prelude.{ℕ, zero, suc, ◌+◌, ◌<◌, ◌^◌, true, false, List, [], ◌∷◌, ◌++◌, map, ◌≡◌, length, take, drop, replicate}
+use Rattle.std.specs.Prelude.{ℕ, zero, suc, ◌+◌, ◌<◌, ◌^◌, true, false, List, [], ◌∷◌, ◌++◌, map, ◌≡◌, length, take, drop, replicate, Some}
 use Rattle.octets.specs.Octets.{at, AllBytes}
-use Rattle.pdu.specs.declared.Sender.TheVariants.{Known}
 use Rattle.pdu.specs.Header.{header_of}
 use Rattle.pdu.specs.Parts.{path_in}
 use Rattle.lists.specs.Lists.{ListPair, two, lists_in}
@@ -135,8 +134,8 @@ pub record WrongNodes : Type 0 where
   pub full_path : ((answer_of (node_at 2000 true false) 1000 with_full_path).delivery ≡ 0)
       × ((answer_of (node_at 2000 true false) 1000 with_full_path).repeat ≡ 38)
   -- the lists before the room; 40 twice; no room is needed where nothing is repeated
-  pub room_last : (answer_of (node_at 2000 true true) 0 example ≡ given_twice 31 20 (Known 1000))
-      × (answer_of (node_at 2000 true false) 21 example ≡ given_twice 40 20 (Known 1000))
+  pub room_last : (answer_of (node_at 2000 true true) 0 example ≡ given_twice 31 20 (Some 1000))
+      × (answer_of (node_at 2000 true false) 21 example ≡ given_twice 40 20 (Some 1000))
       × ((answer_of (node_at 1600 true false) 0 example).delivery ≡ 0) × ((answer_of silent 0 without_hops).delivery ≡ 0)
   -- a step that copies nothing out, or the wrong PDU
   pub step_copies_out : step_output (node_at 2000 true false) (without_hops ++ example) (record { place = 6; ended = false }) lent_output
@@ -183,8 +182,8 @@ pub record WrongNodes : Type 0 where
   -- an invented count of path entries, in the repeat of the example of document 002
   pub invented_count : (answer : Answer) (left : List ℕ) → (at (take 22 left) 8 ≡ 1 → ⊥) → Hears (node_at 2000 true false) example lent_output answer left → ⊥
   -- slips. The own address sought in the source lists, the first or the second: the PDU's source, 1000, is in none of them
-  pub source_sought : (answer_of (listing First (two own_range []) Neither (two [] [])) 100 example ≡ given_twice 31 20 (Known 1000))
-      × (answer_of (listing Second (two [] own_range) Neither (two [] [])) 100 example ≡ given_twice 31 20 (Known 1000))
+  pub source_sought : (answer_of (listing First (two own_range []) Neither (two [] [])) 100 example ≡ given_twice 31 20 (Some 1000))
+      × (answer_of (listing Second (two [] own_range) Neither (two [] [])) 100 example ≡ given_twice 31 20 (Some 1000))
       × ((answer_of (listing Neither (two [] []) First (two own_range [])) 100 example).delivery ≡ 39)
       × ((answer_of (listing Neither (two [] []) Second (two [] own_range)) 100 example).delivery ≡ 39)
   -- 7 lowered, 0 become 7: 7 is kept, 1 to 6 are lowered by one, and a PDU of hop limit 0 is never repeated

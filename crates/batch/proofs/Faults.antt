@@ -7,7 +7,7 @@ use mathlib.Core.Path.{◌≡◌, refl, ap, ◌∙◌}
 use lib.Dec.{ltb}
 use lib.ListN.{length, drop}
 use borrow.Author.Tests.{ne_eqb, lt-leb}
-use Rattle.pdu.specs.declared.Sender.TheVariants.{Unknown}
+use Rattle.std.specs.Prelude.{None}
 use Rattle.editions.specs.Editions.{known}
 use Rattle.decision.specs.Decision.{Node}
 use Rattle.node.specs.Answers.{node_fault, given_twice, output_after}
@@ -32,13 +32,13 @@ done_step node room batch cursor output short done = rw (short, done) (refl, ref
 module _ (node : Node) (n : ℕ) (some : n ≡ 0 → ⊥) (fault : node_fault node ≡ n) (batch : List ℕ)
     (short : is_too_long node.settings.edition batch ≡ false) where
   pub fault_step : (room : ℕ) (cursor : Cursor) → is_done batch cursor ≡ false
-      → step_of node room batch cursor ≡ Answered (given_twice n 0 Unknown) (record { place = cursor.place; ended = true })
+      → step_of node room batch cursor ≡ Answered (given_twice n 0 None) (record { place = cursor.place; ended = true })
   unfolding step_of
   fault_step room cursor more =
       let rest = drop cursor.place batch in
       let same : cursor.place + 0 ≡ cursor.place = omega arith in
       rw (short, more, fault_answer node n some fault rest room, fault_taken node n some fault rest, fault_unread node n some fault rest, ne_eqb n 0 some)
-      (ap (λ (place : ℕ). Answered (given_twice n 0 Unknown) (record { place = place; ended = true })) same)
+      (ap (λ (place : ℕ). Answered (given_twice n 0 None) (record { place = place; ended = true })) same)
 
   pub fault_step_output : (cursor : Cursor) (output : List ℕ) → step_output node batch cursor output ≡ output
   unfolding step_output
@@ -51,7 +51,7 @@ module _ (node : Node) (n : ℕ) (some : n ≡ 0 → ⊥) (fault : node_fault no
 -- a walk: the one answer, at the first byte; an empty batch has none
 module _ (node : Node) (n : ℕ) (some : n ≡ 0 → ⊥) (fault : node_fault node ≡ n) (room byte : ℕ) (bytes : List ℕ)
     (short : is_too_long node.settings.edition (byte ∷ bytes) ≡ false) where
-  pub fault_walk : walk node room (byte ∷ bytes) ≡ record { number = 0; offsets = 0 ∷ []; answers = given_twice n 0 Unknown ∷ []; end = 0 }
+  pub fault_walk : walk node room (byte ∷ bytes) ≡ record { number = 0; offsets = 0 ∷ []; answers = given_twice n 0 None ∷ []; end = 0 }
   unfolding walk
   fault_walk =
       rw short

@@ -8,9 +8,10 @@ use lib.Dec.{eqb}
 use lib.ListN.{length, take, drop, length-drop}
 use lib.Seq.{take_all}
 use borrow.Author.Tests.{le-ltb, le-leb, lt-leb, ne_eqb, eqb-true}
+use Rattle.std.specs.Prelude.{Result, Ok, Err}
 use Rattle.octets.proofs.Numbering.{or_else_zero}
-use Rattle.pdu.specs.declared.Reading.{Reading}
-use Rattle.pdu.specs.declared.Reading.TheVariants.{Pdu, Refused}
+use Rattle.pdu.specs.declared.Refusal.{Refusal}
+use Rattle.pdu.specs.declared.Header.{Header}
 use Rattle.pdu.specs.Header.{header_of}
 use Rattle.pdu.specs.Sizes.{pdu_length}
 use Rattle.pdu.specs.Reading.{read_of, reading_number}
@@ -33,10 +34,10 @@ pub record Taken (node : Node) (bytes : List ℕ) : Type 0 where
   pub within : taken node bytes ≤ length bytes
   pub ended : eqb (taken node bytes) 0 ≡ not (eqb (node_or_reading_fault node bytes) 0)
 
-read_shown : (bytes : List ℕ) (reading : Reading) → read_of bytes ≡ reading → reading_number reading ≡ 0
+read_shown : (bytes : List ℕ) (reading : Result Header Refusal) → read_of bytes ≡ reading → reading_number reading ≡ 0
     → pdu_length (header_of bytes) ≤ length bytes
-read_shown bytes (Pdu header) e z = let s = shown bytes header e in omega (arith, s.whole.all)
-read_shown bytes (Refused refusal) e z = absurd (refusal_number_lem (Refused refusal) refusal refl refl z)
+read_shown bytes (Ok header) e z = let s = shown bytes header e in omega (arith, s.whole.all)
+read_shown bytes (Err refusal) e z = absurd (refusal_number_lem (Err refusal) refusal refl refl z)
 
 size : (node : Node) (bytes : List ℕ) → node_or_reading_fault node bytes ≡ 0 → pdu_length (header_of bytes) ≤ length bytes
 unfolding node_or_reading_fault

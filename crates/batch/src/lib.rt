@@ -10,6 +10,7 @@ use decision::Settings;
 use node::Answer;
 
 // Where a walk has come to. It begins at `Cursor::start()`.
+// Kept: C's struct, so the flag stands beside its value.
 #[repr(C)]
 #[derive(Clone, Copy)]
 pub struct Cursor {
@@ -19,6 +20,7 @@ pub struct Cursor {
 
 // What one step of a walk finds: a PDU's answer and the next cursor; no more PDU; or a batch of more than `BATCH_LIMIT` bytes, whose number is 54.
 // The places in the answer count from the PDU's first byte, which is at the cursor's place.
+// Kept: three answers; an Option in a Result, or a Result in an Option, would name none of them.
 #[derive(Clone, Copy)]
 pub enum Stepped {
     Answered(Answer, Cursor),
@@ -27,6 +29,7 @@ pub enum Stepped {
 }
 
 // The numbers of a step: a PDU's two, one that comes alone, or none.
+// Kept: three answers, as `Stepped` has.
 #[derive(Clone, Copy)]
 pub enum Numbers {
     Two { delivery: u8, repeat: u8 },
@@ -61,16 +64,13 @@ pub fn step(
     ensures { Steps (node_of settings (lists_in lists.now)) batch.now cursor output.old result output.new }
 {
     let place = cursor.place;
-    if is_too_long(settings.edition, &batch[..]) {
+    if is_too_long(settings.edition, batch) {
         return Stepped::TooLong;
     }
-    if cursor.ended {
+    if cursor.ended || batch.len() <= place {
         return Stepped::Ended;
     }
-    if batch.len() <= place {
-        return Stepped::Ended;
-    }
-    let answer = node::hear(settings, &lists[..], &batch[place..], output);
+    let answer = node::hear(settings, lists, &batch[place..], output);
     let next = Cursor {
         place: place + answer.taken,
         ended: answer.taken == 0,
@@ -82,11 +82,7 @@ pub fn step(
 pub fn is_too_long(edition: u64, batch: &[u8]) -> bool
     ensures { result ≡ is_too_long edition batch.now }
 {
-    if editions::is_known(edition) {
-        Cursor::BATCH_LIMIT < batch.len()
-    } else {
-        false
-    }
+    editions::is_known(edition) && Cursor::BATCH_LIMIT < batch.len()
 }
 
 // The numbers of a step: the PDU's two; 54 alone for a batch that is too long; none for a walk that ended, since that is no answer.

@@ -9,31 +9,49 @@ use native.Mathlib.Omega.{arith}
 use borrow.Author.Tests.{lt-ltb, le-ltb}
 use Rattle.bound.specs.Answer.{within64_bits, bound_answer}
 use Rattle.bound.specs.Bound.{falling_product, series, terms}
-use Rattle.bound.specs.declared.Bound.{Bound}
-use Rattle.bound.specs.declared.Bound.TheVariants.{Exactly, TooLarge, HopRefused}
+use Rattle.std.specs.Prelude.{Option, Some, None, Result, Ok, Err, SomeIff, ok_or}
+use Rattle.std.specs.Result.{IsErrAnd}
+use Rattle.std.proofs.lemmas.Result.{err_from_is_err_and}
+use Rattle.bound.specs.declared.BoundError.{BoundError}
+use Rattle.bound.specs.declared.BoundError.TheVariants.{TooLarge, HopRefused}
 use Rattle.bound.proofs.Series.{product_positive, product_past, series_more}
 
-pub fitting_small : (x : ℕ) → x < 2 ^ 64 → within64_bits x ≡ Exactly x
+pub fitting_small : (x : ℕ) → x < 2 ^ 64 → within64_bits x ≡ Ok x
 unfolding within64_bits
 fitting_small x h = rw (lt-ltb x (2 ^ 64) h)
 
-pub fitting_large : (x : ℕ) → 2 ^ 64 ≤ x → within64_bits x ≡ TooLarge
+pub fitting_large : (x : ℕ) → 2 ^ 64 ≤ x → within64_bits x ≡ Err TooLarge
 unfolding within64_bits
 fitting_large x h = rw (le-ltb x (2 ^ 64) h)
 
+-- what a checked sum or product gives, past 64 bits or not, and then the number and the error
+pub fitted : (x : ℕ) (o : Option ℕ) {r : Result ℕ BoundError} → SomeIff o (x < 2 ^ 64) x → r ≡ ok_or o TooLarge → r ≡ within64_bits x
+fitted x None never is = is ∙ sym (fitting_large x (by_cases (dec_lt x (2 ^ 64)) (λ h. absurd (never h)) (λ h. omega arith)))
+fitted x (Some v) (small, same) is = is ∙ ap Ok same ∙ sym (fitting_small x small)
+
 -- an answer that is the number
-pub exact : (x v : ℕ) {r : Bound} → r ≡ within64_bits x → r ≡ Exactly v → (v ≡ x) × (v < 2 ^ 64)
+pub exact : (x v : ℕ) {r : Result ℕ BoundError} → r ≡ within64_bits x → r ≡ Ok v → (v ≡ x) × (v < 2 ^ 64)
 exact x v {r} is number =
     by_cases (dec_lt x (2 ^ 64))
     (λ h. let small = fitting_small x h in let same : v ≡ x = cc in (same, omega arith))
     (λ h. let large = fitting_large x (omega arith) in let z : ◌≡◌ {A = ℕ} 0 1 = cc in absurd (omega arith))
 
 -- an answer that is not
-pub past : (x : ℕ) (r : Bound) → r ≡ within64_bits x → ((v : ℕ) → r ≡ Exactly v → ⊥) → 2 ^ 64 ≤ x
-past x r is other = by_cases (dec_lt x (2 ^ 64)) (λ h. absurd (other x (is ∙ fitting_small x h))) (λ h. omega arith)
+pub past : (x : ℕ) (e : BoundError) {r : Result ℕ BoundError} → r ≡ within64_bits x → r ≡ Err e → (e ≡ TooLarge) × (2 ^ 64 ≤ x)
+past x e {r} is other =
+    by_cases (dec_lt x (2 ^ 64))
+    (λ h. let small = fitting_small x h in let z : ◌≡◌ {A = ℕ} 0 1 = cc in absurd (omega arith))
+    (λ h. let large = fitting_large x (omega arith) in let same : e ≡ TooLarge = cc in (same, omega arith))
+
+-- what a `?` returns of an error
+pub passed_on : (e : BoundError) {r w : Result ℕ BoundError} → IsErrAnd r (λ y. y ≡ e) → Err e ≡ w → r ≡ w
+passed_on e {r} gone is = let p = err_from_is_err_and r gone in p.1 ∙ ap Err p.2 ∙ is
+
+pub passed_large : (e : BoundError) {r w : Result ℕ BoundError} → IsErrAnd r (λ y. y ≡ e) → e ≡ TooLarge → Err TooLarge ≡ w → r ≡ w
+passed_large e gone large is = passed_on e gone (ap Err large ∙ is)
 
 -- the hop limit
-pub hop_refused : (h x : ℕ) → 7 < h → bound_answer h x ≡ HopRefused
+pub hop_refused : (h x : ℕ) → 7 < h → bound_answer h x ≡ Err HopRefused
 unfolding bound_answer
 hop_refused h x above = rw (lt-ltb 7 h above)
 
@@ -68,19 +86,19 @@ module _ {size growth n k total paths grown : ℕ} (a : Added size growth n k to
 
   module _ (m : ℕ) (more : k < m) where
     pub total_past : {x y z : ℕ} → x ≡ paths * (n - k) → y ≡ grown + growth → z ≡ x * y → 2 ^ 64 ≤ total + z
-        → TooLarge ≡ within64_bits (series (λ j. size + growth * j) n m)
+        → Err TooLarge ≡ within64_bits (series (λ j. size + growth * j) n m)
     total_past p q e h = sym (fitting_large _ (omega (arith, rw (sym p, sym q, sym e) at (reached m more))))
 
     pub term_past : {x y : ℕ} → x ≡ paths * (n - k) → y ≡ grown + growth → 2 ^ 64 ≤ x * y
-        → TooLarge ≡ within64_bits (series (λ j. size + growth * j) n m)
+        → Err TooLarge ≡ within64_bits (series (λ j. size + growth * j) n m)
     term_past p q h = total_past p q refl (omega arith)
 
-    pub paths_past : 0 < size + growth → 2 ^ 64 ≤ paths * (n - k) → TooLarge ≡ within64_bits (series (λ j. size + growth * j) n m)
+    pub paths_past : 0 < size + growth → 2 ^ 64 ≤ paths * (n - k) → Err TooLarge ≡ within64_bits (series (λ j. size + growth * j) n m)
     paths_past some h =
         let sized : 0 < grown + growth = omega (arith, grown_next, mul-suc growth k) in
         term_past refl refl (omega (arith, le-mul_of_pos_right (paths * (n - k)) sized))
 
-    pub grown_past : m ≤ n → 2 ^ 64 ≤ grown + growth → TooLarge ≡ within64_bits (series (λ j. size + growth * j) n m)
+    pub grown_past : m ≤ n → 2 ^ 64 ≤ grown + growth → Err TooLarge ≡ within64_bits (series (λ j. size + growth * j) n m)
     grown_past most h =
         let any : 0 < paths * (n - k) = omega (arith, paths_next, product_positive n (suc k) (omega arith)) in
         term_past refl refl (omega (arith, le-mul_of_pos_right (grown + growth) any, mul_comm (grown + growth) (paths * (n - k))))
@@ -103,13 +121,13 @@ module _ {size growth n k total paths grown : ℕ} (a : Added size growth n k to
       by_cases (dec_lt k 21) (λ few. few)
       (λ many. let past-it = product_past n k (omega arith) h in absurd (omega (arith, a.paths_is, a.paths_fit)))
 
-  pub all_added : (m : ℕ) → k ≡ m → Exactly total ≡ within64_bits (series (λ j. size + growth * j) n m)
+  pub all_added : (m : ℕ) → k ≡ m → Ok total ≡ within64_bits (series (λ j. size + growth * j) n m)
   all_added m e =
       let whole : total ≡ series (λ j. size + growth * j) n m = a.total_is ∙ ap (series (λ j. size + growth * j) n) e in
-      ap Exactly whole ∙ sym (fitting_small _ (omega arith))
+      ap Ok whole ∙ sym (fitting_small _ (omega arith))
 
 -- the answer at a hop limit that is taken
-pub at_terms : (weight : ℕ → ℕ) (n h : ℕ) {m : ℕ} {r : Bound} → r ≡ within64_bits (series weight n m) → m ≡ terms n h → h ≤ 7
+pub at_terms : (weight : ℕ → ℕ) (n h : ℕ) {m : ℕ} {r : Result ℕ BoundError} → r ≡ within64_bits (series weight n m) → m ≡ terms n h → h ≤ 7
     → r ≡ bound_answer h (series weight n (terms n h))
 at_terms weight n h is count low =
     is ∙ ap (λ (k : ℕ). within64_bits (series weight n k)) count ∙ sym (hop_taken h (series weight n (terms n h)) low)

@@ -1,19 +1,12 @@
 -- The answers of the layer as the values that C sees where the layer has an enum, and what C gives for one. `Written` and a walk's `Cursor` go
 -- through as they are. What the values mean is defined below this crate.
-use Rattle.std.specs.Prelude.{ℕ, ◌≤◌, ◌<◌, Bool, true, false, cond, List, [], ◌≡◌, eqb, ltb, length}
+use Rattle.std.specs.Prelude.{ℕ, ◌≤◌, ◌<◌, Bool, true, false, cond, List, ◌≡◌, eqb, ltb, length, Option, None, Some, Result, Ok, Err}
 use Rattle.pdu.specs.declared.Destination.{Destination}
 use Rattle.pdu.specs.declared.Destination.TheVariants.{Everyone, Address}
-use Rattle.pdu.specs.declared.Sender.{Sender}
-use Rattle.pdu.specs.declared.Sender.TheVariants.{Unknown, Known}
-use Rattle.pdu.specs.declared.Reading.{Reading}
-use Rattle.pdu.specs.declared.Reading.TheVariants.{Pdu, Refused}
-use Rattle.pdu.specs.Header.{header_of}
-use Rattle.pdu.specs.Sizes.{fixed_length, payload_limit, path_limit, header_limit, pdu_limit, header_length, pdu_length}
-use Rattle.pdu.specs.Parts.{path_in, path_address, in_path, last_sender}
+use Rattle.pdu.specs.Sizes.{fixed_length, payload_limit, path_limit, header_limit, pdu_limit}
 use Rattle.editions.specs.declared.Bits.{Bits}
 use Rattle.editions.specs.declared.Bits.TheVariants.{Reserved, Flagged}
 use Rattle.editions.specs.declared.Shown.{Shown}
-use Rattle.editions.specs.declared.EditionReading.{EditionReading}
 use Rattle.view.specs.declared.Summary.{Summary}
 use Rattle.view.specs.View.{summary_of}
 use Rattle.lists.specs.Lists.{value_limit}
@@ -34,11 +27,9 @@ use Rattle.node_stations.specs.CountedAnswers.{answer_number, memory_after_answe
 use Rattle.retained.specs.declared.Retained.{Retained}
 use Rattle.acknowledgements.specs.declared.Sending.{Sending}
 use Rattle.acknowledgements.specs.Hearing.{outcome_heard, table_heard, output_heard}
-use Rattle.bound.specs.declared.Bound.{Bound}
-use Rattle.bound.specs.declared.Bound.TheVariants.{Exactly, TooLarge, HopRefused}
+use Rattle.bound.specs.declared.BoundError.{BoundError}
+use Rattle.bound.specs.declared.BoundError.TheVariants.{TooLarge, HopRefused}
 use Rattle.bound.specs.Answer.{bound_number}
-use Rattle.chains.specs.declared.Least.{Least}
-use Rattle.chains.specs.declared.Least.TheVariants.{HopLimit, Unreachable}
 use Rattle.ways.specs.declared.Airtime.{Airtime}
 use Rattle.ways.specs.declared.Airtime.TheVariants as airtime
 use Rattle.ways.specs.Answer.{ways_answer, Counts}
@@ -67,17 +58,17 @@ abbrev pub destination_from_c : Bool → ℕ → Destination
 destination_from_c present address = cond present (Address address) Everyone
 
 -- a last sender as a flag and an address, the address 0 where it is unknown (document 02, W-205)
-abbrev pub has_sender : Sender → Bool
-has_sender Unknown = false
-has_sender (Known address) = true
+abbrev pub has_sender : Option ℕ → Bool
+has_sender None = false
+has_sender (Some address) = true
 
-abbrev pub sender_address : Sender → ℕ
-sender_address Unknown = 0
-sender_address (Known address) = address
+abbrev pub sender_address : Option ℕ → ℕ
+sender_address None = 0
+sender_address (Some address) = address
 
 -- and back; an address without the flag does not count
-abbrev pub sender_from_c : Bool → ℕ → Sender
-sender_from_c known address = cond known (Known address) Unknown
+abbrev pub sender_from_c : Bool → ℕ → Option ℕ
+sender_from_c known address = cond known (Some address) None
 
 -- the three bits after the port (document 02, W-209): whether there is an encrypted flag, the flag, false where there is none, and the reserved number
 abbrev pub has_flag : Bits → Bool
@@ -92,11 +83,11 @@ abbrev pub reserved_shown : Bits → ℕ
 reserved_shown (Reserved number) = number
 reserved_shown (Flagged encrypted number) = number
 
--- all that a view says of a PDU, field by field ("Header, byte by byte")
-abbrev pub summary_in_c : Summary → MantHeader
-summary_in_c summary =
+-- all that a view says of a PDU, field by field ("Header, byte by byte"); of a refusal the number alone
+abbrev pub shown_in_c : Summary → MantHeader
+shown_in_c summary =
     record {
-      number = summary.number;
+      number = 0;
       protocol = summary.header.protocol;
       time_stamp_request = summary.header.time_stamp_request;
       path_bit = summary.header.path_bit;
@@ -119,8 +110,38 @@ summary_in_c summary =
       pdu_length = summary.pdu_length;
     }
 
+abbrev pub refused_in_c : ℕ → MantHeader
+refused_in_c number =
+    record {
+      number = number;
+      protocol = 0;
+      time_stamp_request = false;
+      path_bit = false;
+      has_destination = false;
+      port = 0;
+      has_encrypted = false;
+      encrypted = false;
+      reserved = 0;
+      ack = false;
+      added_header = false;
+      hop_limit = 0;
+      payload_length = 0;
+      source = 0;
+      destination = 0;
+      pdu_id = 0;
+      path_count = 0;
+      has_last_sender = false;
+      last_sender = 0;
+      header_length = 0;
+      pdu_length = 0;
+    }
+
+abbrev pub summary_in_c : Result Summary ℕ → MantHeader
+summary_in_c (Ok summary) = shown_in_c summary
+summary_in_c (Err number) = refused_in_c number
+
 -- what reading under an edition shows for bytes (17, then "Numbers answered", 1 to 6)
-abbrev pub header_in_c : EditionReading → List ℕ → MantHeader
+abbrev pub header_in_c : Result Shown ℕ → List ℕ → MantHeader
 header_in_c reading bytes = summary_in_c (summary_of reading bytes)
 
 -- the settings of a fresh PDU, field by field ("Origination"; document 02, W-209)
@@ -231,9 +252,9 @@ alone_in_c (Two delivery repeat) = 255
 abbrev pub step_in_c : Cursor → Stepped → MantStep
 step_in_c cursor (Answered answer next) = record { kind = 0; answer = answer_in_c answer; next = next }
 step_in_c cursor Ended =
-    record { kind = 1; answer = answer_in_c (given_twice (alone_in_c (numbers_of Ended)) 0 Unknown); next = record { place = cursor.place; ended = true } }
+    record { kind = 1; answer = answer_in_c (given_twice (alone_in_c (numbers_of Ended)) 0 None); next = record { place = cursor.place; ended = true } }
 step_in_c cursor TooLong =
-    record { kind = 2; answer = answer_in_c (given_twice (alone_in_c (numbers_of TooLong)) 0 Unknown); next = record { place = cursor.place; ended = true } }
+    record { kind = 2; answer = answer_in_c (given_twice (alone_in_c (numbers_of TooLong)) 0 None); next = record { place = cursor.place; ended = true } }
 
 -- what a step answers and leaves in the output
 abbrev pub StepsInC : Node → List ℕ → Cursor → List ℕ → MantStep → List ℕ → Type 0
@@ -241,10 +262,10 @@ StepsInC node batch cursor output step left =
     (step ≡ step_in_c cursor (step_of node (length output) batch cursor)) × (left ≡ step_output node batch cursor output)
 
 -- a bound: the value, that it is too large, or number 10 ("Numbers answered"); the value is 0 where there is none
-abbrev pub bound_in_c : Bound → MantBound
-bound_in_c (Exactly value) = record { number = bound_number (Exactly value); too_large = false; value = value }
-bound_in_c TooLarge = record { number = bound_number TooLarge; too_large = true; value = 0 }
-bound_in_c HopRefused = record { number = bound_number HopRefused; too_large = false; value = 0 }
+abbrev pub bound_in_c : Result ℕ BoundError → MantBound
+bound_in_c (Ok value) = record { number = bound_number (Ok value); too_large = false; value = value }
+bound_in_c (Err TooLarge) = record { number = bound_number (Err TooLarge); too_large = true; value = 0 }
+bound_in_c (Err HopRefused) = record { number = bound_number (Err HopRefused); too_large = false; value = 0 }
 
 -- how often a message goes out on a network: the value, or that it is enough, that the network is not served, or number 10; 0 where there is no value
 abbrev pub no_airtime : ℕ → Bool → Bool → MantAirtime
@@ -270,9 +291,9 @@ BytesInC pairs marks from h size enough counts table returned marksNow countsNow
     × (marksNow ≡ marks) × (countsNow ≡ counts) × (tableNow ≡ table))
 
 -- a least hop limit (document 02, W-208); 8 where none reaches all
-abbrev pub least_in_c : Least → ℕ
-least_in_c (HopLimit h) = h
-least_in_c Unreachable = 8
+abbrev pub least_in_c : Option ℕ → ℕ
+least_in_c (Some h) = h
+least_in_c None = 8
 
 -- "Sizes"; a list of 64 ranges has 128 values ("Numbers answered", 22)
 abbrev pub limits_in_c : MantLimits

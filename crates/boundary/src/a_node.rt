@@ -1,10 +1,9 @@
 // What C sets a node to, and what it sees of the node's answer.
 ghost use Rattle.std.specs.Prelude.{◌≡◌};
-ghost use Rattle.boundary.specs.Boundary.{choice_from_c, node_from_c, has_sender, sender_address, sender_from_c, answer_in_c, answer_from_c};
+ghost use Rattle.boundary.specs.Boundary.{choice_from_c, node_from_c, answer_in_c, answer_from_c};
 
 use decision::{Choice, Settings};
 use node::Answer;
-use pdu::Sender;
 use retained::Outcome;
 
 // What a node is set to. Edition 11 is 1.1 and 12 is 1.2. Of each kind of list a number chooses: 1 the first of its two lists, 2 the second; 0, and any
@@ -26,7 +25,7 @@ pub struct MantNode {
 // `delivered_place` in the received bytes; place and length are 0 where nothing is delivered. `repeated_length` is 0 where nothing is repeated. `taken`
 // is where the next PDU begins in the received bytes, and 0 where the edition is not known, a list is at fault or no PDU can be read.
 #[repr(C)]
-#[derive(Clone, Copy)]
+#[derive(Clone, Copy, Default)]
 pub struct MantAnswer {
     pub delivery: u8,
     pub repeat: u8,
@@ -57,13 +56,11 @@ pub struct MantHeardReliably {
 fn choice_from_c(number: u8) -> Choice
     ensures { result ≡ choice_from_c number }
 {
-    if number == 1 {
-        return Choice::First;
+    match number {
+        1 => Choice::First,
+        2 => Choice::Second,
+        _ => Choice::Neither,
     }
-    if number == 2 {
-        return Choice::Second;
-    }
-    Choice::Neither
 }
 
 // What C sets a node to, as the layer has it: of each kind by itself, 1 chooses the first list, 2 the second, and any other number none.
@@ -83,34 +80,6 @@ pub fn node_from_c(node: MantNode) -> Settings
     }
 }
 
-pub(crate) fn has_sender(sender: Sender) -> bool
-    ensures { result ≡ has_sender sender }
-{
-    match sender {
-        Sender::Unknown => false,
-        Sender::Known(_) => true,
-    }
-}
-
-pub(crate) fn sender_address(sender: Sender) -> u16
-    ensures { result ≡ sender_address sender }
-{
-    match sender {
-        Sender::Unknown => 0,
-        Sender::Known(address) => address,
-    }
-}
-
-fn sender_from_c(known: bool, address: u16) -> Sender
-    ensures { result ≡ sender_from_c known address }
-{
-    if known {
-        Sender::Known(address)
-    } else {
-        Sender::Unknown
-    }
-}
-
 // A node's answer, as C sees it. Document 01, "One PDU at one node"; document 02, W-205.
 pub fn answer_in_c(answer: Answer) -> MantAnswer
     ensures { result ≡ answer_in_c answer }
@@ -119,8 +88,8 @@ pub fn answer_in_c(answer: Answer) -> MantAnswer
     MantAnswer {
         delivery: answer.delivery,
         repeat: answer.repeat,
-        has_last_sender: has_sender(sender),
-        last_sender: sender_address(sender),
+        has_last_sender: sender.is_some(),
+        last_sender: sender.unwrap_or(0),
         delivered_place: answer.delivered_place,
         delivered_length: answer.delivered_length,
         repeated_length: answer.repeated_length,
@@ -139,6 +108,6 @@ pub fn answer_from_c(answer: MantAnswer) -> Answer
         delivered_length: answer.delivered_length,
         repeated_length: answer.repeated_length,
         taken: answer.taken,
-        last_sender: sender_from_c(answer.has_last_sender, answer.last_sender),
+        last_sender: answer.has_last_sender.then_some(answer.last_sender),
     }
 }

@@ -1,6 +1,5 @@
 // What C sees of a walk over a batch, step by step.
-ghost use Rattle.std.specs.Prelude.{◌≡◌};
-ghost use Rattle.pdu.specs.declared.Sender.TheVariants.{Unknown};
+ghost use Rattle.std.specs.Prelude.{◌≡◌, None};
 ghost use Rattle.node.specs.Answers.{given_twice};
 ghost use Rattle.boundary.specs.Boundary.{answer_in_c, step_in_c};
 
@@ -22,17 +21,12 @@ pub struct MantStep {
 }
 
 fn number_alone(number: u8) -> MantAnswer
-    ensures { result ≡ answer_in_c (given_twice number 0 Unknown) }
+    ensures { result ≡ answer_in_c (given_twice number 0 None) }
 {
     MantAnswer {
         delivery: number,
         repeat: number,
-        has_last_sender: false,
-        last_sender: 0,
-        delivered_place: 0,
-        delivered_length: 0,
-        repeated_length: 0,
-        taken: 0,
+        ..MantAnswer::default()
     }
 }
 
@@ -42,8 +36,8 @@ pub fn step_in_c(cursor: Cursor, stepped: Stepped) -> MantStep
     ensures { result ≡ step_in_c cursor stepped }
 {
     let ended = Cursor {
-        place: cursor.place,
         ended: true,
+        ..cursor
     };
     match stepped {
         Stepped::Answered(answer, next) => MantStep {

@@ -7,6 +7,7 @@ pub mod originating;
 pub mod planning;
 pub mod reading;
 
+// Kept: the conversions are functions and no impls of From, since crate `promises` has a theorem on each of them.
 pub use a_node::{
     MantAnswer, MantHeardReliably, MantListened, MantNode, answer_from_c, answer_in_c, node_from_c,
 };

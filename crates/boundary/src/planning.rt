@@ -2,8 +2,7 @@
 ghost use Rattle.std.specs.Prelude.{◌≡◌};
 ghost use Rattle.boundary.specs.Boundary.{bound_in_c, airtime_in_c, no_airtime, least_in_c, limits_in_c};
 
-use bound::Bound;
-use chains::Least;
+use bound::BoundError;
 use ways::Airtime;
 
 // A bound: number 0 and the value; or 10 for a hop limit above 7; or that the value is too large for 64 bits. The value is 0 in the last two.
@@ -40,21 +39,21 @@ pub struct MantLimits {
 }
 
 // A bound, as C sees it; number 10 for a hop limit above 7. Document 01, "Checked by hand", the bound of demand 3.
-pub fn bound_in_c(bound: Bound) -> MantBound
+pub fn bound_in_c(bound: Result<u64, BoundError>) -> MantBound
     ensures { result ≡ bound_in_c bound }
 {
     match bound {
-        Bound::Exactly(value) => MantBound {
+        Ok(value) => MantBound {
             number: 0,
             too_large: false,
             value,
         },
-        Bound::TooLarge => MantBound {
+        Err(BoundError::TooLarge) => MantBound {
             number: 0,
             too_large: true,
             value: 0,
         },
-        Bound::HopRefused => MantBound {
+        Err(BoundError::HopRefused) => MantBound {
             number: 10,
             too_large: false,
             value: 0,
@@ -91,13 +90,10 @@ fn no_airtime(number: u8, served: bool, enough: bool) -> MantAirtime
 }
 
 // A least hop limit, as C sees it; 8, which is no hop limit, where none reaches all. Document 02, W-208.
-pub fn least_in_c(least: Least) -> u8
+pub fn least_in_c(least: Option<u8>) -> u8
     ensures { result ≡ least_in_c least }
 {
-    match least {
-        Least::HopLimit(hop_limit) => hop_limit,
-        Least::Unreachable => 8,
-    }
+    least.unwrap_or(8)
 }
 
 // The sizes that the layer keeps to. Document 01, "Sizes", and for the list's values "Numbers answered", 22.

@@ -1,8 +1,7 @@
 // What C sees of a PDU that was read.
 ghost use Rattle.std.specs.Prelude.{◌≡◌};
-ghost use Rattle.boundary.specs.Boundary.{has_destination, destination_address, has_flag, flag_of, reserved_shown, summary_in_c};
+ghost use Rattle.boundary.specs.Boundary.{has_destination, destination_address, has_flag, flag_of, reserved_shown, shown_in_c, refused_in_c, summary_in_c};
 
-use super::a_node::{has_sender, sender_address};
 use editions::Bits;
 use pdu::Destination;
 use view::Summary;
@@ -11,7 +10,7 @@ use view::Summary;
 // the header's length and the PDU's. Edition 1.1 has no encrypted flag: `has_encrypted` and `encrypted` are false, and `reserved` is 0 to 7; in 1.2 it
 // is 0 to 3. `last_sender` counts where `has_last_sender` is set, and is 0 where not. With a refusal all fields after the number are 0 and false.
 #[repr(C)]
-#[derive(Clone, Copy)]
+#[derive(Clone, Copy, Default)]
 pub struct MantHeader {
     pub number: u8,
     pub protocol: u8,
@@ -39,10 +38,7 @@ pub struct MantHeader {
 fn has_destination(destination: Destination) -> bool
     ensures { result ≡ has_destination destination }
 {
-    match destination {
-        Destination::Everyone => false,
-        Destination::Address(_) => true,
-    }
+    matches!(destination, Destination::Address(_))
 }
 
 fn destination_address(destination: Destination) -> u16
@@ -57,10 +53,7 @@ fn destination_address(destination: Destination) -> u16
 fn has_flag(bits: Bits) -> bool
     ensures { result ≡ has_flag bits }
 {
-    match bits {
-        Bits::Reserved(_) => false,
-        Bits::Flagged { .. } => true,
-    }
+    matches!(bits, Bits::Flagged { .. })
 }
 
 fn flag_of(bits: Bits) -> bool
@@ -81,16 +74,26 @@ fn reserved_shown(bits: Bits) -> u8
     }
 }
 
-// All that a view says of a PDU, as C sees it. Document 01, "Header, byte by byte"; document 02, W-205 and W-209.
-pub fn summary_in_c(summary: Summary) -> MantHeader
-    ensures { result ≡ summary_in_c summary }
+// All that a view says of a PDU, as C sees it: a refusal's number, or 0 and the fields.
+// Document 01, "Header, byte by byte"; document 02, W-205 and W-209.
+pub fn summary_in_c(said: Result<Summary, u8>) -> MantHeader
+    ensures { result ≡ summary_in_c said }
+{
+    match said {
+        Ok(summary) => shown_in_c(summary),
+        Err(number) => refused_in_c(number),
+    }
+}
+
+fn shown_in_c(summary: Summary) -> MantHeader
+    ensures { result ≡ shown_in_c summary }
 {
     let header = summary.header;
     let bits = header.bits;
     let destination = header.destination;
     let sender = summary.last_sender;
     MantHeader {
-        number: summary.number,
+        number: 0,
         protocol: header.protocol,
         time_stamp_request: header.time_stamp_request,
         path_bit: header.path_bit,
@@ -107,9 +110,19 @@ pub fn summary_in_c(summary: Summary) -> MantHeader
         destination: destination_address(destination),
         pdu_id: header.pdu_id,
         path_count: header.path_count,
-        has_last_sender: has_sender(sender),
-        last_sender: sender_address(sender),
+        has_last_sender: sender.is_some(),
+        last_sender: sender.unwrap_or(0),
         header_length: summary.header_length,
         pdu_length: summary.pdu_length,
+    }
+}
+
+// A refusal shows no field.
+fn refused_in_c(number: u8) -> MantHeader
+    ensures { result ≡ refused_in_c number }
+{
+    MantHeader {
+        number,
+        ..MantHeader::default()
     }
 }

@@ -1,11 +1,12 @@
 // A line of the text, read a character at a time. What can be is done without branches: the checker's time goes by them.
-use crate::verb;
+use crate::verb::Verb;
 
 // How many items a line has room for: its numbers, and the values and bytes of its sections.
 pub(crate) const ROOM: usize = 40960;
 
 // A shape has an octal digit for each number outside of sections, 2, and for each mark: 1 for `[`, 3 for `]`, 4 for `(`, 5 for `)` and 7 for `=`, which
 // are the remainders of these characters by 9. No shape has a 6.
+// Kept: a shape is written and compared as one octal numeral; as an array of an enum each shape below would be longer and say no more.
 const OPEN_BYTES: usize = 1;
 
 const NUMBER: usize = 2;
@@ -14,18 +15,18 @@ const OPEN_LIST: usize = 4;
 
 const NO_SHAPE: usize = 6;
 
-// A line that begins at `start`, of which `length` characters were read, `name` of them its name. `fault` is the first at which it can't be read, and
-// 0 where it can. `asked_shape` is the shape up to the `=`, `shape` that after it. All items stand in one row: the last list begins at `list`, the last
+// A line that begins at `start`, of which `length` characters were read, `name` of them its name, which begins with `letter`. `fault` is the first at which it
+// can't be read, and 0 where it can. `asked_shape` is the shape up to the `=`, `shape` that after it. All items stand in one row: the last list begins at `list`, the last
 // bracket before the `=` at `output` and the one before that at `input`, the `=` is at `end`, and the last bracket of all at `after`. Of the `count`
 // numbers the first `asked` stand before the `=`. Of the items up to `place`, the last `times` are `item` and still to be put there. `cases` lines were
 // judged before, and `wrong` of them wrong.
-#[derive(Clone, Copy)]
+#[derive(Clone, Copy, Default)]
 pub(crate) struct Line {
     pub start: usize,
     pub length: usize,
     pub name: usize,
     pub fault: usize,
-    pub verb: usize,
+    pub letter: u8,
     pub shape: usize,
     pub asked_shape: usize,
     pub list: usize,
@@ -50,28 +51,9 @@ impl Line {
     pub(crate) fn new(start: usize, cases: u64, wrong: u64) -> Line {
         Line {
             start,
-            length: 0,
-            name: 0,
-            fault: 0,
-            verb: 0,
-            shape: 0,
-            asked_shape: 0,
-            list: 0,
-            input: 0,
-            output: 0,
-            end: 0,
-            after: 0,
-            asked: 0,
-            count: 0,
-            numbers: [0; 16],
-            number: false,
-            starred: false,
-            value: 0,
-            item: 0,
-            place: 0,
-            times: 0,
             cases,
             wrong,
+            ..Line::default()
         }
     }
 
@@ -140,7 +122,7 @@ impl Line {
         let letter = (b'a' <= byte) & (byte <= b'z') & self.outside() & !self.number;
         self.starred = (byte == b'*') & self.number & !self.starred;
         let refused = !(gap | letter | self.starred | is_mark(byte));
-        self.verb = pick(letter & (self.verb == 0), byte as usize, self.verb);
+        self.letter = pick(letter & (self.letter == 0), byte, self.letter);
         self.number = false;
         self.value = 0;
         self.section(byte, is_mark(byte)).refused(refused)
@@ -173,13 +155,18 @@ impl Line {
         self.asked(std::num::wrapping_add_usize(self.asked, i))
     }
 
+    // The verb of the first word's first letter.
+    pub(crate) fn verb(self) -> Option<Verb> {
+        Verb::of(self.letter)
+    }
+
     // The line is read where what is asked has the shape that its verb wants, and an output is expected where one is given.
     pub(crate) fn is_read(self) -> bool {
         let expected = self.shape % 0o100 == 0o13;
         (self.fault == 0)
-            & (self.asked_shape == shape_of(self.verb, self.asked_shape))
+            & (self.asked_shape == shape_of(self.verb(), self.asked_shape))
             & (self.gives_output() == expected)
-            & ((self.verb != verb::ORIGINATE) | (self.asked(6) < 256))
+            & ((self.verb() != Some(Verb::Originate)) | (self.asked(6) < 256))
     }
 
     pub(crate) fn gives_output(self) -> bool {
@@ -223,21 +210,23 @@ const ORIGINATION: usize = 0o2222222_13_13_7;
 const ADDRESSED: usize = 0o22222222_13_13_7;
 
 // The shape of what a verb asks with.
-fn shape_of(verb: usize, asked: usize) -> usize {
+fn shape_of(verb: Option<Verb>, asked: usize) -> usize {
+    let Some(verb) = verb else {
+        return NO_SHAPE;
+    };
     match verb {
-        verb::BOUND => 0o22_7,
-        verb::EXCHANGE | verb::JOB | verb::READ | verb::VIEW => 0o13_7,
-        verb::LISTS => TWO_LISTS,
-        verb::COUNT => COUNTING,
-        verb::FORGET => FORGETTING,
-        verb::DELIVER | verb::HEAR | verb::STEP => HEARING,
-        verb::ORIGINATE => pick(asked == ADDRESSED, ADDRESSED, ORIGINATION),
-        verb::PACK | verb::WRITE => 0o13_13_7,
-        _ => NO_SHAPE,
+        Verb::Bound => 0o22_7,
+        Verb::Exchange | Verb::Job | Verb::Read | Verb::View => 0o13_7,
+        Verb::Lists => TWO_LISTS,
+        Verb::Count => COUNTING,
+        Verb::Forget => FORGETTING,
+        Verb::Deliver | Verb::Hear | Verb::Step => HEARING,
+        Verb::Originate => pick(asked == ADDRESSED, ADDRESSED, ORIGINATION),
+        Verb::Pack | Verb::Write => 0o13_13_7,
     }
 }
 
-pub(crate) fn pick(test: bool, yes: usize, no: usize) -> usize {
+pub(crate) fn pick<T: Copy>(test: bool, yes: T, no: T) -> T {
     if test { yes } else { no }
 }
 

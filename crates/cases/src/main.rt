@@ -67,9 +67,8 @@ fn cases(rt: &impl Print, text: &[u8]) -> io::Result<Line> {
     let mut bytes = [0u8; ROOM];
     let mut values = [0u16; ROOM];
     let mut line = Line::new(0, 0, 0);
-    for i in 0..text.len() {
-        let byte = text[i];
-        let longer = line.with(byte);
+    for byte in text {
+        let longer = line.with(*byte);
         store(
             &mut bytes,
             &mut values,
@@ -77,8 +76,7 @@ fn cases(rt: &impl Print, text: &[u8]) -> io::Result<Line> {
             longer.times,
             longer.item,
         );
-        let next = judge(rt, longer, byte, text, &bytes, &values)?;
-        line = next;
+        line = judge(rt, longer, *byte, text, &bytes, &values)?;
     }
     Ok(line)
 }

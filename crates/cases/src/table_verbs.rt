@@ -1,7 +1,7 @@
 // The verbs of the table of stations. A list's values are copied to the start of its memory, so that it can change.
 use crate::line::Line;
-use crate::telling::{list, tell, wide};
-use crate::verb;
+use crate::telling::{list, tell_all};
+use crate::verb::Verb;
 use stations::Station;
 use stations_update::Heard;
 use std::io;
@@ -9,20 +9,17 @@ use std::io;
 pub(crate) fn ask(rt: &impl Print, line: Line, values: &[u16]) -> io::Result<bool> {
     let mut memory = [0u16; Station::MEMORY];
     copy(&mut memory, list(values, line.list, line.end));
-    if line.verb == verb::COUNT {
-        return counts(rt, line, &mut memory);
+    match line.verb() {
+        Some(Verb::Count) => counts(rt, line, &mut memory),
+        _ => forgets(rt, line, &mut memory),
     }
-    forgets(rt, line, &mut memory)
 }
 
+// As many as there is room for.
 fn copy(room: &mut [u16], given: &[u16]) {
-    for i in 0..room.len() {
-        room[i] = value_at(given, i);
+    for (place, value) in room.iter_mut().zip(given) {
+        *place = *value;
     }
-}
-
-fn value_at(given: &[u16], i: usize) -> u16 {
-    if i < given.len() { given[i] } else { 0 }
 }
 
 fn counts(rt: &impl Print, line: Line, memory: &mut [u16; Station::MEMORY]) -> io::Result<bool> {
@@ -33,28 +30,21 @@ fn counts(rt: &impl Print, line: Line, memory: &mut [u16; Station::MEMORY]) -> i
         path_count: (line.asked(3) % 256) as u8,
     };
     let number = stations_update::count(memory, heard);
-    let found = stations::station_of(memory, heard.source);
+    let station = stations::station_of(memory, heard.source).station;
     let held = stations::held(memory);
-    Ok(
-        tell(rt, line, 0o222222, 0, wide(number))?
-            & tell(rt, line, 0o222222, 1, held as u64)?
-            & tells_station(rt, line, found.station)?,
-    )
-}
-
-fn tells_station(rt: &impl Print, line: Line, station: Station) -> io::Result<bool> {
-    let reads = station.reads as u64;
-    let echoes = station.echoes as u64;
-    Ok(
-        tell(rt, line, 0o222222, 2, reads)?
-            & tell(rt, line, 0o222222, 3, echoes)?
-            & tell(rt, line, 0o222222, 4, station.has_path as u64)?
-            & tell(rt, line, 0o222222, 5, station.shortest_path as u64)?,
-    )
+    let numbers = [
+        u64::from(number),
+        held as u64,
+        u64::from(station.reads),
+        u64::from(station.echoes),
+        u64::from(station.has_path),
+        u64::from(station.shortest_path),
+    ];
+    tell_all(rt, line, 0o222222, &numbers)
 }
 
 fn forgets(rt: &impl Print, line: Line, memory: &mut [u16; Station::MEMORY]) -> io::Result<bool> {
     let number = stations_update::remove(memory, (line.asked(0) % 65536) as u16);
     let held = stations::held(memory);
-    Ok(tell(rt, line, 0o22, 0, wide(number))? & tell(rt, line, 0o22, 1, held as u64)?)
+    tell_all(rt, line, 0o22, &[u64::from(number), held as u64])
 }

@@ -1,6 +1,4 @@
 // The numbers answered, printed and compared; and the lists of a line.
-ghost use Rattle.std.specs.Prelude.{◌≤◌};
-
 use crate::line::Line;
 use std::io;
 
@@ -16,22 +14,25 @@ pub(crate) fn tell(
     Ok((line.shape == shape) & (line.expected(place) as u64 == number))
 }
 
+// The same of all numbers answered, each in its place.
+pub(crate) fn tell_all(
+    rt: &impl Print,
+    line: Line,
+    shape: usize,
+    numbers: &[u64],
+) -> io::Result<bool> {
+    let mut right = true;
+    for (place, number) in numbers.iter().enumerate() {
+        right &= tell(rt, line, shape, place, *number)?;
+    }
+    Ok(right)
+}
+
 pub(crate) fn print_number(rt: &impl Print, number: u64) -> io::Result<()> {
     print!(rt; " {number}")
 }
 
-pub(crate) fn wide(x: u8) -> u64 {
-    x as u64
-}
-
 pub(crate) fn list(values: &[u16], start: usize, end: usize) -> &[u16] {
-    let end = least(end, values.len());
-    let start = least(start, end);
-    &values[start..end]
-}
-
-pub(crate) fn least(x: usize, y: usize) -> usize
-    ensures { result ≤ y }
-{
-    if x < y { x } else { y }
+    let end = end.min(values.len());
+    &values[start.min(end)..end]
 }

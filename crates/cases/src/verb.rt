@@ -1,28 +1,40 @@
-// The verbs, each by its first letter.
-pub(crate) const BOUND: usize = b'b' as usize;
+// The verbs, each known by its first letter.
+#[derive(Clone, Copy, Debug, PartialEq, Eq)]
+pub(crate) enum Verb {
+    Bound,
+    Count,
+    Deliver,
+    Exchange,
+    Forget,
+    Hear,
+    Job,
+    Lists,
+    Originate,
+    Pack,
+    Read,
+    Step,
+    View,
+    Write,
+}
 
-pub(crate) const COUNT: usize = b'c' as usize;
-
-pub(crate) const DELIVER: usize = b'd' as usize;
-
-pub(crate) const EXCHANGE: usize = b'e' as usize;
-
-pub(crate) const FORGET: usize = b'f' as usize;
-
-pub(crate) const HEAR: usize = b'h' as usize;
-
-pub(crate) const JOB: usize = b'j' as usize;
-
-pub(crate) const LISTS: usize = b'l' as usize;
-
-pub(crate) const ORIGINATE: usize = b'o' as usize;
-
-pub(crate) const PACK: usize = b'p' as usize;
-
-pub(crate) const READ: usize = b'r' as usize;
-
-pub(crate) const STEP: usize = b's' as usize;
-
-pub(crate) const VIEW: usize = b'v' as usize;
-
-pub(crate) const WRITE: usize = b'w' as usize;
+impl Verb {
+    pub(crate) fn of(letter: u8) -> Option<Verb> {
+        match letter {
+            b'b' => Some(Verb::Bound),
+            b'c' => Some(Verb::Count),
+            b'd' => Some(Verb::Deliver),
+            b'e' => Some(Verb::Exchange),
+            b'f' => Some(Verb::Forget),
+            b'h' => Some(Verb::Hear),
+            b'j' => Some(Verb::Job),
+            b'l' => Some(Verb::Lists),
+            b'o' => Some(Verb::Originate),
+            b'p' => Some(Verb::Pack),
+            b'r' => Some(Verb::Read),
+            b's' => Some(Verb::Step),
+            b'v' => Some(Verb::View),
+            b'w' => Some(Verb::Write),
+            _ => None,
+        }
+    }
+}

@@ -1,7 +1,7 @@
 // The verbs with an output, all of which is compared. Each function prints the numbers answered, and answers whether they are those expected.
 use crate::line::{Line, ROOM};
-use crate::telling::{least, list, tell};
-use crate::verb;
+use crate::telling::{list, tell, tell_all};
+use crate::verb::Verb;
 use batch::{Cursor, Numbers};
 use decision::{Choice, Settings};
 use node::Answer;
@@ -18,7 +18,7 @@ pub(crate) fn ask(
 ) -> io::Result<bool> {
     let mut output = [0u8; ROOM];
     octets::put(&mut output, 0, before);
-    let size = least(before.len(), ROOM);
+    let size = before.len().min(ROOM);
     let room = &mut output[0..size];
     let right = by_verb(rt, line, input, values, room)?;
     Ok(right & (&room[..] == after))
@@ -31,16 +31,24 @@ fn by_verb(
     values: &[u16],
     output: &mut [u8],
 ) -> io::Result<bool> {
-    let verb = line.verb;
-    if verb == verb::WRITE {
-        return tells_written(rt, line, writing::write_again(input, output));
+    match line.verb() {
+        Some(Verb::Write) => tells_written(rt, line, writing::write_again(input, output)),
+        Some(Verb::Pack) => tells_written(rt, line, exchange::write_exchange(input, output)),
+        Some(Verb::Originate) => {
+            tells_written(rt, line, origin::originate(origin_of(line), input, output))
+        }
+        _ => hears_by_lists(rt, line, input, values, output),
     }
-    if verb == verb::PACK {
-        return tells_written(rt, line, exchange::write_exchange(input, output));
-    }
-    if verb == verb::ORIGINATE {
-        return tells_written(rt, line, origin::originate(origin_of(line), input, output));
-    }
+}
+
+// The first list of each kind is the line's, and the last of each kind is empty.
+fn hears_by_lists(
+    rt: &impl Print,
+    line: Line,
+    input: &[u8],
+    values: &[u16],
+    output: &mut [u8],
+) -> io::Result<bool> {
     let mut block = [0u16; list_block::BLOCK_LIMIT];
     let one = list(values, line.list, line.input);
     let none = list(values, 0, 0);
@@ -49,8 +57,8 @@ fn by_verb(
 }
 
 fn tells_written(rt: &impl Print, line: Line, written: Written) -> io::Result<bool> {
-    let number = written.number as u64;
-    Ok(tell(rt, line, 0o22_13, 0, number)? & tell(rt, line, 0o22_13, 1, written.length as u64)?)
+    let numbers = [u64::from(written.number), written.length as u64];
+    tell_all(rt, line, 0o22_13, &numbers)
 }
 
 fn hears(
@@ -61,16 +69,14 @@ fn hears(
     lists: &[u16; list_block::BLOCK_LIMIT],
     output: &mut [u8],
 ) -> io::Result<bool> {
-    let verb = line.verb;
-    if verb == verb::STEP {
-        let start = Cursor::start();
-        let stepped = batch::step(settings, lists, input, start, output);
-        return tells_step(rt, line, batch::numbers_of(stepped));
+    match line.verb() {
+        Some(Verb::Step) => {
+            let stepped = batch::step(settings, lists, input, Cursor::start(), output);
+            tells_step(rt, line, batch::numbers_of(stepped))
+        }
+        Some(Verb::Hear) => tells_answer(rt, line, node::hear(settings, lists, input, output)),
+        _ => delivers(rt, line, settings, input, lists, output),
     }
-    if verb == verb::HEAR {
-        return tells_answer(rt, line, node::hear(settings, lists, input, output));
-    }
-    delivers(rt, line, settings, input, lists, output)
 }
 
 // The payload delivered is put into the output.
@@ -90,24 +96,21 @@ fn delivers(
 }
 
 fn tells_answer(rt: &impl Print, line: Line, answer: Answer) -> io::Result<bool> {
-    let delivery = answer.delivery as u64;
-    let repeat = answer.repeat as u64;
-    Ok(
-        tell(rt, line, 0o222_13, 0, delivery)?
-            & tell(rt, line, 0o222_13, 1, repeat)?
-            & tell(rt, line, 0o222_13, 2, answer.repeated_length as u64)?,
-    )
+    let numbers = [
+        u64::from(answer.delivery),
+        u64::from(answer.repeat),
+        answer.repeated_length as u64,
+    ];
+    tell_all(rt, line, 0o222_13, &numbers)
 }
 
 fn tells_step(rt: &impl Print, line: Line, numbers: Numbers) -> io::Result<bool> {
     match numbers {
         Numbers::Two { delivery, repeat } => {
-            Ok(
-                tell(rt, line, 0o22_13, 0, delivery as u64)?
-                    & tell(rt, line, 0o22_13, 1, repeat as u64)?,
-            )
+            let two = [u64::from(delivery), u64::from(repeat)];
+            tell_all(rt, line, 0o22_13, &two)
         }
-        Numbers::Alone(number) => tell(rt, line, 0o2_13, 0, number as u64),
+        Numbers::Alone(number) => tell(rt, line, 0o2_13, 0, u64::from(number)),
         Numbers::NoAnswer => Ok(line.shape == 0o13),
     }
 }

@@ -1,31 +1,21 @@
 -- The outcome of finding the lengths. Assumes nothing.
 use mathlib.Core.Path.{◌≡◌, refl, sym, ap, subst, ◌∙◌}
-use mathlib.Core.Logic.{◌≢◌, by_cases}
-use mathlib.Core.Bool.{Bool, true, false, not, and-false, true≢false, false≢true}
-use mathlib.Core.List.{List}
-use Prim.Native.Nat.{ℕ, suc, ◌+◌, ◌≤◌, ◌<◌}
-use native.Mathlib.Decide.{dec_lt}
+use mathlib.Core.Bool.{Bool, true, false, not, ◌||◌, true≢false, false≢true}
+use mathlib.Core.List.{List, [], ◌∷◌}
+use Prim.Native.Nat.{ℕ, zero, suc, ◌+◌, ◌≤◌, ◌<◌}
 use native.Mathlib.Omega.{arith}
-use borrow.Author.Tests.{lt-ltb, le-ltb, le-leb, lt-leb, ltb-true, leb-true, eqb-true, eq-eqb, not-true, not-false}
+use borrow.Author.Tests.{lt-ltb, le-leb, ltb-true, leb-true, eqb-true, eq-eqb, not-true, not-false}
 use lib.Dec.{eqb, ltb, leb}
-use lib.ListN.{length}
-use Rattle.octets.specs.Octets.{at}
+use lib.ListN.{length, set, replicate}
+use Rattle.std.specs.List.{list_any}
 use Rattle.octets.proofs.Tests.{both}
 use Rattle.chains.specs.Chains.{Shortest}
 use Rattle.chains.specs.Lengths.{places_of_nodes, node_limit, no_chain, is_usable, usable_hearing, served, are_found, LengthsFound}
-use Rattle.chains.specs.Rounds.{before_rounds, after_round, NoneHasLength}
-use Rattle.chains.proofs.Rounds.{Known, known_first, known_after, all_told, none_by_count, none_by_value}
+use Rattle.chains.specs.Rounds.{after_round}
+use Rattle.chains.proofs.Rounds.{NoneHasLength, Known, known_first, known_after, all_told, none_by_count, none_by_value}
 
--- a network that is served, test by test
-pub too_many : (n from places : ℕ) → node_limit < n → false ≡ are_found n from places
-unfolding are_found
-too_many n from places many = rw (lt-leb n node_limit many) refl
-
-pub not_a_node : (n from places : ℕ) → n ≤ from → false ≡ are_found n from places
-unfolding are_found
-not_a_node n from places past = rw (le-ltb from n past) (rw (and-false (leb n node_limit)) refl)
-
-pub by_places : (n from places : ℕ) → n ≤ node_limit → from < n → eqb places n ≡ are_found n from places
+-- a network that is served
+by_places : (n from places : ℕ) → n ≤ node_limit → from < n → eqb places n ≡ are_found n from places
 unfolding are_found
 by_places n from places few begins = rw (le-leb n node_limit few) (rw (lt-ltb from n begins) refl)
 
@@ -44,6 +34,17 @@ is_served_lem n from places e =
 served_is : (n from places : ℕ) → Served n from places → true ≡ are_found n from places
 served_is n from places s = sym (eq-eqb places n s.as_many) ∙ by_places n from places s.few s.begins
 
+neither : (s t : Bool) → (s || t) ≡ false → (s ≡ false) × (t ≡ false)
+neither true t e = absurd (true≢false e)
+neither false t e = (refl, e)
+
+none_at_all : (value : ℕ) (lengths : List ℕ) → list_any (λ length. eqb length value) lengths ≡ false → NoneHasLength lengths value
+none_at_all value [] none place below = absurd (omega arith)
+none_at_all value (first ∷ lengths) none zero below =
+    λ is. true≢false (sym (eq-eqb first value is) ∙ (neither (eqb first value) (list_any (λ length. eqb length value) lengths) none).0)
+none_at_all value (first ∷ lengths) none (suc place) below =
+    none_at_all value lengths (neither (eqb first value) (list_any (λ length. eqb length value) lengths) none).1 place (omega arith)
+
 module _ (pairs marks : List ℕ) (from failed : ℕ) (before : List ℕ) where
   abbrev n : ℕ
   n = length marks
@@ -57,9 +58,10 @@ module _ (pairs marks : List ℕ) (from failed : ℕ) (before : List ℕ) where
 
   -- a network that is served
   module _ (serves : Served n from (length before)) where
-    pub begun_known : (lengths : List ℕ) → lengths ≡ before_rounds (length before) from → Known pairs marks from failed 0 lengths
+    pub begun_known : (lengths : List ℕ) → lengths ≡ replicate (length before) no_chain → Known pairs marks from failed 0 (set lengths from 0)
     begun_known lengths is =
-        subst (Known pairs marks from failed 0) (sym (is ∙ ap (λ (k : ℕ). before_rounds k from) serves.as_many))
+        subst (Known pairs marks from failed 0)
+        (sym (ap (λ (l : List ℕ). set l from 0) (is ∙ ap (λ (k : ℕ). replicate k no_chain) serves.as_many)))
         (known_first pairs marks from failed serves.begins)
 
     pub round_known : (k : ℕ) (lengths next : List ℕ) → k + 1 < no_chain → next ≡ after_round (is_usable marks from failed) k pairs lengths
@@ -86,17 +88,9 @@ module _ (pairs marks : List ℕ) (from failed : ℕ) (before : List ℕ) where
     all_found k lengths enough known = found k lengths known (none_by_count pairs marks from failed serves.begins k enough)
 
     -- no node was told a length in the last round
-    pub none_further : (k : ℕ) (lengths : List ℕ) (some : Bool) → k < no_chain → (some ≡ false → NoneHasLength lengths k)
+    pub none_further : (k : ℕ) (lengths : List ℕ) (some : Bool) → k < no_chain → some ≡ list_any (λ length. eqb length k) lengths
         → not some ≡ true → Known pairs marks from failed k lengths → LengthsFound pairs marks from failed before true lengths
-    none_further k lengths some low none not_so known =
+    none_further k lengths some low some-is not_so known =
         found k lengths known
-        (none_by_value pairs marks from failed serves.begins k lengths (λ e. omega arith) (none (not-true some not_so)) known)
-
--- a value sought from the first node on
-pub none_next : (lengths : List ℕ) (value i m : ℕ) → m ≡ suc i → ((place : ℕ) → place < i → at lengths place ≢ value) → at lengths i ≢ value
-    → (place : ℕ) → place < m → at lengths place ≢ value
-none_next lengths value i m next before here place below =
-    by_cases (dec_lt place i) (before place) (λ not-before e. here (ap (at lengths) {x = i} {y = place} (omega arith) ∙ e))
-
-pub none_at_all : (lengths : List ℕ) (value i : ℕ) → length lengths ≤ i → ((place : ℕ) → place < i → at lengths place ≢ value) → NoneHasLength lengths value
-none_at_all lengths value i all before place below = before place (omega arith)
+        (none_by_value pairs marks from failed serves.begins k lengths (λ e. omega arith)
+        (none_at_all k lengths (sym some-is ∙ not-true some not_so)) known)

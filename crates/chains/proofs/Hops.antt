@@ -15,8 +15,7 @@ use lib.ListN.{length, length-map}
 use Rattle.octets.specs.Numbers.{flag}
 use Rattle.octets.specs.Octets.{at}
 use Rattle.chains.specs.Reach.{is_delivered, is_missed, missed, least_from, least_hop, AllDelivered, OutOfReach}
-use Rattle.chains.specs.declared.Least.{Least}
-use Rattle.chains.specs.declared.Least.TheVariants.{HopLimit, Unreachable}
+use Rattle.std.specs.Prelude.{Option, Some, None}
 
 -- one node
 one_delivered : (h value : ℕ) → flag (is_missed h value) ≡ 0 → 0 < value → is_delivered h value ≡ true
@@ -133,19 +132,19 @@ counted h (value ∷ lengths) = go (is_missed h value) refl (counted h lengths)
 
 module _ (lengths : List ℕ) where
   -- of so many hop limits from one on
-  least_from_lem : (more from h : ℕ) → least_from lengths from more ≡ HopLimit h
+  least_from_lem : (more from h : ℕ) → least_from lengths from more ≡ Some h
       → (from ≤ h) × (h < from + more) × (missed h lengths ≡ 0) × ((less : ℕ) → from ≤ less → less < h → missed less lengths ≢ 0)
   unfolding least_from
   least_from_lem zero from h is = let w : ◌≡◌ {A = ℕ} 0 1 = cc in absurd (omega (arith, w))
   least_from_lem (suc more) from h is = go (eqb (missed from lengths) 0) refl (least_from_lem more (from + 1) h) is
     where
-      same_hop : (a b : ℕ) → HopLimit a ≡ HopLimit b → a ≡ b
+      same_hop : (a b : ℕ) → Some a ≡ Some b → a ≡ b
       same_hop a b e = cc
 
       go : (t : Bool) → eqb (missed from lengths) 0 ≡ t
-          → (least_from lengths (from + 1) more ≡ HopLimit h
+          → (least_from lengths (from + 1) more ≡ Some h
           → (from + 1 ≤ h) × (h < from + 1 + more) × (missed h lengths ≡ 0) × ((less : ℕ) → from + 1 ≤ less → less < h → missed less lengths ≢ 0))
-          → cond t (HopLimit from) (least_from lengths (from + 1) more) ≡ HopLimit h
+          → cond t (Some from) (least_from lengths (from + 1) more) ≡ Some h
           → (from ≤ h) × (h < from + suc more) × (missed h lengths ≡ 0) × ((less : ℕ) → from ≤ less → less < h → missed less lengths ≢ 0)
       go true e below k =
           let same = same_hop from h k in (
@@ -164,47 +163,47 @@ module _ (lengths : List ℕ) where
                 (λ ne. some less (omega arith) under),
           )
 
-  none_from : (more from : ℕ) → least_from lengths from more ≡ Unreachable → (h : ℕ) → from ≤ h → h < from + more → missed h lengths ≢ 0
+  none_from : (more from : ℕ) → least_from lengths from more ≡ None → (h : ℕ) → from ≤ h → h < from + more → missed h lengths ≢ 0
   unfolding least_from
   none_from zero from is h low high = absurd (omega arith)
   none_from (suc more) from is h low high = go (eqb (missed from lengths) 0) refl (none_from more (from + 1)) is
     where
       go : (t : Bool) → eqb (missed from lengths) 0 ≡ t
-          → (least_from lengths (from + 1) more ≡ Unreachable → (h : ℕ) → from + 1 ≤ h → h < from + 1 + more → missed h lengths ≢ 0)
-          → cond t (HopLimit from) (least_from lengths (from + 1) more) ≡ Unreachable → missed h lengths ≢ 0
+          → (least_from lengths (from + 1) more ≡ None → (h : ℕ) → from + 1 ≤ h → h < from + 1 + more → missed h lengths ≢ 0)
+          → cond t (Some from) (least_from lengths (from + 1) more) ≡ None → missed h lengths ≢ 0
       go true e below k = let w : ◌≡◌ {A = ℕ} 0 1 = cc in absurd (omega (arith, w))
       go false e below k =
           by_cases (ℕ_discrete h from)
           (λ is z. eqb-false (missed from lengths) 0 e (ap (λ (x : ℕ). missed x lengths) (sym is) ∙ z))
           (λ ne. below k h (omega arith) (omega arith))
 
-  pub least : (h : ℕ) → least_hop lengths ≡ HopLimit h
+  pub least : (h : ℕ) → least_hop lengths ≡ Some h
       → (h ≤ 7) × AllDelivered h lengths × ((less : ℕ) → less < h → ¬ AllDelivered less lengths)
   unfolding least_hop
   least h is =
       let (low, high, all, some) = least_from_lem 8 0 h is in
       (omega arith, none_missed h lengths all, λ less under delivered. some less (omega arith) under (all_delivered less lengths delivered))
 
-  pub unreachable : least_hop lengths ≡ Unreachable → (h : ℕ) → h ≤ 7 → ¬ AllDelivered h lengths
+  pub unreachable : least_hop lengths ≡ None → (h : ℕ) → h ≤ 7 → ¬ AllDelivered h lengths
   unfolding least_hop
   unreachable is h small delivered = none_from 8 0 is h (omega arith) (omega arith) (all_delivered h lengths delivered)
 
-  pub least_only : (h : ℕ) → h ≤ 7 → AllDelivered h lengths → ((less : ℕ) → less < h → ¬ AllDelivered less lengths) → least_hop lengths ≡ HopLimit h
+  pub least_only : (h : ℕ) → h ≤ 7 → AllDelivered h lengths → ((less : ℕ) → less < h → ¬ AllDelivered less lengths) → least_hop lengths ≡ Some h
   least_only h small all some = go (least_hop lengths) refl
     where
-      go : (told : Least) → least_hop lengths ≡ told → told ≡ HopLimit h
-      go Unreachable is = absurd (unreachable is h small all)
-      go (HopLimit k) is =
+      go : (told : Option ℕ) → least_hop lengths ≡ told → told ≡ Some h
+      go None is = absurd (unreachable is h small all)
+      go (Some k) is =
           let (k-small, k-all, k-some) = least k is in
           by_cases (dec_lt k h)
           (λ less. absurd (some k less k-all))
           (λ not-less. by_cases (dec_lt h k)
           (λ more. absurd (k-some h more all))
-          (λ not_more. let same : k ≡ h = omega arith in ap HopLimit same))
+          (λ not_more. let same : k ≡ h = omega arith in ap Some same))
 
-  pub unreachable_only : ((h : ℕ) → h ≤ 7 → ¬ AllDelivered h lengths) → least_hop lengths ≡ Unreachable
+  pub unreachable_only : ((h : ℕ) → h ≤ 7 → ¬ AllDelivered h lengths) → least_hop lengths ≡ None
   unreachable_only never = go (least_hop lengths) refl
     where
-      go : (told : Least) → least_hop lengths ≡ told → told ≡ Unreachable
-      go Unreachable is = refl
-      go (HopLimit h) is = let (small, all, some) = least h is in absurd (never h small all)
+      go : (told : Option ℕ) → least_hop lengths ≡ told → told ≡ None
+      go None is = refl
+      go (Some h) is = let (small, all, some) = least h is in absurd (never h small all)

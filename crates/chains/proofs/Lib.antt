@@ -1,4 +1,3 @@
-pub mod Bytes
 pub mod Steps
 pub mod Fewer
 pub mod Hearings

@@ -14,10 +14,18 @@ use Rattle.octets.specs.Octets.{at}
 use Rattle.octets.proofs.Tests.{both}
 use Rattle.chains.specs.Chains.{Chain, Shortest, Beyond}
 use Rattle.chains.specs.Lengths.{is_heard, places_of_nodes, no_chain, is_usable, usable_hearing, IsLength}
-use Rattle.chains.specs.Rounds.{before_rounds, has_length, noted, after_round, NoneHasLength}
+use Rattle.chains.specs.Rounds.{has_length, noted, after_round}
 use Rattle.chains.proofs.Steps.{chain_none, chain_is_none, chain_next, chain_last, chain_known, shortest_before, shortest_one}
 use Rattle.chains.proofs.Hearings.{later, first_heard, rest_heard, relayed_parts, relayed}
 use Rattle.chains.proofs.Fewer.{in_places, below_places, shortest_below}
+
+-- before the first round: the originator's chain of no hearings, and none of any other node
+abbrev pub before_rounds : ℕ → ℕ → List ℕ
+before_rounds n from = set (replicate n no_chain) from 0
+
+-- no node has that length: after round k, of k + 1, the rounds are over
+abbrev pub NoneHasLength : List ℕ → ℕ → Type 0
+NoneHasLength lengths value = (place : ℕ) → place < length lengths → at lengths place ≢ value
 
 pub told_is : (lengths : List ℕ) (place value : ℕ) → has_length lengths place value ≡ true → (place < length lengths) × (at lengths place ≡ value)
 unfolding has_length
@@ -207,7 +215,6 @@ module _ (pairs marks : List ℕ) (from failed : ℕ) where
       known_next k (after_round usable k pairs lengths) (round begins k pairs lengths few (λ s t h. h) (during_first k lengths (omega (arith, few)) known))
 
   pub known_first : from < n → Known 0 (before_rounds n from)
-  unfolding before_rounds
   known_first begins =
       let none = replicate n no_chain in
       let from_at : from < length none = omega (arith, begins, length-replicate n no_chain) in

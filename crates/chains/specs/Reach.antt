@@ -1,11 +1,9 @@
 -- What the shortest chains say of a report's reach (document 02, W-208), over the lengths found. Assumes nothing.
-use Rattle.std.specs.Prelude.{◌≡◌, Bool, true, false, not, cond, ◌&&◌, ◌||◌, ℕ, zero, suc, ◌+◌, ◌<◌, eqb, ltb, leb, length}
+use Rattle.std.specs.Prelude.{◌≡◌, Bool, true, false, not, cond, ◌&&◌, ◌||◌, ℕ, zero, suc, ◌+◌, ◌<◌, eqb, ltb, leb, length, Option, Some, None}
 use mathlib.Core.List.{List, [], ◌∷◌, Memᴰ, Nodup}
 use Rattle.octets.specs.Numbers.{flag}
 use Rattle.octets.specs.Octets.{at}
 use Rattle.chains.specs.Lengths.{no_chain}
-use Rattle.chains.specs.declared.Least.{Least}
-use Rattle.chains.specs.declared.Least.TheVariants.{HopLimit, Unreachable}
 
 -- whether a node that lets the message in is delivered it at hop limit h, from 0 to 7: its shortest chain has 1 to h + 1 hearings, or any number at 7,
 -- which is never lowered; the originator's has none
@@ -22,12 +20,12 @@ missed h [] = 0
 missed h (value ∷ values) = flag (is_missed h value) + missed h values
 
 -- the first hop limit from h on, of so many, at which none is
-unfoldable pub least_from : List ℕ → ℕ → ℕ → Least
-least_from values h zero = Unreachable
-least_from values h (suc more) = cond (eqb (missed h values) 0) (HopLimit h) (least_from values (h + 1) more)
+unfoldable pub least_from : List ℕ → ℕ → ℕ → Option ℕ
+least_from values h zero = None
+least_from values h (suc more) = cond (eqb (missed h values) 0) (Some h) (least_from values (h + 1) more)
 
--- the least hop limit of 0 to 7 that reaches all nodes
-unfoldable pub least_hop : List ℕ → Least
+-- the least hop limit of 0 to 7 that reaches all nodes, if one does
+unfoldable pub least_hop : List ℕ → Option ℕ
 least_hop values = least_from values 0 8
 
 -- by the lengths found, all nodes but the originator, whose value is 0, are delivered a report with that hop limit, from 0 to 7

@@ -1,11 +1,7 @@
 -- How the lengths are found: round k gives a length to the nodes that hear one at the end of a shortest chain of k hearings. Assumes nothing.
-use Rattle.std.specs.Prelude.{Bool, cond, ◌&&◌, List, [], ◌∷◌, ◌≢◌, ℕ, ◌+◌, ◌<◌, eqb, ltb, length, set, replicate}
+use Rattle.std.specs.Prelude.{Bool, cond, ◌&&◌, List, [], ◌∷◌, ℕ, ◌+◌, eqb, ltb, length, set}
 use Rattle.octets.specs.Octets.{at}
 use Rattle.chains.specs.Lengths.{no_chain}
-
--- before the first round: the originator's chain of no hearings, and none of any other node
-unfoldable pub before_rounds : ℕ → ℕ → List ℕ
-before_rounds n from = set (replicate n no_chain) from 0
 
 -- whether a place is that of a node with that length
 unfoldable pub has_length : List ℕ → ℕ → ℕ → Bool
@@ -22,7 +18,3 @@ module _ (usable : ℕ → ℕ → Bool) (k : ℕ) where
   after_round [] lengths = lengths
   after_round (last ∷ []) lengths = lengths
   after_round (sender ∷ node ∷ pairs) lengths = after_round pairs (noted sender node lengths)
-
--- no node has that length: after round k, of k + 1, the rounds are over
-abbrev pub NoneHasLength : List ℕ → ℕ → Type 0
-NoneHasLength lengths value = (place : ℕ) → place < length lengths → at lengths place ≢ value

@@ -2,7 +2,9 @@
 -- Assumes nothing.
 use mathlib.Core.Path.{◌≡◌, refl, sym, ap, ap₂, ◌∙◌}
 use mathlib.Core.List.{List, [], ◌∷◌, ◌++◌, append_assoc, append-nil}
-use Prim.Native.Nat.{ℕ, suc, ◌+◌, ◌-◌, ◌/◌, ◌%◌, ◌≤◌, ◌<◌, suc-le-suc}
+use mathlib.Core.Logic.{by_cases}
+use Prim.Native.Nat.{ℕ, suc, ◌+◌, ◌-◌, ◌/◌, ◌%◌, ◌≤◌, ◌<◌, min, suc-le-suc}
+use native.Mathlib.Decide.{dec_lt}
 use native.Mathlib.Nat.{add-zero, add-suc, suc-add, zero-lt-suc}
 use native.Mathlib.Numerals.{add-one}
 use native.Mathlib.Omega.{arith}
@@ -86,20 +88,19 @@ module _ (s : ℕ → ℕ) (i k : ℕ) (d : List ℕ) {e : List ℕ} (p : e ≡ 
   pub kept : length e ≡ length d
   kept = ap length p ∙ length_through s i k d
 
-  pub through_past : (n : ℕ) → length e ≤ k → k ≤ n → e ≡ through s i n d
-  through_past n h g =
-      let l = kept in
-      p ∙ through_end s i k d (omega arith) ∙ sym (through_end s i n d (omega arith))
+  -- as many bytes as there are, and n at most
+  pub through_least : (n : ℕ) → k ≡ min (length d) n → e ≡ through s i n d
+  through_least n h =
+      by_cases (dec_lt k n)
+      (λ l. p ∙ through_end s i k d (omega (arith, h, l)) ∙ sym (through_end s i n d (omega (arith, h, l))))
+      (λ l.
+      let q : k ≡ n = omega (arith, h, l) in
+      p ∙ ap (λ (m : ℕ). through s i m d) q)
 
   pub through_all : length e ≤ k → e ≡ added s i d
   through_all h =
       let l = kept in
       p ∙ through_end s i k d (omega arith)
-
-  pub through_at : (n : ℕ) → n ≤ k → k ≤ n → e ≡ through s i n d
-  through_at n h g =
-      let q : k ≡ n = omega arith in
-      p ∙ ap (λ (m : ℕ). through s i m d) q
 
 -- count bytes more: the part from n on, with the stream t, which is s at their places, added from its place j on
 through_block :

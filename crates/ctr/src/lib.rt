@@ -9,23 +9,9 @@ ghost use Rattle.ctr.specs.Ctr.{counter_block, stream, added};
 fn counter_block(nonce: [u8; 5], j: usize) -> [u8; 16]
     ensures { result ≡ counter_block nonce j }
 {
+    let [j7, j6, j5, j4, j3, j2, j1, j0] = (j as u64).to_be_bytes();
     [
-        nonce[0],
-        nonce[1],
-        nonce[2],
-        nonce[3],
-        nonce[4],
-        0,
-        0,
-        0,
-        (j / 72057594037927936 % 256) as u8,
-        (j / 281474976710656 % 256) as u8,
-        (j / 1099511627776 % 256) as u8,
-        (j / 4294967296 % 256) as u8,
-        (j / 16777216 % 256) as u8,
-        (j / 65536 % 256) as u8,
-        (j / 256 % 256) as u8,
-        (j / 1 % 256) as u8,
+        nonce[0], nonce[1], nonce[2], nonce[3], nonce[4], 0, 0, 0, j7, j6, j5, j4, j3, j2, j1, j0,
     ]
 }
 
@@ -35,13 +21,9 @@ fn add_block(part: &mut [u8], block: [u8; 16], skipped: usize)
     ensures { part.new
         ≡ added (at block) skipped (take (16 - skipped) part.old) ++ drop (16 - skipped) part.old }
 {
-    let mut k: usize = 0;
-    while k < 16 - skipped {
-        if part.len() <= k {
-            return;
-        }
-        part[k] = part[k] ^ block[skipped + k];
-        k += 1;
+    let size = part.len().min(16 - skipped);
+    for k in 0..size {
+        part[k] ^= block[skipped + k];
     }
 }
 
@@ -50,6 +32,7 @@ pub fn add_stream(keys: &[u8; 176], nonce: [u8; 5], place: u32, bytes: &mut [u8]
     ensures { bytes.new ≡ added (stream keys.now nonce) place bytes.old }
 {
     let mut i: usize = 0;
+    // Kept: each step ends where a block of the key stream does, so the first one may be shorter. No range and no `chunks_mut` steps so.
     while i < bytes.len() {
         let at = place as usize + i;
         let block = aes::encipher(keys, counter_block(nonce, at / 16));

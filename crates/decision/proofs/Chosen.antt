@@ -1,11 +1,12 @@
 -- The list that is chosen, by its place among the eight.
-use Prim.Native.Nat.{ℕ, ◌+◌, ◌<◌}
-use native.Mathlib.Omega.{arith}
-use mathlib.Core.Bool.{false, not}
+use Prim.Native.Nat.{ℕ, ◌+◌}
+use mathlib.Core.Bool.{Bool, true, false, not, beq}
 use mathlib.Core.List.{List}
 use mathlib.Core.Logic.{◌⊎◌, inl, inr}
 use mathlib.Core.Option.{none}
 use mathlib.Core.Path.{◌≡◌, refl}
+use Rattle.std.specs.Prelude.{Option, Some, None}
+use Rattle.std.specs.Option.{option_eq}
 use Rattle.pdu.specs.declared.Destination.{Destination}
 use Rattle.pdu.specs.declared.Destination.TheVariants.{Everyone, Address}
 use Rattle.lists.specs.Lists.{ListPair, two, holds, list_in}
@@ -13,36 +14,35 @@ use Rattle.decision.specs.declared.Choice.{Choice}
 use Rattle.decision.specs.declared.Choice.TheVariants.{First, Second, Neither}
 use Rattle.decision.specs.Decision.{chosen, is_outside, is_in, destination_is_outside, destination_is_in}
 
--- the place of the list chosen, if the kind's first list has place `first`
-abbrev Placed : Choice → ℕ → ℕ → Type 0
-Placed choice first place = ((choice ≡ First) × (place ≡ first)) ⊎ ((choice ≡ Second) × (place ≡ first + 1)) ⊎ ((choice ≡ Neither) × (place ≡ 8))
+is_not : (x : Bool) → beq x false ≡ not x
+is_not true = refl
+is_not false = refl
+
+is_so : (x : Bool) → beq x true ≡ x
+is_so true = refl
+is_so false = refl
 
 module _ (block : List ℕ) (first address : ℕ) where
+  -- whether the list that is chosen holds the address, if the kind's first list has place `first`
+  abbrev Held : Choice → Option Bool → Type 0
+  Held choice held =
+      ((choice ≡ First) × (held ≡ Some (holds (list_in block first) address)))
+      ⊎ ((choice ≡ Second) × (held ≡ Some (holds (list_in block (first + 1)) address)))
+      ⊎ ((choice ≡ Neither) × (held ≡ None))
+
   abbrev pair : ListPair
   pair = two (list_in block first) (list_in block (first + 1))
 
-  none_chosen : (choice : Choice) (place : ℕ) → Placed choice first place → first < 7 → place ≡ 8 → choice ≡ Neither
-  none_chosen choice place (inl (e, at)) h past = absurd (omega arith)
-  none_chosen choice place (inr (inl (e, at))) h past = absurd (omega arith)
-  none_chosen choice place (inr (inr (e, at))) h past = e
+  pub held_outside : {choice : Choice} {held : Option Bool} → Held choice held
+      → option_eq beq held (Some false) ≡ is_outside (chosen choice pair) address
+  held_outside (inl (e, is)) = rw (e, is) (is_not _)
+  held_outside (inr (inl (e, is))) = rw (e, is) (is_not _)
+  held_outside (inr (inr (e, is))) = rw (e, is)
 
-  pub none_outside : (choice : Choice) (place : ℕ) → Placed choice first place → first < 7 → place ≡ 8 → false ≡ is_outside (chosen choice pair) address
-  none_outside choice place placed h past = rw (none_chosen choice place placed h past)
-
-  pub none_in : (choice : Choice) (place : ℕ) → Placed choice first place → first < 7 → place ≡ 8 → false ≡ is_in (chosen choice pair) address
-  none_in choice place placed h past = rw (none_chosen choice place placed h past)
-
-  pub chosen_outside : (choice : Choice) (place : ℕ) → Placed choice first place → (place ≡ 8 → ⊥)
-      → not (holds (list_in block place) address) ≡ is_outside (chosen choice pair) address
-  chosen_outside choice place (inl (e, at)) ne = rw (e, at)
-  chosen_outside choice place (inr (inl (e, at))) ne = rw (e, at)
-  chosen_outside choice place (inr (inr (e, at))) ne = absurd (ne at)
-
-  pub chosen_in : (choice : Choice) (place : ℕ) → Placed choice first place → (place ≡ 8 → ⊥)
-      → holds (list_in block place) address ≡ is_in (chosen choice pair) address
-  chosen_in choice place (inl (e, at)) ne = rw (e, at)
-  chosen_in choice place (inr (inl (e, at))) ne = rw (e, at)
-  chosen_in choice place (inr (inr (e, at))) ne = absurd (ne at)
+  pub held_in : {choice : Choice} {held : Option Bool} → Held choice held → option_eq beq held (Some true) ≡ is_in (chosen choice pair) address
+  held_in (inl (e, is)) = rw (e, is) (is_so _)
+  held_in (inr (inl (e, is))) = rw (e, is) (is_so _)
+  held_in (inr (inr (e, is))) = rw (e, is)
 
 -- a kind with none chosen stops no destination
 pub outside_none : (destination : Destination) → destination_is_outside none destination ≡ false

@@ -1,13 +1,12 @@
 // What decides on a PDU that was read, at one node: the numbers that drop it, that keep it from delivery and that keep it from being repeated.
 #![tactic(auto)]
 
-ghost use Rattle.std.specs.Prelude.{◌≡◌, ◌&&◌, ◌⊎◌, ◌+◌, ◌<◌, eqb};
+ghost use Rattle.std.specs.Prelude.{◌≡◌, ◌&&◌, ◌⊎◌, ◌+◌, ◌<◌, eqb, Some, None};
 ghost use Rattle.pdu.specs.declared.Header.{Header};
 ghost use Rattle.pdu.specs.Sizes.{path_limit};
-ghost use Rattle.lists.specs.Lists.{two, lists_in, list_in};
+ghost use Rattle.lists.specs.Lists.{holds, lists_in, list_in};
 ghost use Rattle.decision.specs.declared.Choice.TheVariants.{First, Second, Neither};
-ghost use Rattle.decision.specs.Decision.{node_of, chosen, is_outside, is_in, destination_is_in, destination_is_outside, is_for_own, is_for_another};
-ghost use Rattle.decision.specs.Decision.{is_echo, is_own_report, echo_fault, pass_fault, drop_fault, delivery_fault, repeat_fault};
+ghost use Rattle.decision.specs.Decision.{node_of, is_echo, is_own_report, echo_fault, pass_fault, drop_fault, delivery_fault, repeat_fault};
 
 use pdu::{Destination, Header};
 
@@ -36,118 +35,48 @@ pub struct Settings {
 fn is_echo(settings: Settings, header: Header, received: &[u8]) -> bool
     ensures { result ≡ is_echo settings header received.now }
 {
-    if settings.echo {
-        if header.path_bit {
-            return pdu::parts::path_has(received, header, settings.own);
-        }
-    }
-    false
+    settings.echo && header.path_bit && pdu::parts::path_has(received, header, settings.own)
 }
 
 fn is_own_report(settings: Settings, header: Header) -> bool
     ensures { result ≡ is_own_report settings header }
 {
-    let same = header.source == settings.own;
-    if settings.echo { same } else { false }
+    settings.echo && header.source == settings.own
 }
 
-// The place of the chosen list among the eight, if the kind's first list has place `first`; 8 if none is chosen.
-fn place_of(choice: Choice, first: usize) -> usize
+// Whether the list that is chosen holds an address; `None` where none is chosen. The kind's first list has place `first` among the eight.
+fn chosen_holds(choice: Choice, lists: &[u16], first: usize, address: u16) -> Option<bool>
     requires { first < 7 }
-    ensures { ((choice ≡ First) × (result ≡ first)) ⊎ ((choice ≡ Second) × (result ≡ first + 1)) ⊎ ((choice ≡ Neither) × (result ≡ 8)) }
+    ensures { ((choice ≡ First) × (result ≡ Some (holds (list_in lists.now first) address)))
+        ⊎ ((choice ≡ Second) × (result ≡ Some (holds (list_in lists.now (first + 1)) address)))
+        ⊎ ((choice ≡ Neither) × (result ≡ None)) }
 {
-    match choice {
+    let place = match choice {
         Choice::First => first,
         Choice::Second => first + 1,
-        Choice::Neither => lists::LISTS,
-    }
-}
-
-fn is_outside(choice: Choice, lists: &[u16], first: usize, address: u16) -> bool
-    requires { first < 7 }
-    ensures { result ≡ is_outside (chosen choice (two (list_in lists.now first) (list_in lists.now (first + 1)))) address }
-{
-    let place = place_of(choice, first);
-    if place == lists::LISTS {
-        return false;
-    }
-    !lists::has(&lists[..], place, address)
-}
-
-fn is_in(choice: Choice, lists: &[u16], first: usize, address: u16) -> bool
-    requires { first < 7 }
-    ensures { result ≡ is_in (chosen choice (two (list_in lists.now first) (list_in lists.now (first + 1)))) address }
-{
-    let place = place_of(choice, first);
-    if place == lists::LISTS {
-        return false;
-    }
-    lists::has(&lists[..], place, address)
-}
-
-fn destination_is_outside(
-    choice: Choice,
-    lists: &[u16],
-    first: usize,
-    destination: Destination,
-) -> bool
-    requires { first < 7 }
-    ensures { result ≡ destination_is_outside (chosen choice (two (list_in lists.now first) (list_in lists.now (first + 1))))
-        destination }
-{
-    match destination {
-        Destination::Everyone => false,
-        Destination::Address(address) => is_outside(choice, lists, first, address),
-    }
-}
-
-fn destination_is_in(choice: Choice, lists: &[u16], first: usize, destination: Destination) -> bool
-    requires { first < 7 }
-    ensures { result ≡ destination_is_in (chosen choice (two (list_in lists.now first) (list_in lists.now (first + 1)))) destination }
-{
-    match destination {
-        Destination::Everyone => false,
-        Destination::Address(address) => is_in(choice, lists, first, address),
-    }
-}
-
-fn is_for_own(own: u16, destination: Destination) -> bool
-    ensures { result ≡ is_for_own own destination }
-{
-    match destination {
-        Destination::Everyone => false,
-        Destination::Address(address) => address == own,
-    }
-}
-
-fn is_for_another(own: u16, destination: Destination) -> bool
-    ensures { result ≡ is_for_another own destination }
-{
-    match destination {
-        Destination::Everyone => false,
-        Destination::Address(address) => address != own,
-    }
+        Choice::Neither => return None,
+    };
+    Some(lists::has(lists, place, address))
 }
 
 // The numbers 31 to 34, or 0.
+// Kept: the five functions from here on return document 01's numbers, which the definitions, C and `relay` name.
 fn pass_fault(settings: Settings, lists: &[u16], header: Header) -> u8
     ensures { result ≡ pass_fault (node_of settings (lists_in lists.now)) header }
 {
-    let source_pass = settings.source_pass;
-    if is_outside(source_pass, lists, 0, header.source) {
+    if chosen_holds(settings.source_pass, lists, 0, header.source) == Some(false) {
         return 31;
     }
-    let source_reject = settings.source_reject;
-    if is_in(source_reject, lists, 2, header.source) {
+    if chosen_holds(settings.source_reject, lists, 2, header.source) == Some(true) {
         return 32;
     }
-    let destination = header.destination;
-    let destination_pass = settings.destination_pass;
-    if destination_is_outside(destination_pass, lists, 4, destination) {
+    let Destination::Address(destination) = header.destination else {
+        return 0;
+    };
+    if chosen_holds(settings.destination_pass, lists, 4, destination) == Some(false) {
         return 33;
     }
-    let destination_reject = settings.destination_reject;
-    if destination_is_in(destination_reject, lists, 6, destination) {
+    if chosen_holds(settings.destination_reject, lists, 6, destination) == Some(true) {
         return 34;
     }
     0
@@ -174,11 +103,11 @@ pub fn echo_fault(settings: Settings, header: Header, received: &[u8]) -> u8
 pub fn drop_fault(settings: Settings, lists: &[u16], header: Header, received: &[u8]) -> u8
     ensures { result ≡ drop_fault (node_of settings (lists_in lists.now)) header received.now }
 {
-    let echo = echo_fault(settings, header, &received[..]);
+    let echo = echo_fault(settings, header, received);
     if echo != 0 {
         return echo;
     }
-    pass_fault(settings, &lists[..], header)
+    pass_fault(settings, lists, header)
 }
 
 // The number that keeps a PDU's payload from being delivered: 39 where it is for another address, then 35 with an added header, and 0 where it is
@@ -186,11 +115,11 @@ pub fn drop_fault(settings: Settings, lists: &[u16], header: Header, received: &
 pub fn delivery_fault(settings: Settings, header: Header) -> u8
     ensures { result ≡ delivery_fault settings header }
 {
-    let destination = header.destination;
-    if is_for_another(settings.own, destination) {
-        return 39;
+    match header.destination {
+        Destination::Address(address) if address != settings.own => 39,
+        _ if header.added_header => 35,
+        _ => 0,
     }
-    if header.added_header { 35 } else { 0 }
 }
 
 // The number that keeps a PDU from being repeated: 41 where this node is the destination, then 36 with repeating off, 37 at hop limit 0 and 38 with a
@@ -198,25 +127,17 @@ pub fn delivery_fault(settings: Settings, header: Header) -> u8
 pub fn repeat_fault(settings: Settings, header: Header) -> u8
     ensures { result ≡ repeat_fault settings header }
 {
-    let destination = header.destination;
-    if is_for_own(settings.own, destination) {
-        return 41;
+    match header.destination {
+        Destination::Address(address) if address == settings.own => 41,
+        _ if !settings.repeating => 36,
+        _ if header.hop_limit == 0 => 37,
+        _ if path_is_full(header) => 38,
+        _ => 0,
     }
-    if !settings.repeating {
-        return 36;
-    }
-    if header.hop_limit == 0 {
-        return 37;
-    }
-    if path_is_full(header) { 38 } else { 0 }
 }
 
 fn path_is_full(header: Header) -> bool
     ensures { result ≡ (header.path_bit && eqb header.path_count path_limit) }
 {
-    if header.path_bit {
-        header.path_count as usize == Header::PATH_LIMIT
-    } else {
-        false
-    }
+    header.path_bit && usize::from(header.path_count) == Header::PATH_LIMIT
 }

@@ -6,11 +6,11 @@ use mathlib.Core.Bool.{Bool, true, false, cond}
 use mathlib.Core.List.{List}
 use mathlib.Core.Path.{◌≡◌, refl, ap, sym, ◌∙◌}
 use lib.Dec.{eqb}
+use Rattle.std.specs.Prelude.{Result, Ok, Err}
 use Rattle.octets.specs.Numbers.{flag}
 use Rattle.octets.specs.Octets.{at}
+use Rattle.pdu.specs.declared.Refusal.{Refusal}
 use Rattle.pdu.specs.declared.Header.{Header}
-use Rattle.pdu.specs.declared.Reading.{Reading}
-use Rattle.pdu.specs.declared.Reading.TheVariants as wire-reading
 use Rattle.pdu.specs.Header.{is_set, encrypted_bit, reserved, header_of}
 use Rattle.pdu.specs.Reading.{read_of, reading_number}
 use Rattle.pdu.proofs.Inversion.{shown}
@@ -19,11 +19,10 @@ use Rattle.pdu.proofs.Showing.{flag_is_set}
 use Rattle.editions.specs.declared.Bits.{Bits}
 use Rattle.editions.specs.declared.Bits.TheVariants.{Reserved, Flagged}
 use Rattle.editions.specs.declared.Shown.{Shown}
-use Rattle.editions.specs.declared.EditionReading.TheVariants.{Pdu, Refused}
 use Rattle.editions.specs.Editions.{known, bits_under, shown_with, showing, read_under, encrypted_of, reserved_of, wire_of}
 
 module _ (edition : ℕ) (bytes : List ℕ) where
-  pub unknown_refused : known edition ≡ false → read_under edition bytes ≡ Refused 17
+  pub unknown_refused : known edition ≡ false → read_under edition bytes ≡ Err 17
   unfolding read_under
   unknown_refused e = rw e
 
@@ -32,15 +31,15 @@ module _ (edition : ℕ) (bytes : List ℕ) where
   known_shows e = rw e
 
   pub wire_refused : known edition ≡ true → {number : ℕ} → number ≡ reading_number (read_of bytes) → (number ≡ 0 → ⊥)
-      → Refused number ≡ read_under edition bytes
+      → Err number ≡ read_under edition bytes
   wire_refused e {number} same some = go (read_of bytes) same ∙ sym (known_shows e)
     where
-      go : (reading : Reading) → number ≡ reading_number reading → Refused number ≡ showing edition bytes reading
-      go (wire-reading.Pdu header) same = absurd (some same)
-      go (wire-reading.Refused refusal) same = ap Refused same
+      go : (reading : Result Header Refusal) → number ≡ reading_number reading → Err number ≡ showing edition bytes reading
+      go (Ok header) same = absurd (some same)
+      go (Err refusal) same = ap Err same
 
   pub pdu_shown : known edition ≡ true → reading_number (read_of bytes) ≡ 0
-      → Pdu (shown_with (bits_under edition (at bytes 1)) (header_of bytes)) ≡ read_under edition bytes
+      → Ok (shown_with (bits_under edition (at bytes 1)) (header_of bytes)) ≡ read_under edition bytes
   pdu_shown e none = sym (known_shows e ∙ ap (showing edition bytes) (read_0 bytes none))
 
 -- the wire's two fields, out of the three bits as either edition shows them
@@ -86,27 +85,27 @@ bits_of_wire edition bytes =
 -- where an edition shows a PDU, it is known and the wire says one
 pub record Seen (edition : ℕ) (bytes : List ℕ) (seen : Shown) : Type 0 where
   pub named : known edition ≡ true
-  pub reads : read_of bytes ≡ wire-reading.Pdu (header_of bytes)
+  pub reads : read_of bytes ≡ Ok (header_of bytes)
   pub is : seen ≡ shown_with (bits_under edition (at bytes 1)) (header_of bytes)
 
-same_shown : (a b : Shown) → Pdu a ≡ Pdu b → a ≡ b
+same_shown : (a b : Shown) → ◌≡◌ {A = Result Shown ℕ} (Ok a) (Ok b) → a ≡ b
 same_shown a b e = cc
 
-pub seen_by : (edition : ℕ) (bytes : List ℕ) (seen : Shown) → read_under edition bytes ≡ Pdu seen → Seen edition bytes seen
+pub seen_by : (edition : ℕ) (bytes : List ℕ) (seen : Shown) → read_under edition bytes ≡ Ok seen → Seen edition bytes seen
 seen_by edition bytes seen is = by (known edition) refl
   where
-    of : known edition ≡ true → (reading : Reading) → read_of bytes ≡ reading → showing edition bytes reading ≡ Pdu seen → Seen edition bytes seen
-    of named (wire-reading.Refused refusal) reads shows = let z : ◌≡◌ {A = ℕ} 0 1 = cc in absurd (omega arith)
-    of named (wire-reading.Pdu header) reads shows =
+    of : known edition ≡ true → (reading : Result Header Refusal) → read_of bytes ≡ reading → showing edition bytes reading ≡ Ok seen → Seen edition bytes seen
+    of named (Err refusal) reads shows = let z : ◌≡◌ {A = ℕ} 0 1 = cc in absurd (omega arith)
+    of named (Ok header) reads shows =
         let header_is = (shown bytes header reads).is in
         record {
           named = named;
-          reads = reads ∙ ap wire-reading.Pdu header_is;
+          reads = reads ∙ ap Ok header_is;
           is = sym (same_shown _ _ shows) ∙ ap (shown_with (bits_under edition (at bytes 1))) header_is;
         }
 
     by : (named : Bool) → known edition ≡ named → Seen edition bytes seen
     by true e = of e (read_of bytes) refl (sym (known_shows edition bytes e) ∙ is)
     by false e =
-        let never : Refused 17 ≡ Pdu seen = sym (unknown_refused edition bytes e) ∙ is in
+        let never : ◌≡◌ {A = Result Shown ℕ} (Err 17) (Ok seen) = sym (unknown_refused edition bytes e) ∙ is in
         let z : ◌≡◌ {A = ℕ} 0 1 = cc in absurd (omega arith)

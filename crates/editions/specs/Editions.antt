@@ -1,9 +1,8 @@
 -- Document 02, W-209: the editions, what each shows of a PDU, and a PDU written again from what is shown.
-use Rattle.std.specs.Prelude.{ℕ, ◌/◌, ◌%◌, Bool, cond, ◌||◌, List, eqb}
+use Rattle.std.specs.Prelude.{ℕ, ◌/◌, ◌%◌, Bool, cond, ◌||◌, List, eqb, Result, Ok, Err}
 use Rattle.octets.specs.Octets.{at}
+use Rattle.pdu.specs.declared.Refusal.{Refusal}
 use Rattle.pdu.specs.declared.Header.{Header}
-use Rattle.pdu.specs.declared.Reading.{Reading}
-use Rattle.pdu.specs.declared.Reading.TheVariants as wire-reading
 use Rattle.pdu.specs.declared.Written.{Written}
 use Rattle.pdu.specs.Header.{is_set, encrypted_bit, reserved}
 use Rattle.pdu.specs.Reading.{refusal_number, read_of}
@@ -11,8 +10,6 @@ use Rattle.writing.specs.Writing.{written_of, output_of}
 use Rattle.editions.specs.declared.Bits.{Bits}
 use Rattle.editions.specs.declared.Bits.TheVariants.{Reserved, Flagged}
 use Rattle.editions.specs.declared.Shown.{Shown}
-use Rattle.editions.specs.declared.EditionReading.{EditionReading}
-use Rattle.editions.specs.declared.EditionReading.TheVariants.{Pdu, Refused}
 
 -- the number of edition 1.1 is 11, of 1.2 is 12; no other names an edition
 abbrev pub known : ℕ → Bool
@@ -43,18 +40,18 @@ shown_with bits header =
     }
 
 -- what an edition shows of what the wire says; 1 to 6 are the wire's
-abbrev pub showing : ℕ → List ℕ → Reading → EditionReading
-showing edition bytes (wire-reading.Pdu header) = Pdu (shown_with (bits_under edition (at bytes 1)) header)
-showing edition bytes (wire-reading.Refused refusal) = Refused (refusal_number refusal)
+abbrev pub showing : ℕ → List ℕ → Result Header Refusal → Result Shown ℕ
+showing edition bytes (Ok header) = Ok (shown_with (bits_under edition (at bytes 1)) header)
+showing edition bytes (Err refusal) = Err (refusal_number refusal)
 
 -- reading under an edition: 17, before 1 to 6
-unfoldable pub read_under : ℕ → List ℕ → EditionReading
-read_under edition bytes = cond (known edition) (showing edition bytes (read_of bytes)) (Refused 17)
+unfoldable pub read_under : ℕ → List ℕ → Result Shown ℕ
+read_under edition bytes = cond (known edition) (showing edition bytes (read_of bytes)) (Err 17)
 
 -- the number of each case ("Numbers answered"): 0 where a PDU is shown, else the refusal's
-abbrev pub shown_number : EditionReading → ℕ
-shown_number (Pdu shown) = 0
-shown_number (Refused number) = number
+abbrev pub shown_number : Result Shown ℕ → ℕ
+shown_number (Ok shown) = 0
+shown_number (Err number) = number
 
 -- the wire's flag and reserved number that the three bits are
 abbrev pub encrypted_of : Bits → Bool
@@ -86,13 +83,13 @@ wire_of shown =
     }
 
 -- writing again from what was shown, for an output of so many bytes: the refusal of reading, then 14; and what is left in the output
-abbrev pub shown_written : EditionReading → ℕ → Written
-shown_written (Refused number) room = record { number = shown_number (Refused number); length = 0 }
-shown_written (Pdu shown) room = written_of (wire-reading.Pdu (wire_of shown)) room
+abbrev pub shown_written : Result Shown ℕ → ℕ → Written
+shown_written (Err number) room = record { number = shown_number (Err number); length = 0 }
+shown_written (Ok shown) room = written_of (Ok (wire_of shown)) room
 
-abbrev pub shown_output : EditionReading → List ℕ → List ℕ → List ℕ
-shown_output (Refused number) bytes output = output
-shown_output (Pdu shown) bytes output = output_of (wire-reading.Pdu (wire_of shown)) bytes output
+abbrev pub shown_output : Result Shown ℕ → List ℕ → List ℕ → List ℕ
+shown_output (Err number) bytes output = output
+shown_output (Ok shown) bytes output = output_of (Ok (wire_of shown)) bytes output
 
 unfoldable pub write_again_under : ℕ → List ℕ → ℕ → Written
 write_again_under edition bytes room = shown_written (read_under edition bytes) room

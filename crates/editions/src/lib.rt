@@ -32,18 +32,11 @@ pub struct Shown {
     pub path_count: u8,
 }
 
-// What reading under an edition shows: 17, then 1 to 6, where there is nothing to show. Only definitions use it: `view` returns a summary.
-#[derive(Clone, Copy)]
-pub enum EditionReading {
-    Pdu(Shown),
-    Refused(u8),
-}
-
 // Whether a number names an edition: 11 is 1.1 and 12 is 1.2. Document 02, W-209.
 pub fn is_known(edition: u64) -> bool
     ensures { result ≡ known edition }
 {
-    if edition == 11 { true } else { edition == 12 }
+    edition == 11 || edition == 12
 }
 
 // The three bits after the port as an edition shows them, by the byte that holds them; under any number but 11 as 1.2 does.
@@ -61,6 +54,7 @@ pub fn bits_under(edition: u64, byte1: u8) -> Bits
     }
 }
 
+// Kept: `..header` copies fields between values of one type, and a header is of another.
 // A header as it is shown with these bits in place of the wire's flag and reserved number. Document 02, W-209.
 pub fn shown_with(bits: Bits, header: Header) -> Shown
     ensures { result ≡ shown_with bits header }

@@ -11,13 +11,19 @@ use borrow.Author.Tests.{lt-ltb, le-ltb, ltb-true, ltb-false, eq-eqb, ne_eqb, eq
 use Rattle.octets.specs.Numbers.{◌gives◌, ◌or_else◌}
 use Rattle.octets.specs.Octets.{at}
 use Rattle.octets.proofs.Numbering.{gives_here, gives_later, gives_zero, or_else_first, or_else_later, or_else_zero}
-use Rattle.elements.specs.declared.Only.{Only}
-use Rattle.elements.specs.declared.Only.TheVariants.{Once, Not}
+use Rattle.elements.specs.declared.ElementFault.{ElementFault}
+use Rattle.elements.specs.declared.ElementFault.TheVariants.{Cut, TooDeep}
+use Rattle.std.specs.Prelude.{Option, Some, None}
 use Rattle.elements.specs.declared.Pair.{Pair}
 use Rattle.elements.specs.declared.Occurrences.{Occurrences}
 use Rattle.elements.specs.declared.Occurrences.TheVariants.{Never, Again}
 use Rattle.elements.specs.Elements.{number_size, type_at, value_place, element_end, beginnings, elements_in, is_run, of_type, first_of, element_fault, run_fault}
-use Rattle.elements.specs.Finding.{only_one, pair_from, with_occurrence, only_occurrence}
+use Rattle.elements.specs.Finding.{element_fault_number, only_one, pair_from, with_occurrence, only_occurrence}
+
+-- what is wrong has a number that is not 0
+pub refusal_some : (refusal : ElementFault) → element_fault_number refusal ≡ 0 → ⊥
+refusal_some Cut e = omega (arith, e)
+refusal_some TooDeep e = omega (arith, e)
 
 pub size_least : (bytes : List ℕ) (place : ℕ) → 1 ≤ number_size bytes place
 unfolding number_size
@@ -205,14 +211,14 @@ module _ (bytes : List ℕ) (end type : ℕ) where
       let other : type_at bytes place ≡ type → ⊥ = λ q. eqb-false kind type (sym t) (k ∙ q) in
       rw (l, n, sought_next bytes end type place (element_end bytes place) h other refl)
 
-  pub met_all_lem : (start place : ℕ) (met : Occurrences) (found : Only) → end ≤ place → met_from Never start ≡ met_from met place → found ≡ only_occurrence met
+  pub met_all_lem : (start place : ℕ) (met : Occurrences) (found : Option ℕ) → end ≤ place → met_from Never start ≡ met_from met place → found ≡ only_occurrence met
       → found ≡ only_one (of_type type bytes (elements_in bytes start end))
   unfolding met_from met_all sought
   met_all_lem start place met found h e f =
       let here : met_all Never (sought bytes end type start) ≡ met = e ∙ rw (sought_none bytes end type place h) in
       f ∙ ap only_occurrence (sym here) ∙ met_once (sought bytes end type start)
 
-pub pair_is : (bytes : List ℕ) (place type other : ℕ) (a b : Only) → a ≡ only_one (of_type type bytes (elements_in bytes place (length bytes)))
+pub pair_is : (bytes : List ℕ) (place type other : ℕ) (a b : Option ℕ) → a ≡ only_one (of_type type bytes (elements_in bytes place (length bytes)))
     → b ≡ only_one (of_type other bytes (elements_in bytes place (length bytes)))
     → ◌≡◌ {A = Pair} (record { first = a; second = b }) (pair_from bytes place type other)
 pair_is bytes place type other a b e f = λ i. record { first = e i; second = f i }
@@ -225,12 +231,12 @@ module _ (bytes : List ℕ) (place type other : ℕ) (pair : Pair) (e : pair ≡
   second_found = ap (λ (p : Pair). p.second) e
 
 -- a list that has one place, or not, by the answer
-pub once_is : (places : List ℕ) (place : ℕ) → only_one places ≡ Once place → (length places ≡ 1) × (at places 0 ≡ place)
+pub once_is : (places : List ℕ) (place : ℕ) → only_one places ≡ Some place → (length places ≡ 1) × (at places 0 ≡ place)
 once_is [] place e = let z : ◌≡◌ {A = ℕ} 0 1 = cc in absurd (omega arith)
 once_is (p ∷ []) place e = (refl, cc)
 once_is (p ∷ q ∷ places) place e = let z : ◌≡◌ {A = ℕ} 0 1 = cc in absurd (omega arith)
 
-pub once_not : (places : List ℕ) → only_one places ≡ Not → length places ≡ 1 → ⊥
+pub once_not : (places : List ℕ) → only_one places ≡ None → length places ≡ 1 → ⊥
 once_not [] e l = omega arith
 once_not (p ∷ []) e l = let z : ◌≡◌ {A = ℕ} 0 1 = cc in omega arith
 once_not (p ∷ q ∷ places) e l = omega arith

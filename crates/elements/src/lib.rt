@@ -1,9 +1,9 @@
 // Binary type-length-value elements: runs of them judged, and the only elements of two types sought in a run.
 #![tactic(auto)]
 
-ghost use Rattle.std.specs.Prelude.{◌≡◌, ◌+◌, ◌<◌, ◌≤◌, length};
+ghost use Rattle.std.specs.Prelude.{◌≡◌, ◌+◌, ◌<◌, ◌≤◌, length, IfOk};
 ghost use Rattle.elements.specs.Elements.{number_at, number_size, type_at, value_place, element_end, is_run, element_fault, level_limit, run_fault};
-ghost use Rattle.elements.specs.Finding.{head_at, with_occurrence, only_occurrence, pair_from};
+ghost use Rattle.elements.specs.Finding.{fault_number, head_at, with_occurrence, only_occurrence, pair_from};
 ghost use Rattle.elements.specs.Walking.{cut_element, element_of};
 
 // The first bytes of an element: its type, where its value begins, and where it ends.
@@ -15,8 +15,9 @@ pub struct Head {
 }
 
 // An element that is whole, with 0: its type, where its value lies, and where it ends. With 57 every other field is 0.
+// Kept: C gets this struct by value, with its number.
 #[repr(C)]
-#[derive(Clone, Copy)]
+#[derive(Clone, Copy, Default)]
 pub struct Element {
     pub number: u8,
     pub type_number: u16,
@@ -25,18 +26,11 @@ pub struct Element {
     pub end: usize,
 }
 
-// Where the only element of a type begins, if there is exactly one.
-#[derive(Clone, Copy)]
-pub enum Only {
-    Once(usize),
-    Not,
-}
-
-// The only element of each of two types.
+// Where the only element of each of two types begins, if there is exactly one.
 #[derive(Clone, Copy)]
 pub struct Pair {
-    pub first: Only,
-    pub second: Only,
+    pub first: Option<usize>,
+    pub second: Option<usize>,
 }
 
 // A type or a length, and how many bytes it has.
@@ -46,14 +40,15 @@ struct Number {
     size: usize,
 }
 
-// What is wrong with an element, 57, 58 or 0, and where it ends.
-#[derive(Clone, Copy)]
-struct Judged {
-    number: u8,
-    end: usize,
+// What is wrong with an element: it does not end within its run, or it stands one level too deep.
+#[derive(Clone, Copy, Debug, PartialEq, Eq)]
+enum ElementFault {
+    Cut,
+    TooDeep,
 }
 
 // How often an element of a type was met, and where it began.
+// Kept: three cases with names; an `Option` in an `Option` would hide which of them is which.
 #[derive(Clone, Copy)]
 enum Occurrences {
     Never,
@@ -69,12 +64,12 @@ fn number_at(bytes: &[u8], place: usize) -> Number
     let first = octets::byte(bytes, place);
     if first < 128 {
         Number {
-            value: octets::byte_value(first),
+            value: usize::from(first),
             size: 1,
         }
     } else {
         Number {
-            value: octets::word_value(octets::word(bytes, place)) % 32768,
+            value: usize::from(octets::word(bytes, place)) % 32768,
             size: 2,
         }
     }
@@ -101,10 +96,7 @@ fn head_within(bytes: &[u8], place: usize) -> Head
 pub fn head_at(bytes: &[u8], place: usize) -> Head
     ensures { (result ≡ head_at bytes.now place) × (result.value_place ≤ result.end) × (result.type_number < 32768) }
 {
-    if bytes.len() < place {
-        return head_within(bytes, bytes.len());
-    }
-    head_within(bytes, place)
+    head_within(bytes, place.min(bytes.len()))
 }
 
 fn cut() -> Element
@@ -112,10 +104,7 @@ fn cut() -> Element
 {
     Element {
         number: 57,
-        type_number: 0,
-        value_place: 0,
-        value_length: 0,
-        end: 0,
+        ..Element::default()
     }
 }
 
@@ -140,68 +129,53 @@ pub fn element_at(bytes: &[u8], place: usize) -> Element
 const LEVEL_LIMIT: usize = 4;
 
 // The first fault of the bytes as a run of elements at level 1: 57, 58 or 0. Document 02, W-202, which of two faults is given.
+// Kept as a number: reading an exchange hands it on to C, and `run_fault` of specs/ gives it.
 pub fn fault(bytes: &[u8]) -> u8
     ensures { result ≡ run_fault level_limit bytes.now 0 (length bytes.now) }
 {
-    run_fault(bytes, 0, bytes.len(), LEVEL_LIMIT)
+    match run_fault(bytes, 0, bytes.len(), LEVEL_LIMIT) {
+        Ok(()) => 0,
+        Err(ElementFault::Cut) => 57,
+        Err(ElementFault::TooDeep) => 58,
+    }
 }
 
 #[cycle(judge_run_fault)]
-fn run_fault(bytes: &[u8], place: usize, end: usize, levels: usize) -> u8
+fn run_fault(bytes: &[u8], place: usize, end: usize, levels: usize) -> Result<(), ElementFault>
     requires { end ≤ length bytes.now }
-    ensures { result ≡ run_fault levels bytes.now place end }
+    ensures { fault_number result ≡ run_fault levels bytes.now place end }
 {
+    // Kept: the next element begins where this one ends, so there is no index to count.
     let mut next = place;
     while next < end {
-        let element = judge(bytes, next, end, levels);
-        if element.number != 0 {
-            return element.number;
-        }
-        next = element.end;
+        next = judge(bytes, next, end, levels)?;
     }
-    0
+    Ok(())
 }
 
 #[cycle(judge_run_fault)]
-fn judge(bytes: &[u8], place: usize, end: usize, levels: usize) -> Judged
+fn judge(bytes: &[u8], place: usize, end: usize, levels: usize) -> Result<usize, ElementFault>
     requires { (place < end) × (end ≤ length bytes.now) }
-    ensures { (result.number ≡ element_fault levels bytes.now end place) × (result.end ≡ element_end bytes.now place) }
+    ensures { (fault_number result ≡ element_fault levels bytes.now end place)
+        × IfOk result (λ next. next ≡ element_end bytes.now place) }
 {
     let head = head_within(bytes, place);
     if levels == 0 {
-        return Judged {
-            number: 58,
-            end: head.end,
-        };
+        return Err(ElementFault::TooDeep);
     }
     if end < head.end {
-        return Judged {
-            number: 57,
-            end: head.end,
-        };
+        return Err(ElementFault::Cut);
     }
     if is_run(head.type_number) {
-        return Judged {
-            number: run_fault(bytes, head.value_place, head.end, levels - 1),
-            end: head.end,
-        };
+        run_fault(bytes, head.value_place, head.end, levels - 1)?;
     }
-    Judged {
-        number: 0,
-        end: head.end,
-    }
+    Ok(head.end)
 }
 
 fn is_run(type_number: usize) -> bool
     ensures { result ≡ is_run type_number }
 {
-    if type_number == 10 {
-        return true;
-    }
-    if type_number == 11 {
-        return true;
-    }
-    type_number == 20
+    matches!(type_number, 10 | 11 | 20)
 }
 
 // The only element of each of two types among those that follow one another from a place up to the end. Document 02, W-202, "each exactly once".
@@ -211,6 +185,7 @@ pub fn pair_from(bytes: &[u8], place: usize, first_type: usize, second_type: usi
     let end = bytes.len();
     let mut first = Occurrences::Never;
     let mut second = Occurrences::Never;
+    // Kept: as in `run_fault`.
     let mut next = place;
     while next < end {
         let head = head_within(bytes, next);
@@ -237,12 +212,11 @@ fn add_occurrence(occurrences: Occurrences, is: bool, place: usize) -> Occurrenc
     }
 }
 
-fn only_occurrence(occurrences: Occurrences) -> Only
+fn only_occurrence(occurrences: Occurrences) -> Option<usize>
     ensures { result ≡ only_occurrence occurrences }
 {
     match occurrences {
-        Occurrences::Never => Only::Not,
-        Occurrences::Single(place) => Only::Once(place),
-        Occurrences::Again => Only::Not,
+        Occurrences::Single(place) => Some(place),
+        Occurrences::Never | Occurrences::Again => None,
     }
 }

@@ -8,7 +8,7 @@ use lib.ListN.{length, take, drop}
 use borrow.Author.Tests.{eq-eqb, ne_eqb}
 use Rattle.octets.specs.Octets.{at}
 use Rattle.octets.proofs.Numbering.{or_else_first, or_else_later, gives_here, gives_later}
-use Rattle.elements.specs.declared.Only.TheVariants.{Once, Not}
+use Rattle.std.specs.Prelude.{Some, None}
 use Rattle.elements.specs.declared.Head.{Head}
 use Rattle.elements.specs.Elements.{type_at, length_at, value_place, element_end, value_at, elements_in, of_type, run_fault}
 use Rattle.elements.specs.Finding.{head_at, only_one}
@@ -91,27 +91,27 @@ module _ (bytes : List ℕ) (inside : ℕ) (found : Opened bytes inside) where
   unfolding held
   among_held type = rw (found.begins, ← found.all)
 
-  once_held : (type place : ℕ) → only_one (among type) ≡ Once place → (length (held type bytes) ≡ 1) × (at (held type bytes) 0 ≡ place)
+  once_held : (type place : ℕ) → only_one (among type) ≡ Some place → (length (held type bytes) ≡ 1) × (at (held type bytes) 0 ≡ place)
   once_held type place o = once_is (held type bytes) place (rw (among_held type) at o)
 
-  not_held : (type : ℕ) → only_one (among type) ≡ Not → length (held type bytes) ≡ 1 → ⊥
+  not_held : (type : ℕ) → only_one (among type) ≡ None → length (held type bytes) ≡ 1 → ⊥
   not_held type o = once_not (held type bytes) (rw (among_held type) at o)
 
-  pub place_before : (type place : ℕ) → only_one (of_type type bytes (elements_in bytes inside (length bytes))) ≡ Once place → place ≤ length bytes
+  pub place_before : (type place : ℕ) → only_one (of_type type bytes (elements_in bytes inside (length bytes))) ≡ Some place → place ≤ length bytes
   place_before type place o =
       let one = once_is (among type) place o in
       let below = found_below bytes (length bytes) type inside (omega (arith, one.0)) in
       omega (arith, below, one.1)
 
-  pub no_header : only_one (of_type 1024 bytes (elements_in bytes inside (length bytes))) ≡ Not → refused_by 59 ≡ exchange_of bytes
+  pub no_header : only_one (of_type 1024 bytes (elements_in bytes inside (length bytes))) ≡ None → refused_by 59 ≡ exchange_of bytes
   unfolding is_exchange
   no_header o =
       let type = eq-eqb (type_at bytes 0) 20 found.outer in
       let end = eq-eqb (element_end bytes 0) (length bytes) found.all in
       not_exchange bytes 0 found.sound (λ i. 0) (rw (type, end, ne_eqb (length (held 1024 bytes)) 1 (not_held 1024 o)))
 
-  module _ (header : ℕ) (h : only_one (of_type 1024 bytes (elements_in bytes inside (length bytes))) ≡ Once header) where
-    pub no_payload : only_one (of_type 1025 bytes (elements_in bytes inside (length bytes))) ≡ Not → refused_by 59 ≡ exchange_of bytes
+  module _ (header : ℕ) (h : only_one (of_type 1024 bytes (elements_in bytes inside (length bytes))) ≡ Some header) where
+    pub no_payload : only_one (of_type 1025 bytes (elements_in bytes inside (length bytes))) ≡ None → refused_by 59 ≡ exchange_of bytes
     unfolding is_exchange
     no_payload o =
         let type = eq-eqb (type_at bytes 0) 20 found.outer in
@@ -119,7 +119,7 @@ module _ (bytes : List ℕ) (inside : ℕ) (found : Opened bytes inside) where
         let one = eq-eqb (length (held 1024 bytes)) 1 (once_held 1024 header h).0 in
         not_exchange bytes 0 found.sound (λ i. 0) (rw (type, end, one, ne_eqb (length (held 1025 bytes)) 1 (not_held 1025 o)))
 
-    module _ (payload : ℕ) (p : only_one (of_type 1025 bytes (elements_in bytes inside (length bytes))) ≡ Once payload) where
+    module _ (payload : ℕ) (p : only_one (of_type 1025 bytes (elements_in bytes inside (length bytes))) ≡ Some payload) where
       is_one : is_exchange bytes ≡ true
       unfolding is_exchange
       is_one =

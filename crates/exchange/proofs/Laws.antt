@@ -8,12 +8,12 @@ use lib.Dec.{eqb, ltb}
 use lib.ListN.{length, take, drop, length-append, length-drop}
 use lib.Seq.{take-add, length-take-le, take_at, drop_at, take_all}
 use borrow.Author.Tests.{ltb-true, ltb-false, eqb-true, not-false}
+use Rattle.std.specs.Prelude.{Ok}
 use Rattle.octets.specs.Octets.{at}
 use Rattle.octets.specs.Octets.{AllBytes}
 use Rattle.octets.proofs.Numbering.{or_else_zero, gives_zero}
 use Rattle.octets.proofs.Tests.{both, flag_small}
 use Rattle.pdu.specs.declared.Header.{Header}
-use Rattle.pdu.specs.declared.Reading.TheVariants.{Pdu}
 use Rattle.pdu.specs.Header.{is_set, protocol, path_bit, path_count_place, header_of}
 use Rattle.pdu.specs.Sizes.{header_length, pdu_length}
 use Rattle.pdu.specs.Reading.{read_of, reading_number}
@@ -84,7 +84,7 @@ exchange_long header payload h p =
     )
 
 -- a PDU at the start of bytes
-module _ (bytes : List ℕ) (header : Header) (small : AllBytes bytes) (read : read_of bytes ≡ Pdu header) where
+module _ (bytes : List ℕ) (header : Header) (small : AllBytes bytes) (read : read_of bytes ≡ Ok header) where
   is : header ≡ header_of bytes
   is = (shown bytes header read).is
 
@@ -113,7 +113,7 @@ module _ (bytes : List ℕ) (header : Header) (small : AllBytes bytes) (read : r
   few : length (element 1024 (take (header_length header) bytes) ++ element 1025 (payload_in header bytes)) < 32768
   few = omega (arith, (exchange_long (take (header_length header) bytes) (payload_in header bytes) header_few payload_few).0)
 
-  joined_read : read_of (take (header_length header) bytes ++ payload_in header bytes) ≡ Pdu header
+  joined_read : read_of (take (header_length header) bytes ++ payload_in header bytes) ≡ Ok header
   joined_read = rw (joined_is, ← append-nil (take (pdu_length header) bytes)) (front_reads bytes header read [])
 
   joined_header : header ≡ header_of (take (header_length header) bytes ++ payload_in header bytes)
@@ -122,8 +122,8 @@ module _ (bytes : List ℕ) (header : Header) (small : AllBytes bytes) (read : r
   joined_0 : joined_number (take (header_length header) bytes) (payload_in header bytes) ≡ 0
   joined_0 =
       sym
-      (is_joined (take (header_length header) bytes) (payload_in header bytes) 0 (header_length header) (pdu_length header)
-      (rw joined_read) refl
+      (is_joined (take (header_length header) bytes) (payload_in header bytes) (header_length header) (pdu_length header)
+      (joined_read ∙ ap Ok joined_header)
       (ap (λ (h : Header). header_length h) joined_header)
       (ap (λ (h : Header). pdu_length h) joined_header)
       (sym header_long)
@@ -166,7 +166,7 @@ module _ (x : List ℕ) (read : exchange_number x ≡ 0) where
       (eqb (pdu_length (header_of (header_part x ++ payload_part x))) (length (header_part x ++ payload_part x))) read_split.1).1
 
   -- it holds a PDU and nothing else
-  pub exchange_read : read_of (header_part x ++ payload_part x) ≡ Pdu (header_of (header_part x ++ payload_part x))
+  pub exchange_read : read_of (header_part x ++ payload_part x) ≡ Ok (header_of (header_part x ++ payload_part x))
   exchange_read = read_0 (header_part x ++ payload_part x) read_split.0
 
   -- and written again it is header first, then payload, whatever stood beside them and in whatever order and form
@@ -217,7 +217,7 @@ module _ (x : List ℕ) (read : exchange_number x ≡ 0) where
   payload_inside = whole 1025 tests.3
 
 -- one encoding of a PDU: bytes after it are no concern, and any exchange that holds it is written again as the same
-module _ (bytes : List ℕ) (header : Header) (small : AllBytes bytes) (read : read_of bytes ≡ Pdu header) where
+module _ (bytes : List ℕ) (header : Header) (small : AllBytes bytes) (read : read_of bytes ≡ Ok header) where
   encoding_prefix : encoding (take (header_length header) bytes ++ payload_in header bytes) ≡ encoding bytes
   encoding_prefix =
       let h = take (header_length header) bytes in

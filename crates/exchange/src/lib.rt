@@ -9,12 +9,12 @@ ghost use Rattle.split_pdu.specs.SplitPdu.{joined_number};
 ghost use Rattle.exchange.specs.Exchange.{refused_by, exchange_answer, exchange_of};
 ghost use Rattle.exchange.specs.Encoding.{exchange_bytes, room_number, written_by, output_by, written_exchange, exchange_output};
 
-use elements::Only;
 use pdu::Written;
 
 // What reading an exchange answers: 0 with place and length of header and payload in the input, or a refusal's number with zeros.
+// Kept: C gets this struct by value, with its number.
 #[repr(C)]
-#[derive(Clone, Copy)]
+#[derive(Clone, Copy, Default)]
 pub struct Exchange {
     pub number: u8,
     pub header_place: usize,
@@ -28,10 +28,7 @@ fn refused(number: u8) -> Exchange
 {
     Exchange {
         number,
-        header_place: 0,
-        header_length: 0,
-        payload_place: 0,
-        payload_length: 0,
+        ..Exchange::default()
     }
 }
 
@@ -44,22 +41,14 @@ pub fn read_exchange(bytes: &[u8]) -> Exchange
         return refused(number);
     }
     let outer = elements::head_at(bytes, 0);
-    if outer.type_number != 20 {
-        return refused(59);
-    }
-    if outer.end != bytes.len() {
+    if outer.type_number != 20 || outer.end != bytes.len() {
         return refused(59);
     }
     let pair = elements::pair_from(bytes, outer.value_place, 1024, 1025);
-    let header_found = pair.first;
-    let Only::Once(header) = header_found else {
-        return refused(59);
-    };
-    let payload_found = pair.second;
-    let Only::Once(payload) = payload_found else {
-        return refused(59);
-    };
-    show(bytes, header, payload)
+    match (pair.first, pair.second) {
+        (Some(header), Some(payload)) => show(bytes, header, payload),
+        _ => refused(59),
+    }
 }
 
 // The answer for the header's and the payload's element, once they are found.

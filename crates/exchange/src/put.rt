@@ -15,7 +15,7 @@ pub(crate) fn element_size(type_number: u16, value_length: u16) -> usize
     ensures { (result ≡ length (number_bytes type_number) + length (number_bytes value_length) + value_length)
         × (result ≤ value_length + 4) }
 {
-    number_size(type_number) + number_size(value_length) + octets::word_value(value_length)
+    number_size(type_number) + number_size(value_length) + usize::from(value_length)
 }
 
 // Puts a type or a length, of at most 15 bits.

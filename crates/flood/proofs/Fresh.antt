@@ -6,12 +6,12 @@ use Prim.Native.Nat.{ℕ, ◌<◌}
 use native.Mathlib.Omega.{arith}
 use lib.Dec.{eqb}
 use lib.ListN.{length}
+use Rattle.std.specs.Prelude.{Ok}
 use Rattle.octets.specs.Numbers.{flag}
 use Rattle.octets.specs.Octets.{AllBytes, word_bytes}
 use Rattle.pdu.specs.declared.Destination.{Destination}
 use Rattle.pdu.specs.declared.Destination.TheVariants.{Everyone, Address}
 use Rattle.pdu.specs.declared.Header.{Header}
-use Rattle.pdu.specs.declared.Reading.TheVariants.{Pdu}
 use Rattle.pdu.specs.Header.{header_of, source_of}
 use Rattle.pdu.specs.Sizes.{pdu_length}
 use Rattle.pdu.specs.Reading.{read_of}
@@ -78,7 +78,7 @@ module _ (settings : FreshSettings) (payload : List ℕ) (room : ℕ) (message :
   abbrev first : List ℕ
   first = fresh settings payload
 
-  fresh_reads : read_of first ≡ Pdu (fresh_header settings (length payload))
+  fresh_reads : read_of first ≡ Ok (fresh_header settings (length payload))
   fresh_reads = ap read_of (sym (append-nil first)) ∙ (fresh_back settings payload room message.taken []).reads
 
   pub fresh_shows : fresh_header settings (length payload) ≡ header_of first
@@ -112,7 +112,7 @@ module _ (settings : FreshSettings) (payload : List ℕ) (room : ℕ) (message :
         all_bytes = fresh_small;
         one_pdu =
             is_exact first (record {
-              reads = fresh_reads ∙ ap Pdu fresh_shows;
+              reads = fresh_reads ∙ ap Ok fresh_shows;
               alone = length_fresh settings payload room message.taken ∙ ap (λ (h : Header). pdu_length h) fresh_shows;
             });
         path_bit_lem = fresh_bit;

@@ -9,11 +9,11 @@ use native.Mathlib.Omega.{arith}
 use borrow.Author.Tests.{eqb-true}
 use lib.Dec.{eqb}
 use lib.ListN.{length, take, length-append}
+use Rattle.std.specs.Prelude.{Ok}
 use Rattle.octets.specs.Numbers.{flag}
 use Rattle.octets.specs.Octets.{AllBytes, over}
 use Rattle.octets.proofs.Placing.{take_over}
 use Rattle.pdu.specs.declared.Header.{Header}
-use Rattle.pdu.specs.declared.Reading.TheVariants.{Pdu}
 use Rattle.pdu.specs.Header.{header_of, source_of}
 use Rattle.pdu.specs.Sizes.{pdu_length}
 use Rattle.pdu.specs.Reading.{read_of}
@@ -33,7 +33,7 @@ use Rattle.flood.proofs.Network.{Keeps, Lawful}
 -- its path.
 pub record Sound (first sent : List ℕ) : Type 0 where
   pub small : AllBytes sent
-  pub reads : read_of sent ≡ Pdu (header_of sent)
+  pub reads : read_of sent ≡ Ok (header_of sent)
   pub has_path : (header_of sent).path_bit ≡ true
   pub alone : length sent ≡ pdu_length (header_of sent)
   pub longer : length sent ≡ length first + 2 * length (path_of sent)
@@ -69,7 +69,7 @@ module _ (first received : List ℕ) (sound : Sound first received) (ready : Rea
   sound_again narrow =
       record {
         small = repeat_bytes received _ sound.small sound.reads ready own narrow;
-        reads = alone_reads received _ sound.small sound.reads ready own ∙ ap Pdu shows;
+        reads = alone_reads received _ sound.small sound.reads ready own ∙ ap Ok shows;
         has_path = ap (λ (h : Header). h.path_bit) (sym shows) ∙ same_path_bit (header_of received) ∙ sound.has_path;
         alone =
             ap length (same_bytes received _ sound.small sound.reads ready own)

@@ -14,6 +14,7 @@ pub fn read_full<R: Read>(input: &mut R, bytes: &mut [u8]) -> io::Result<usize>
     ensures read { IfOk result (λ count. Consumes (R.remaining input.old) (R.remaining input.new) (take count bytes.new)) }
     ensures ended { IfOk result (λ count. count < length bytes.new → IsAtEnd (R.remaining input.new)) }
 {
+    // Kept: std's `read_exact` refuses a short input, and `read_to_end` fills a Vec; neither says what was read before an error.
     let mut count: usize = 0;
     while count < bytes.len() {
         let more = input.read(&mut bytes[count..])?;

@@ -1,3 +1,4 @@
+pub mod Results
 pub mod Ranges
 pub mod Taking
 pub mod Steps

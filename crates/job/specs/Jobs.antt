@@ -1,7 +1,7 @@
 -- Document 01, "The program `relay`": one job, from its first byte to its last. It is refused with the number of its first fault: 50, 51, 52, 54, or
 -- 20 for a range that is there whole; 53 comes after all of these.
-use Rattle.std.specs.Prelude.{ℕ, zero, suc, ◌+◌, ◌*◌, ◌/◌, ◌%◌, Bool, true, false, cond, List, [], ◌++◌, eqb, ltb, leb, length, take, drop, replicate}
-use Rattle.octets.specs.Numbers.{◌gives◌, ◌or_else◌}
+use Rattle.std.specs.Prelude.{ℕ, zero, suc, ◌+◌, ◌*◌, ◌/◌, ◌%◌, Bool, true, false, cond, List, [], ◌++◌, eqb, ltb, leb}
+use Rattle.std.specs.Prelude.{length, take, drop, replicate, Result, Ok, Err}
 use Rattle.octets.specs.Octets.{at, word_at}
 use Rattle.batch.specs.Walk.{batch_limit}
 use Rattle.pdu.specs.Parts.{addresses_at}
@@ -10,84 +10,74 @@ use Rattle.decision.specs.declared.Choice.{Choice}
 use Rattle.decision.specs.declared.Choice.TheVariants.{First, Neither}
 use Rattle.decision.specs.declared.Settings.{Settings}
 use Rattle.decision.specs.Decision.{Node, node_of}
-use Rattle.job.specs.declared.JobHead.{JobHead}
-use Rattle.job.specs.declared.JobHead.TheVariants as head
+use Rattle.job.specs.declared.JobRefusal.{JobRefusal}
+use Rattle.job.specs.declared.JobRefusal.TheVariants.{CutShort, UnknownFlags, TooManyRanges, BytesAfter, BatchTooLong, RangeReversed}
 use Rattle.job.specs.declared.Section.{Section}
-use Rattle.job.specs.declared.Taken.{Taken}
-use Rattle.job.specs.declared.Taken.TheVariants as taken
 use Rattle.job.specs.declared.Job.{Job}
-use Rattle.job.specs.declared.JobReading.{JobReading}
-use Rattle.job.specs.declared.JobReading.TheVariants as reading
 
--- the number that each answer has ("Numbers answered"): 0 where it shows own address and flags, a section or a job, else that of the refusal
-abbrev pub head_number : JobHead → ℕ
-head_number (head.Found own flags) = 0
-head_number (head.Refused number) = number
+-- the number of each refusal ("Numbers answered")
+abbrev pub job_refusal_number : JobRefusal → ℕ
+job_refusal_number CutShort = 50
+job_refusal_number UnknownFlags = 51
+job_refusal_number TooManyRanges = 52
+job_refusal_number BytesAfter = 53
+job_refusal_number BatchTooLong = 54
+job_refusal_number RangeReversed = 20
 
-abbrev pub taken_number : Taken → ℕ
-taken_number (taken.At section) = 0
-taken_number (taken.Refused number) = number
+-- the number that each answer has: 0 where it shows a section or a job, else that of the refusal
+abbrev pub taken_number : Result Section JobRefusal → ℕ
+taken_number (Ok section) = 0
+taken_number (Err refusal) = job_refusal_number refusal
 
-abbrev pub job_number : JobReading → ℕ
-job_number (reading.Job job) = 0
-job_number (reading.Refused number) = number
+abbrev pub job_number : Result Job JobRefusal → ℕ
+job_number (Ok job) = 0
+job_number (Err refusal) = job_refusal_number refusal
 
--- own address and flags: 50 where they are cut short, 51 for flags above 63, which have bit 6 or 7 set
-unfoldable pub job_head : List ℕ → JobHead
-job_head bytes =
-    cond (ltb (length bytes) 3) (head.Refused 50) (cond (ltb 63 (at bytes 2)) (head.Refused 51) (head.Found (word_at bytes 0) (at bytes 2)))
+-- what follows what was read, or its refusal
+abbrev pub then_read : {A B : Type 0} → Result A JobRefusal → (A → Result B JobRefusal) → Result B JobRefusal
+then_read (Ok one) later = later one
+then_read (Err refusal) later = Err refusal
 
--- so many ranges of 4 bytes from a place on: 50 where one is cut short, 20 where one that was read has its low above its high, or 0
-unfoldable pub ranges_number : ℕ → List ℕ → ℕ → ℕ
-ranges_number zero bytes place = 0
-ranges_number (suc n) bytes place =
-    ltb (length bytes) (place + 4) gives 50
-    or_else ltb (word_at bytes (place + 2)) (word_at bytes place) gives 20
-    or_else ranges_number n bytes (place + 4)
+-- own address and flags; flags above 63 have bit 6 or 7 set
+unfoldable pub job_head : List ℕ → Result (ℕ × ℕ) JobRefusal
+job_head bytes = cond (ltb (length bytes) 3) (Err CutShort) (cond (ltb 63 (at bytes 2)) (Err UnknownFlags) (Ok (word_at bytes 0, at bytes 2)))
 
--- the number of a list section at a place: its count byte, then its ranges
-unfoldable pub list_number : List ℕ → ℕ → ℕ
-list_number bytes place =
-    leb (length bytes) place gives 50 or_else ltb range_limit (at bytes place) gives 52 or_else ranges_number (at bytes place) bytes (place + 1)
-
--- the number of the batch section at a place: its length in 2 bytes, then that many bytes
-unfoldable pub batch_number : List ℕ → ℕ → ℕ
-batch_number bytes place =
-    ltb (length bytes) (place + 2) gives 50
-    or_else ltb batch_limit (word_at bytes place) gives 54
-    or_else ltb (length bytes) (place + 2 + word_at bytes place) gives 50
-
--- a section taken: where its contents begin and how many they are (ranges, or bytes of the batch), or the refusal
-abbrev pub taken_of : ℕ → ℕ → ℕ → Taken
-taken_of number place count = cond (eqb number 0) (taken.At (record { place = place; count = count })) (taken.Refused number)
+-- so many ranges of 4 bytes from a place on: none is cut short, and none that was read has its low above its high
+unfoldable pub ranges_read : ℕ → List ℕ → ℕ → Result Unit JobRefusal
+ranges_read zero bytes place = Ok tt
+ranges_read (suc n) bytes place =
+    cond (ltb (length bytes) (place + 4)) (Err CutShort)
+    (cond (ltb (word_at bytes (place + 2)) (word_at bytes place)) (Err RangeReversed) (ranges_read n bytes (place + 4)))
 
 -- a list section at a place: a count byte and that many ranges of 4 bytes
-unfoldable pub list_section : List ℕ → ℕ → Taken
-list_section bytes place = taken_of (list_number bytes place) (place + 1) (at bytes place)
+unfoldable pub list_section : List ℕ → ℕ → Result Section JobRefusal
+list_section bytes place =
+    cond (leb (length bytes) place) (Err CutShort)
+    (cond (ltb range_limit (at bytes place)) (Err TooManyRanges)
+    (then_read (ranges_read (at bytes place) bytes (place + 1)) (λ all. Ok (record { place = place + 1; count = at bytes place }))))
 
--- the batch section at a place: the batch, after its length in 2 bytes
-unfoldable pub batch_section : List ℕ → ℕ → Taken
-batch_section bytes place = taken_of (batch_number bytes place) (place + 2) (word_at bytes place)
-
--- what follows a section, or its refusal
-abbrev pub then_section : Taken → (Section → JobReading) → JobReading
-then_section (taken.At section) later = later section
-then_section (taken.Refused number) later = reading.Refused number
+-- the batch section at a place: its length in 2 bytes, then that many bytes
+unfoldable pub batch_section : List ℕ → ℕ → Result Section JobRefusal
+batch_section bytes place =
+    cond (ltb (length bytes) (place + 2)) (Err CutShort)
+    (cond (ltb batch_limit (word_at bytes place)) (Err BatchTooLong)
+    (cond (ltb (length bytes) (place + 2 + word_at bytes place)) (Err CutShort)
+    (Ok (record { place = place + 2; count = word_at bytes place }))))
 
 -- where a list section ends
 abbrev pub list_end : Section → ℕ
 list_end section = section.place + 4 * section.count
 
 -- from byte 3 on: four list sections, the batch; nothing after it
-unfoldable pub sections_of : ℕ → ℕ → List ℕ → JobReading
+unfoldable pub sections_of : ℕ → ℕ → List ℕ → Result Job JobRefusal
 sections_of own flags bytes =
-    then_section (list_section bytes 3)
-    (λ a. then_section (list_section bytes (list_end a))
-    (λ b. then_section (list_section bytes (list_end b))
-    (λ c. then_section (list_section bytes (list_end c))
-    (λ d. then_section (batch_section bytes (list_end d))
-    (λ e. cond (ltb (e.place + e.count) (length bytes)) (reading.Refused 53)
-    (reading.Job (record {
+    then_read (list_section bytes 3)
+    (λ a. then_read (list_section bytes (list_end a))
+    (λ b. then_read (list_section bytes (list_end b))
+    (λ c. then_read (list_section bytes (list_end c))
+    (λ d. then_read (batch_section bytes (list_end d))
+    (λ e. cond (ltb (e.place + e.count) (length bytes)) (Err BytesAfter)
+    (Ok (record {
       own = own;
       flags = flags;
       source_pass = a;
@@ -97,13 +87,8 @@ sections_of own flags bytes =
       batch = e;
     })))))))
 
--- what follows own address and flags, or their refusal
-abbrev pub after_head : JobHead → List ℕ → JobReading
-after_head (head.Found own flags) bytes = sections_of own flags bytes
-after_head (head.Refused number) bytes = reading.Refused number
-
-unfoldable pub job_of : List ℕ → JobReading
-job_of bytes = after_head (job_head bytes) bytes
+unfoldable pub job_of : List ℕ → Result Job JobRefusal
+job_of bytes = then_read (job_head bytes) (λ head. sections_of head.0 head.1 bytes)
 
 -- the most bytes that a job without fault has: own address and flags, four lists of 64 ranges, the longest batch ("Sizes")
 abbrev pub job_limit : ℕ

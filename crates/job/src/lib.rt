@@ -1,19 +1,38 @@
 // One job of the program relay: its own address, its flags, its four lists and its batch, found in the bytes that it was read as.
 #![tactic(auto)]
 
-ghost use Rattle.std.specs.Prelude.{◌≡◌, ◌+◌, ◌*◌, ◌%◌, ◌<◌, ◌≤◌, ◌^◌, eqb, ltb, length, get_or};
-ghost use Rattle.job.specs.Jobs.{head_number, taken_number, job_number, job_head, ranges_number, list_section, batch_section, list_end, sections_of, job_of};
-ghost use Rattle.octets.specs.Numbers.{◌gives◌, ◌or_else◌};
+ghost use Rattle.std.specs.Prelude.{◌≡◌, ◌+◌, ◌*◌, ◌%◌, ◌<◌, ◌≤◌, ◌^◌, eqb, length, get_or};
+ghost use Rattle.job.specs.Jobs.{job_refusal_number, taken_number, job_number, job_head, ranges_read, list_section, batch_section};
+ghost use Rattle.job.specs.Jobs.{list_end, sections_of, job_of};
 ghost use Rattle.octets.specs.Octets.{IsPart};
 ghost use Rattle.lists.specs.Lists.{value_limit};
-ghost use Rattle.batch.specs.Walk.{batch_limit};
 ghost use Rattle.job.specs.Jobs.{first_if, settings_of, values_in, padded_values};
 
-// Own address and flags, or the number they were refused with.
-#[derive(Clone, Copy)]
-enum JobHead {
-    Found { own: u16, flags: u8 },
-    Refused(u8),
+// Why a job is refused. Document 01, "The program `relay`", a bad job.
+#[derive(Clone, Copy, Debug, PartialEq, Eq)]
+pub enum JobRefusal {
+    CutShort,
+    UnknownFlags,
+    TooManyRanges,
+    BytesAfter,
+    BatchTooLong,
+    RangeReversed,
+}
+
+impl JobRefusal {
+    // The number of a refusal. Document 01, "Numbers answered".
+    pub fn number(self) -> u8
+        ensures { result ≡ job_refusal_number self }
+    {
+        match self {
+            JobRefusal::CutShort => 50,
+            JobRefusal::UnknownFlags => 51,
+            JobRefusal::TooManyRanges => 52,
+            JobRefusal::BytesAfter => 53,
+            JobRefusal::BatchTooLong => 54,
+            JobRefusal::RangeReversed => 20,
+        }
+    }
 }
 
 // Where a section's contents begin, and how many they are: ranges of 4 bytes, or the batch's bytes.
@@ -21,13 +40,6 @@ enum JobHead {
 pub struct Section {
     pub place: usize,
     pub count: usize,
-}
-
-// A section, or the number it was refused with.
-#[derive(Clone, Copy)]
-pub enum Taken {
-    At(Section),
-    Refused(u8),
 }
 
 // A job that has no fault. The sections lie in the bytes it was read from.
@@ -42,140 +54,90 @@ pub struct Job {
     pub batch: Section,
 }
 
-// A job, or the number it was refused with.
-#[derive(Clone, Copy)]
-pub enum JobReading {
-    Job(Job),
-    Refused(u8),
-}
-
-// Own address and flags: 50 where they are cut short, 51 for flags with bit 6 or 7 set.
-fn head_of(bytes: &[u8]) -> JobHead
+// Own address and flags: `CutShort`, or `UnknownFlags` for flags with bit 6 or 7 set.
+fn head_of(bytes: &[u8]) -> Result<(u16, u8), JobRefusal>
     ensures { result ≡ job_head bytes.now }
 {
     if bytes.len() < 3 {
-        return JobHead::Refused(50);
+        return Err(JobRefusal::CutShort);
     }
     let flags = bytes[2];
     if flags > 63 {
-        return JobHead::Refused(51);
+        return Err(JobRefusal::UnknownFlags);
     }
-    JobHead::Found {
-        own: octets::word(bytes, 0),
-        flags: flags,
-    }
+    Ok((octets::word(bytes, 0), flags))
 }
 
-// The number of own address and flags; 0 where they were found.
-fn head_number(head: JobHead) -> u8
-    ensures { result ≡ head_number head }
-{
-    match head {
-        JobHead::Found { own: _, flags: _ } => 0,
-        JobHead::Refused(number) => number,
-    }
-}
-
-// The number of a section: 20, 50, 52 or 54 as `list_at` and `batch_at` give it, 0 for one that was taken.
+// The number of a section: that of its refusal as `list_at` and `batch_at` give it, 0 for one that was taken.
 // Document 01, "Numbers answered".
-pub fn taken_number(taken: Taken) -> u8
+pub fn taken_number(taken: Result<Section, JobRefusal>) -> u8
     ensures { result ≡ taken_number taken }
 {
-    match taken {
-        Taken::At(_) => 0,
-        Taken::Refused(number) => number,
-    }
+    taken.err().map_or(0, |refusal| refusal.number())
 }
 
-// The number of a job: 20 or 50 to 54 as `read` gives it, 0 for one that has no fault. Document 01, "Numbers answered".
-pub fn job_number(reading: JobReading) -> u8
+// The number of a job: that of its refusal as `read` gives it, 0 for one that has no fault. Document 01, "Numbers answered".
+pub fn job_number(reading: Result<Job, JobRefusal>) -> u8
     ensures { result ≡ job_number reading }
 {
-    match reading {
-        JobReading::Job(_) => 0,
-        JobReading::Refused(number) => number,
-    }
+    reading.err().map_or(0, |refusal| refusal.number())
 }
 
-// The first fault of so many ranges: 50 for one cut short, 20 for one whose low is above its high, else 0.
-fn ranges_number(bytes: &[u8], start: usize, count: usize) -> u8
+// So many ranges without fault: each is there whole, and none has its low above its high.
+fn check_ranges(bytes: &[u8], start: usize, count: usize) -> Result<(), JobRefusal>
     requires { start ≤ length bytes.now }
-    ensures { result ≡ ranges_number count bytes.now start }
+    ensures { result ≡ ranges_read count bytes.now start }
 {
-    let mut place = start;
-    let mut left = count;
-    while left > 0 {
+    for i in 0..count {
+        let place = start + 4 * i;
         if bytes.len() - place < 4 {
-            return 50;
+            return Err(JobRefusal::CutShort);
         }
         if octets::word(bytes, place + 2) < octets::word(bytes, place) {
-            return 20;
+            return Err(JobRefusal::RangeReversed);
         }
-        place += 4;
-        left -= 1;
     }
-    0
+    Ok(())
 }
 
 // The list section at a place: its count byte, then that many ranges.
-// 50 where the count or a range is cut short, 52 for more than 64 ranges, 20 for a range whose low is above its high; the first of these that is met
-// from left to right. A count of 0 is an empty list, and a place past the end is a section cut short.
+// `CutShort` where the count or a range is cut short, `TooManyRanges` for more than 64, `RangeReversed` for a range whose low is above its high; the first of
+// these that is met from left to right. A count of 0 is an empty list, and a place past the end is a section cut short.
 // Document 01, "The program `relay`", a list section.
-pub fn list_at(bytes: &[u8], place: usize) -> Taken
+pub fn list_at(bytes: &[u8], place: usize) -> Result<Section, JobRefusal>
     ensures { result ≡ list_section bytes.now place }
 {
     if bytes.len() <= place {
-        return Taken::Refused(50);
+        return Err(JobRefusal::CutShort);
     }
     let count = octets::byte_value(bytes[place]);
     if count > 64 {
-        return Taken::Refused(52);
+        return Err(JobRefusal::TooManyRanges);
     }
-    let start = place + 1;
-    let number = ranges_number(bytes, start, count);
-    if number != 0 {
-        return Taken::Refused(number);
-    }
-    Taken::At(Section {
-        place: start,
-        count: count,
-    })
+    let place = place + 1;
+    check_ranges(bytes, place, count)?;
+    Ok(Section { place, count })
 }
 
 // The batch section at a place: its length in 2 bytes, then that many bytes.
-// 50 where the length is cut short, 54 for a length above 16,384, then 50 where the batch itself is cut short. A place past the end is 50 too, and a
-// length of 0 is an empty batch. What follows the batch is not looked at.
+// `CutShort` where the length is cut short, `BatchTooLong` for a length above 16,384, then `CutShort` where the batch itself is cut short. A place past the end
+// is cut short too, and a length of 0 is an empty batch. What follows the batch is not looked at.
 // Document 01, "The program `relay`", the batch after its length.
-pub fn batch_at(bytes: &[u8], place: usize) -> Taken
+pub fn batch_at(bytes: &[u8], place: usize) -> Result<Section, JobRefusal>
     ensures { result ≡ batch_section bytes.now place }
 {
-    if bytes.len() < 2 {
-        return Taken::Refused(50);
-    }
-    if bytes.len() - 2 < place {
-        return Taken::Refused(50);
+    if bytes.len() < 2 || bytes.len() - 2 < place {
+        return Err(JobRefusal::CutShort);
     }
     let count = octets::word_value(octets::word(bytes, place));
-    let start = place + 2;
-    let rest = bytes.len() - start;
-    let fault = batch_fault(count, rest);
-    if fault != 0 {
-        return Taken::Refused(fault);
-    }
-    Taken::At(Section {
-        place: start,
-        count: count,
-    })
-}
-
-// What is wrong with a batch of so many bytes where so many are left: 54 above 16,384, then 50 where it is cut short, else 0.
-fn batch_fault(count: usize, rest: usize) -> u8
-    ensures { result ≡ (ltb batch_limit count gives 54 or_else ltb rest count gives 50) }
-{
+    let place = place + 2;
     if count > batch::Cursor::BATCH_LIMIT {
-        return 54;
+        return Err(JobRefusal::BatchTooLong);
     }
-    if rest < count { 50 } else { 0 }
+    if bytes.len() - place < count {
+        return Err(JobRefusal::CutShort);
+    }
+    Ok(Section { place, count })
 }
 
 fn list_end(section: Section) -> usize
@@ -185,54 +147,52 @@ fn list_end(section: Section) -> usize
     section.place + 4 * section.count
 }
 
-// The job's sections, from byte 3 on: what `list_at` gives for each list and `batch_at` for the batch, then 53 for bytes after the batch.
-fn sections(bytes: &[u8], own: u16, flags: u8) -> JobReading
+// The job's sections, from byte 3 on: what `list_at` gives for each list and `batch_at` for the batch, then `BytesAfter` for bytes after the batch.
+fn sections(bytes: &[u8], own: u16, flags: u8) -> Result<Job, JobRefusal>
     ensures { result ≡ sections_of own flags bytes.now }
 {
+    // Kept: each section is taken from an enum answer by `let .. else`, a form that is named for this place.
     let first = list_at(bytes, 3);
-    let Taken::At(source_pass) = first else {
-        return JobReading::Refused(taken_number(first));
+    let Ok(source_pass) = first else {
+        return Err(first.unwrap_err());
     };
     let second = list_at(bytes, list_end(source_pass));
-    let Taken::At(source_reject) = second else {
-        return JobReading::Refused(taken_number(second));
+    let Ok(source_reject) = second else {
+        return Err(second.unwrap_err());
     };
     let third = list_at(bytes, list_end(source_reject));
-    let Taken::At(destination_pass) = third else {
-        return JobReading::Refused(taken_number(third));
+    let Ok(destination_pass) = third else {
+        return Err(third.unwrap_err());
     };
     let fourth = list_at(bytes, list_end(destination_pass));
-    let Taken::At(destination_reject) = fourth else {
-        return JobReading::Refused(taken_number(fourth));
+    let Ok(destination_reject) = fourth else {
+        return Err(fourth.unwrap_err());
     };
     let last = batch_at(bytes, list_end(destination_reject));
-    let Taken::At(batch) = last else {
-        return JobReading::Refused(taken_number(last));
+    let Ok(batch) = last else {
+        return Err(last.unwrap_err());
     };
     if batch.place + batch.count < bytes.len() {
-        return JobReading::Refused(53);
+        return Err(JobRefusal::BytesAfter);
     }
-    JobReading::Job(Job {
-        own: own,
-        flags: flags,
-        source_pass: source_pass,
-        source_reject: source_reject,
-        destination_pass: destination_pass,
-        destination_reject: destination_reject,
-        batch: batch,
+    Ok(Job {
+        own,
+        flags,
+        source_pass,
+        source_reject,
+        destination_pass,
+        destination_reject,
+        batch,
     })
 }
 
-// The job in the bytes, or the number of the first fault met from left to right.
-// 50 where the bytes end too soon, 51 for flags with bit 6 or 7 set, then what `list_at` gives for each list and `batch_at` for the batch; 53, for
-// bytes after the batch, comes last. Document 01, "The program `relay`", the job and the first fault met.
-pub fn read(bytes: &[u8]) -> JobReading
+// The job in the bytes, or the first fault met from left to right.
+// `CutShort` where the bytes end too soon, `UnknownFlags` for flags with bit 6 or 7 set, then what `list_at` gives for each list and `batch_at` for the batch;
+// `BytesAfter`, for bytes after the batch, comes last. Document 01, "The program `relay`", the job and the first fault met.
+pub fn read(bytes: &[u8]) -> Result<Job, JobRefusal>
     ensures { result ≡ job_of bytes.now }
 {
-    let head = head_of(bytes);
-    let JobHead::Found { own, flags } = head else {
-        return JobReading::Refused(head_number(head));
-    };
+    let (own, flags) = head_of(bytes)?;
     sections(bytes, own, flags)
 }
 
@@ -246,7 +206,7 @@ fn is_odd(x: u8) -> bool
 fn first_if_odd(x: u8) -> decision::Choice
     ensures { result ≡ first_if (eqb (x % 2) 1) }
 {
-    if x % 2 == 1 {
+    if is_odd(x) {
         decision::Choice::First
     } else {
         decision::Choice::Neither
@@ -280,10 +240,7 @@ fn value_at(bytes: &[u8], section: Section, i: usize) -> u16
     requires { i < value_limit }
     ensures { result ≡ get_or (values_in bytes.now section) i 0 }
 {
-    if section.count <= i / 2 {
-        return 0;
-    }
-    if bytes.len() <= section.place {
+    if section.count <= i / 2 || bytes.len() <= section.place {
         return 0;
     }
     octets::word(bytes, section.place + 2 * i)
@@ -296,10 +253,8 @@ pub fn values(bytes: &[u8], section: Section) -> [u16; lists::VALUE_LIMIT]
     ensures { result ≡ padded_values (values_in bytes.now section) }
 {
     let mut values = [0u16; lists::VALUE_LIMIT];
-    let mut i: usize = 0;
-    while i < lists::VALUE_LIMIT {
+    for i in 0..lists::VALUE_LIMIT {
         values[i] = value_at(bytes, section, i);
-        i += 1;
     }
     values
 }

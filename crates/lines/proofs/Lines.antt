@@ -7,10 +7,10 @@ use mathlib.Core.Path.{◌≡◌, ap, sym, ◌∙◌}
 use lib.Dec.{leb, eqb}
 use lib.ListN.{length, length-append}
 use borrow.Author.Tests.{leb-true, leb-false, not-true, not-false}
+use Rattle.std.specs.Prelude.{Option}
 use Rattle.text.proofs.Decimal.{length_decimal, decimal_of_64_bits, decimal_of_16_bits, decimal_of_8_bits}
 use Rattle.text.proofs.Parts.{Promised, Put, begin, then}
 use Rattle.lines.proofs.Shown.{length_shown}
-use Rattle.pdu.specs.declared.Sender.{Sender}
 use Rattle.text.specs.Text.{text, decimal}
 use Rattle.lines.specs.Lines.{shown, sender_shown, first_line, pdu_line, last_line, refused_line}
 
@@ -56,11 +56,11 @@ pdu_started blank now₁ now₂ now₃ now₄ number offset delivery repeat next
     simp (append_assoc) (simp (append_assoc) at four)
 
 -- the end of a PDU line in 8 places
-pub length_sender : (sender : Sender) → length (text " " ++ sender_shown sender ++ text "\n") ≡ length (sender_shown sender) + 2
+pub length_sender : (sender : Option ℕ) → length (text " " ++ sender_shown sender ++ text "\n") ≡ length (sender_shown sender) + 2
 length_sender sender =
     length-append (text " " ++ sender_shown sender) (text "\n") ∙ omega (arith, length-append (text " ") (sender_shown sender))
 
-pub sender_ended : (blank now : List ℕ) (sender : Sender) (next : ℕ) → length blank ≡ 8 → length (sender_shown sender) ≤ 5
+pub sender_ended : (blank now : List ℕ) (sender : Option ℕ) (next : ℕ) → length blank ≡ 8 → length (sender_shown sender) ≤ 5
     → Promised blank 0 (text " " ++ sender_shown sender ++ text "\n") now next → Put blank 0 (text " " ++ sender_shown sender ++ text "\n") now next
 sender_ended blank now sender next size short p = begin blank 0 _ now next (omega (arith, length_sender sender)) p
 
@@ -68,7 +68,7 @@ sender_ended blank now sender next size short p = begin blank 0 _ now next (omeg
 joined : (front x y z : List ℕ) → front ++ (x ++ y ++ z) ≡ front ++ x ++ y ++ z
 joined front x y z = simp append_assoc
 
-pub pdu_line_is : (number offset delivery repeat : ℕ) (repeated : List ℕ) (sender : Sender)
+pub pdu_line_is : (number offset delivery repeat : ℕ) (repeated : List ℕ) (sender : Option ℕ)
     → (decimal number ++ text " " ++ decimal offset ++ text " " ++ decimal delivery ++ text " " ++ decimal repeat ++ text " ") ++ shown
     repeated ++ (text " " ++ sender_shown sender ++ text "\n") ≡ pdu_line number offset delivery repeat repeated sender
 unfolding pdu_line
@@ -122,7 +122,7 @@ last_line_at_most lines taken h k =
       length_decimal 4 taken k,
     )
 
-pub pdu_line_at_most : (number offset delivery repeat : ℕ) (repeated : List ℕ) (sender : Sender) → number < 10000 → offset < 100000
+pub pdu_line_at_most : (number offset delivery repeat : ℕ) (repeated : List ℕ) (sender : Option ℕ) → number < 10000 → offset < 100000
     → delivery < 100
     → length (pdu_line number offset delivery repeat repeated sender)
     ≤ 17 + length (decimal repeat) + length (shown repeated) + length (sender_shown sender)

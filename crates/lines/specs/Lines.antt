@@ -1,7 +1,5 @@
 -- What the program `relay` prints (document 01, "The program `relay`"; document 02, W-205): its lines.
-use Rattle.std.specs.Prelude.{ℕ, cond, List, ◌++◌, eqb, length}
-use Rattle.pdu.specs.declared.Sender.{Sender}
-use Rattle.pdu.specs.declared.Sender.TheVariants.{Unknown, Known}
+use Rattle.std.specs.Prelude.{ℕ, cond, List, ◌++◌, eqb, length, Option, None, Some}
 use Rattle.text.specs.Text.{text, decimal, hex}
 
 -- "First line: own address"
@@ -13,12 +11,12 @@ unfoldable pub shown : List ℕ → List ℕ
 shown repeated = cond (eqb (length repeated) 0) (text "-") (hex repeated)
 
 -- W-205: the last sender in decimal, `-` when unknown or when reading was refused
-abbrev pub sender_shown : Sender → List ℕ
-sender_shown Unknown = text "-"
-sender_shown (Known address) = decimal address
+abbrev pub sender_shown : Option ℕ → List ℕ
+sender_shown None = text "-"
+sender_shown (Some address) = decimal address
 
 -- "A PDU line: its number from 1, its offset, delivery number, repeat number, the repeated PDU"; the last sender as a sixth field
-unfoldable pub pdu_line : ℕ → ℕ → ℕ → ℕ → List ℕ → Sender → List ℕ
+unfoldable pub pdu_line : ℕ → ℕ → ℕ → ℕ → List ℕ → Option ℕ → List ℕ
 pdu_line number offset delivery repeat repeated sender =
     decimal number ++ text " " ++ decimal offset ++ text " " ++ decimal delivery ++ text " " ++ decimal repeat ++ text " " ++ shown
     repeated ++ text " " ++ sender_shown sender ++ text "\n"

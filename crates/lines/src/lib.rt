@@ -7,7 +7,6 @@ ghost use Rattle.text.specs.Text.{text, decimal};
 ghost use Rattle.lines.specs.Lines.{shown, sender_shown, first_line, pdu_line, last_line, refused_line};
 
 use octets::put;
-use pdu::Sender;
 use text::{put_decimal, put_hex};
 
 // Puts the start of a line, a number and the character after it; nothing where they do not all fit.
@@ -23,6 +22,7 @@ fn put_ended(output: &mut [u8], place: usize, start: &[u8], n: u64, end: u8) -> 
     put(output, place, &line[0..next])
 }
 
+// Kept: `as u64`, here and below; with `u64::from` five proofs would need a step more.
 // Puts the line `relay` and the own address, and answers the place after it.
 // Where the line does not fit, nothing is written and the place stays. Document 01, "The program `relay`", the first line.
 pub fn put_first_line(output: &mut [u8], place: usize, own: u16) -> usize
@@ -60,13 +60,13 @@ fn put_shown(output: &mut [u8], place: usize, repeated: &[u8]) -> usize
 }
 
 // Puts the end of a PDU line: the last sender, or `-` where it is unknown, between a space and the line's end; nothing where they do not all fit.
-fn put_sender(output: &mut [u8], place: usize, sender: Sender) -> usize
+fn put_sender(output: &mut [u8], place: usize, sender: Option<u16>) -> usize
     ensures { (length (sender_shown sender) ≤ 5)
         × Puts output.old place (text " " ++ sender_shown sender ++ text "\n") result output.new }
 {
     match sender {
-        Sender::Unknown => put(output, place, b" -\n"),
-        Sender::Known(address) => put_ended(output, place, b" ", address as u64, b'\n'),
+        None => put(output, place, b" -\n"),
+        Some(address) => put_ended(output, place, b" ", address as u64, b'\n'),
     }
 }
 
@@ -88,17 +88,11 @@ fn put_between(output: &mut [u8], place: usize, start: &[u8], repeated: &[u8], e
 fn has_room(output: usize, place: usize, start: usize, repeated: usize, end: usize) -> bool
     ensures { result ≡ leb (place + (start + end) + cond (eqb repeated 0) 1 (2 * repeated)) output }
 {
-    if output < place {
-        return false;
-    }
-    if output - place < start {
+    if output < place || output - place < start {
         return false;
     }
     let behind = output - place - start;
-    if behind <= end {
-        return false;
-    }
-    repeated <= (behind - end) / 2
+    end < behind && repeated <= (behind - end) / 2
 }
 
 // Puts the line of one PDU and answers the place after it: which PDU it is, where it begins, what was answered for delivery and for repeating, the
@@ -112,7 +106,7 @@ pub fn put_pdu_line(
     delivery: u8,
     repeat: u8,
     repeated: &[u8],
-    sender: Sender,
+    sender: Option<u16>,
 ) -> usize
     ensures { Puts output.old place (pdu_line number offset delivery repeat repeated.now sender)
         result output.new }

@@ -16,11 +16,7 @@ pub const BLOCK_LIMIT: usize = 1040;
 fn laid_length(list: &[u16]) -> u16
     ensures { result ≡ length (cut list.now) }
 {
-    if list.len() < LAID_LIMIT {
-        list.len() as u16
-    } else {
-        LAID_LIMIT as u16
-    }
+    list.len().min(LAID_LIMIT) as u16
 }
 
 // Puts what is laid of a list into the block at a place, and returns where it ends.
@@ -63,6 +59,7 @@ pub fn lay<'a>(
         laid_length(destination_reject_first),
         laid_length(destination_reject_second),
     ];
+    // Kept: an array of the eight slices would be one more copy of them on a small stack.
     put_list(block, 0, &lengths);
     let a = put_list(block, lists::LISTS, source_pass_first);
     let b = put_list(block, a, source_pass_second);

@@ -3,7 +3,7 @@ use Prim.Native.Nat.{ℕ, zero, suc, ◌+◌, ◌-◌, ◌*◌, ◌%◌, ◌<◌
 use mathlib.Core.Path.{◌≡◌, refl, ap, ◌∙◌}
 use mathlib.Core.Bool.{Bool, true, false, ◌&&◌, ◌||◌, false≢true, or-true}
 use mathlib.Core.Logic.{◌⊎◌, inl, inr, ⊎_elim}
-use mathlib.Core.List.{List, [], ◌∷◌}
+use mathlib.Core.List.{List, [], ◌∷◌, ◌++◌}
 use native.Mathlib.Numerals.{add-one}
 use native.Mathlib.Omega.{arith}
 use borrow.Author.Tests.{lt-ltb, le-ltb, le-leb, lt-leb, leb-true, eq-eqb, ne_eqb}
@@ -27,9 +27,6 @@ told_from lists k = record { number = first_fault (drop k lists); list = k + fir
 -- The same number and the same place.
 same_told : {m n i j : ℕ} → m ≡ n → i ≡ j → ◌≡◌ {A = ListFault} (record { number = m; list = i }) (record { number = n; list = j })
 same_told e f = λ t. record { number = e t; list = f t }
-
-unfoldable pub holds_from : List ℕ → ℕ → ℕ → Bool
-holds_from list i address = holds (drop i list) address
 
 drop_one : {A : Type 0} (l : List A) (i : ℕ) (d : A) → i < length l → drop i l ≡ get_or l i d ∷ drop (i + 1) l
 drop_one l i d h = rw (add-one, drop-cons l i d)
@@ -189,7 +186,7 @@ module _ (block : List ℕ) where
   lists_end k e = rw e refl
 
 -- A list without a whole range: no values, or one without a partner.
-holds_none : (list : List ℕ) (address : ℕ) → length list ≤ 1 → holds list address ≡ false
+pub holds_none : (list : List ℕ) (address : ℕ) → length list ≤ 1 → holds list address ≡ false
 unfolding holds
 holds_none [] address h = refl
 holds_none (low ∷ []) address h = refl
@@ -198,30 +195,25 @@ holds_none (low ∷ high ∷ ranges) address h = absurd (omega arith)
 pub empty_holds_none : (address : ℕ) → holds [] address ≡ false
 empty_holds_none address = holds_none [] address (omega arith)
 
--- Membership, from a place on.
-module _ (list : List ℕ) (address : ℕ) where
-  pub holds_start : holds list address ≡ holds_from list 0 address
-  unfolding holds_from
-  holds_start = refl
+-- Membership, by the first range of a list and what follows it.
+module _ (address : ℕ) (list more : List ℕ) where
+  pub held_here : (range : List ℕ) → list ≡ range ++ more → length range ≡ 2 → get_or range 0 0 ≤ address → address ≤ get_or range 1 0
+      → holds list address ≡ true
+  unfolding holds
+  held_here [] e two low high = absurd (omega arith)
+  held_here (a ∷ []) e two low high = absurd (omega arith)
+  held_here (a ∷ b ∷ []) e two low high = rw e (simp (le-leb a address low, le-leb address b high))
+  held_here (a ∷ b ∷ c ∷ range) e two low high = absurd (omega arith)
 
-  pub holds_here : (i : ℕ) → i + 1 < length list → get_or list i 0 ≤ address → address ≤ get_or list (i + 1) 0 → holds_from list i address ≡ true
-  unfolding holds holds_from
-  holds_here i h low high =
-      rw (drop_two list i (i + 2) h refl) (simp (le-leb (get_or list i 0) address low, le-leb address (get_or list (i + 1) 0) high))
-
-  pub below_low : (i j : ℕ) → i + 1 < length list → j ≡ i + 2 → address < get_or list i 0 → holds_from list i address ≡ holds_from list j address
-  unfolding holds holds_from
-  below_low i j h e low = rw (drop_two list i j h e) (simp (lt-leb (get_or list i 0) address low))
-
-  pub above_high : (i j : ℕ) → i + 1 < length list → j ≡ i + 2 → get_or list i 0 ≤ address → get_or list (i + 1) 0 < address
-      → holds_from list i address ≡ holds_from list j address
-  unfolding holds holds_from
-  above_high i j h e low high =
-      rw (drop_two list i j h e) (simp (le-leb (get_or list i 0) address low, lt-leb address (get_or list (i + 1) 0) high))
-
-  pub holds_end : (i : ℕ) → length list ≤ i + 1 → holds_from list i address ≡ false
-  unfolding holds_from
-  holds_end i h = holds_none (drop i list) address (simp length-drop (omega arith))
+  pub held_behind : (range : List ℕ) → list ≡ range ++ more → length range ≡ 2
+      → (address < get_or range 0 0) ⊎ (get_or range 0 0 ≤ address) × (get_or range 1 0 < address)
+      → holds list address ≡ holds more address
+  unfolding holds
+  held_behind [] e two out = absurd (omega arith)
+  held_behind (a ∷ []) e two out = absurd (omega arith)
+  held_behind (a ∷ b ∷ []) e two (inl low) = rw e (simp (lt-leb a address low))
+  held_behind (a ∷ b ∷ []) e two (inr (low, high)) = rw e (simp (le-leb a address low, lt-leb address b high))
+  held_behind (a ∷ b ∷ c ∷ range) e two out = absurd (omega arith)
 
 -- An address in one of the list's ranges: those at values 0 and 1, 2 and 3 and so on, both ends included.
 pub record InRange (list : List ℕ) (address : ℕ) : Type 0 where

@@ -1,7 +1,7 @@
 // The eight address lists of a node, two of each kind, in one block: what is wrong with them, and whether one holds an address.
 #![tactic(auto)]
 
-ghost use Rattle.std.specs.Prelude.{◌≡◌, ◌<◌, ◌≤◌, min, length, take, drop};
+ghost use Rattle.std.specs.Prelude.{◌≡◌, ◌<◌, ◌≤◌, length, take, drop};
 ghost use Rattle.octets.specs.Octets.{at};
 ghost use Rattle.lists.specs.Lists.{lists_in, fault_and_list, holds, start_of, list_in};
 
@@ -20,6 +20,7 @@ fn length_at(block: &[u16], i: usize) -> usize
 }
 
 // So many values from a place on, as far as the block goes.
+// Kept: `octets::part` does this for bytes, and its contract, which C rests on, also says where in the caller's slice the part lies.
 fn values(block: &[u16], start: usize, size: usize) -> &[u16]
     requires { (start < 524288) × (size < 65536) }
     ensures { result.now ≡ take size (drop start block.now) }
@@ -34,13 +35,8 @@ fn values(block: &[u16], start: usize, size: usize) -> &[u16]
     &block[end..]
 }
 
-fn lesser(a: usize, b: usize) -> usize
-    ensures { result ≡ min a b }
-{
-    if a < b { a } else { b }
-}
-
 // The fault of the first list that has one: its number, and the list's place in checking order, 0 to 7. 0 and 8 where none has one.
+// Kept: C reads both numbers, and 0 and 8 where there is no fault.
 #[repr(C)]
 #[derive(Clone, Copy)]
 pub struct ListFault {
@@ -57,6 +53,7 @@ pub fn fault(block: &[u16]) -> ListFault
     let size = block.len();
     let mut fault = ListFault { number: 0, list: 8 };
     let mut start: usize = LISTS;
+    // Kept: this check leaves its nested loops by a label, a form that is named for this place.
     'lists: for k in 0..8 {
         if size <= start {
             break 'lists;
@@ -66,7 +63,7 @@ pub fn fault(block: &[u16]) -> ListFault
         if given == 0 {
             continue 'lists;
         }
-        let length = lesser(given, size - start);
+        let length = given.min(size - start);
         if length > VALUE_LIMIT {
             fault = ListFault { number: 22, list };
             break 'lists;
@@ -118,13 +115,10 @@ fn nth(block: &[u16], i: usize) -> &[u16]
 pub fn holds(list: &[u16], address: u16) -> bool
     ensures { result ≡ holds list.now address }
 {
-    let end = list.len() / 2 * 2;
-    let mut i: usize = 0;
-    while i < end {
-        if list[i] <= address && address <= list[i + 1] {
+    for range in list.chunks_exact(2) {
+        if range[0] <= address && address <= range[1] {
             return true;
         }
-        i += 2;
     }
     false
 }

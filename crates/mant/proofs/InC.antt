@@ -1,13 +1,12 @@
 -- What C sees of a node's answer, from what the node answers with the settings that C gave; and of a network's count.
-use Prim.Native.Nat.{ℕ, ◌+◌, ◌%◌, ◌≤◌, ◌<◌}
+use Prim.Native.Nat.{ℕ, ◌+◌, ◌≤◌, ◌<◌}
 use native.Mathlib.Omega.{arith}
 use mathlib.Core.Bool.{false, cond}
 use mathlib.Core.List.{List}
 use mathlib.Core.Path.{◌≡◌, refl, ap, ap₂, ◌∙◌, subst}
 use lib.Dec.{eqb, ltb}
 use lib.ListN.{length, drop}
-use Rattle.pdu.specs.declared.Sender.{Sender}
-use Rattle.pdu.specs.declared.Sender.TheVariants.{Unknown, Known}
+use Rattle.std.specs.Prelude.{Option, None, Some}
 use Rattle.lists.specs.Lists.{Lists}
 use Rattle.decision.specs.declared.Settings.{Settings}
 use Rattle.decision.specs.Decision.{Node, node_of}
@@ -71,9 +70,9 @@ module _ (node : Node) (batch output : List ℕ) (cursor : Cursor) where
           went.1,
         )
 
-sender_back : (sender : Sender) → sender_from_c (has_sender sender) (sender_address sender) ≡ sender
-sender_back Unknown = refl
-sender_back (Known address) = refl
+sender_back : (sender : Option ℕ) → sender_from_c (has_sender sender) (sender_address sender) ≡ sender
+sender_back None = refl
+sender_back (Some address) = refl
 
 answer_back : (answer : Answer) → answer_from_c (answer_in_c answer) ≡ answer
 answer_back answer =
@@ -132,15 +131,14 @@ network_in_c pairs marks from h price growth enough counts table answer told mar
 
 -- how many bytes that is, for a size that C gave in 64 bits
 module _ (pairs marks : List ℕ) (from h size enough : ℕ) (counts table : List ℕ) (answer : Airtime) (told : MantAirtime) (is : told ≡ airtime_in_c answer) where
-  pub bytes_in_c : (narrow : ℕ) (marksNow countsNow tableNow : List ℕ) → size ≤ 65535 → narrow ≡ size % 65536
+  pub bytes_in_c : (narrow : ℕ) (marksNow countsNow tableNow : List ℕ) → size ≤ 65535 → narrow ≡ size
       → Counts pairs marks from h narrow 2 enough counts table answer marksNow countsNow tableNow
       → BytesInC pairs marks from h size enough counts table told marksNow countsNow tableNow
-  bytes_in_c narrow marksNow countsNow tableNow small narrowed counted =
-      let same : narrow ≡ size = omega (arith, narrowed, small) in (
-        λ _. network_in_c pairs marks from h size 2 enough counts table answer told marksNow countsNow tableNow
-            (subst (λ (n : ℕ). Counts pairs marks from h n 2 enough counts table answer marksNow countsNow tableNow) same counted) is,
-        λ large. absurd (omega (arith, small, large)),
-      )
+  bytes_in_c narrow marksNow countsNow tableNow small same counted = (
+    λ _. network_in_c pairs marks from h size 2 enough counts table answer told marksNow countsNow tableNow
+        (subst (λ (n : ℕ). Counts pairs marks from h n 2 enough counts table answer marksNow countsNow tableNow) same counted) is,
+    λ large. absurd (omega (arith, small, large)),
+  )
 
   pub oversized_in_c : 65535 < size → answer ≡ cond (ltb 7 h) HopRefused NotServed
       → BytesInC pairs marks from h size enough counts table told marks counts table

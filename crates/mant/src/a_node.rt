@@ -43,10 +43,7 @@ pub fn mant_step(
     if batch::is_too_long(node.edition, &batch[..]) {
         return boundary::step_in_c(cursor, Stepped::TooLong);
     }
-    if cursor.ended {
-        return boundary::step_in_c(cursor, Stepped::Ended);
-    }
-    if batch.len() <= place {
+    if cursor.ended || batch.len() <= place {
         return boundary::step_in_c(cursor, Stepped::Ended);
     }
     let answer = mant_hear(node, &lists[..], &batch[place..], output);
@@ -69,25 +66,20 @@ pub fn mant_change_over(node: MantNode, choice: u64) -> MantNode
 {
     let chosen = choice_number(choice);
     MantNode {
-        edition: node.edition,
-        own: node.own,
-        echo: node.echo,
-        repeating: node.repeating,
         source_pass: chosen,
         source_reject: chosen,
         destination_pass: chosen,
         destination_reject: chosen,
+        ..node
     }
 }
 
 fn choice_number(choice: u64) -> u8
     ensures { result ≡ choice_number choice }
 {
-    if choice == 1 {
-        return 1;
+    match choice {
+        1 => 1,
+        2 => 2,
+        _ => 0,
     }
-    if choice == 2 {
-        return 2;
-    }
-    0
 }

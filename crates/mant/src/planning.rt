@@ -1,6 +1,6 @@
 // Planning: whom a report reaches on a network and how often it goes out there; how often one report, and one command with its acknowledgements, can go
 // out at most; the sizes.
-ghost use Rattle.std.specs.Prelude.{cond, ◌≡◌, ltb, max, ◌%◌};
+ghost use Rattle.std.specs.Prelude.{cond, ◌≡◌, ltb, max};
 ghost use Rattle.chains.specs.Lengths.{LengthsFound};
 ghost use Rattle.chains.specs.Reach.{least_hop};
 ghost use Rattle.bound.specs.Bound.{bound, bytes_bound};
@@ -68,10 +68,9 @@ pub fn mant_network_bytes(
     ensures { BytesInC pairs.now marks.old from hop_limit size enough counts.old table.old
         result marks.new counts.new table.new }
 {
-    if size > 65535 {
+    let Ok(size) = u16::try_from(size) else {
         return boundary::airtime_in_c(size_refused(hop_limit));
-    }
-    let size = narrow(size);
+    };
     boundary::airtime_in_c(ways::bytes(pairs, from, hop_limit, size, enough, marks, counts, table))
 }
 
@@ -79,15 +78,10 @@ fn size_refused(hop_limit: u64) -> Airtime
     ensures { result ≡ cond (ltb 7 hop_limit) HopRefused NotServed }
 {
     if hop_limit > 7 {
-        return Airtime::HopRefused;
+        Airtime::HopRefused
+    } else {
+        Airtime::NotServed
     }
-    Airtime::NotServed
-}
-
-fn narrow(size: u64) -> u16
-    ensures { result ≡ size % 65536 }
-{
-    (size % 65536) as u16
 }
 
 // The most transmissions that one fresh message with that hop limit can cause among so many repeating nodes, its own counted. Its originator and its

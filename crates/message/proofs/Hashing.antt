@@ -5,9 +5,8 @@ use mathlib.Core.Path.{◌≡◌, ap, ap₂, ◌∙◌}
 use lib.ListN.{take, drop}
 use Rattle.octets.specs.Octets.{at}
 use Rattle.pdu.specs.Header.{path_count_place}
-use Rattle.sha1_block.specs.declared.Five.{Five}
 use Rattle.sha1_digest.specs.declared.Running.{Running}
-use Rattle.sha1_digest.specs.Sha1.{four_bytes, hash_begun, fed, final_hash, finished}
+use Rattle.sha1_digest.specs.Sha1.{hash_begun, fed, finished}
 use Rattle.sha1_digest.proofs.Feeding.{fed_append, finished_fed}
 use Rattle.message.specs.Protection.{message_number_bytes, masked_byte, hashed_header, hash_bytes}
 
@@ -25,11 +24,6 @@ begun_with bytes part digits byte0 byte1 byte2 masked byte3 number place r0 r1 r
     ∙ rw (e2, e1, e0)
     (ap (λ (r : Running). fed r digits) (fed_append hash_begun first part) ∙ fed_append hash_begun (first ++ part) digits
     ∙ ap₂ (λ (l m : List ℕ). fed hash_begun (l ++ m)) hashed ed)
-
--- the digest begins with the bytes of the hash value's first word
-pub first_word : (running : Running) (hash : Five) → hash ≡ final_hash running → four_bytes hash.a ≡ take 4 (finished running)
-unfolding finished
-first_word running hash e = ap (λ (h : Five). four_bytes h.a) e
 
 -- the payload after them, and the hash's first bytes
 pub hash_is : (bytes plain : List ℕ) (number : ℕ) (r0 r1 : Running) → r0 ≡ fed hash_begun (hashed_header bytes ++ message_number_bytes number) → r1 ≡ fed r0 plain

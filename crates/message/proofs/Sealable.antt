@@ -5,9 +5,9 @@ use mathlib.Core.Bool.{true, false}
 use mathlib.Core.List.{List}
 use mathlib.Core.Path.{◌≡◌, sym, ◌∙◌}
 use borrow.Author.Tests.{lt-ltb, le-ltb, ltb-false}
+use Rattle.std.specs.Prelude.{Ok}
 use Rattle.octets.proofs.Numbering.{or_else_zero, gives_zero, gives_here, gives_later, gives_last, gives_none, or_else_first, or_else_later}
 use Rattle.pdu.specs.declared.Header.{Header}
-use Rattle.pdu.specs.declared.Reading.TheVariants.{Pdu}
 use Rattle.pdu.specs.Header.{header_of}
 use Rattle.pdu.specs.Sizes.{pdu_length}
 use Rattle.pdu.specs.Reading.{read_of, reading_number}
@@ -53,7 +53,7 @@ module _ (number room : ℕ) (bytes : List ℕ) where
 
 -- what follows where nothing is refused
 pub record Sealable (number room : ℕ) (bytes : List ℕ) : Type 0 where
-  pub read : read_of bytes ≡ Pdu (header_of bytes)
+  pub read : read_of bytes ≡ Ok (header_of bytes)
   pub plain : (header_of bytes).encrypted ≡ false
   pub short : (header_of bytes).payload_length + 7 ≤ 4095
   pub small : number ≤ 16777215

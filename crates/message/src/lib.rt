@@ -33,39 +33,27 @@ impl Key {
 pub fn number_bytes(value: u32) -> [u8; 3]
     ensures { result ≡ message_number_bytes value }
 {
-    [
-        (value / 65536 % 256) as u8,
-        (value / 256 % 256) as u8,
-        (value % 256) as u8,
-    ]
+    let [_, first, second, third] = value.to_be_bytes();
+    [first, second, third]
 }
 
 // The message number that a sealed payload begins with; a byte that is not there counts as 0. Document 000, 3.5.3.
 pub fn number_in(sealed: &[u8]) -> u32
     ensures { result ≡ number_in sealed.now }
 {
-    wide(octets::byte(sealed, 0)) * 65536
-        + wide(octets::byte(sealed, 1)) * 256
-        + wide(octets::byte(sealed, 2))
-}
-
-fn wide(byte: u8) -> u32
-    ensures { (result ≡ byte) × (result < 256) }
-{
-    byte as u32
+    let first = octets::byte(sealed, 0);
+    let second = octets::byte(sealed, 1);
+    let third = octets::byte(sealed, 2);
+    u32::from_be_bytes([0, first, second, third])
 }
 
 // What every counter block of a message begins with: its source and its number, of which three bytes count. Document 000, 3.5.3.
 pub fn nonce(source: u16, number: u32) -> [u8; 5]
     ensures { result ≡ nonce_of source number }
 {
-    [
-        (source / 256) as u8,
-        (source % 256) as u8,
-        (number / 65536 % 256) as u8,
-        (number / 256 % 256) as u8,
-        (number % 256) as u8,
-    ]
+    let [high, low] = source.to_be_bytes();
+    let [first, second, third] = number_bytes(number);
+    [high, low, first, second, third]
 }
 
 fn masked(byte2: u8) -> u8
@@ -96,16 +84,11 @@ pub fn begin_hash(bytes: &[u8], number: u32) -> Running
 }
 
 // The hash's most significant 4 bytes, once all was fed: those of the hash value's first word. Document 000, 3.5.3.
+#[tactic(auto, unfolding(sha1_digest::specs::Sha1::finished))]
 fn finish_hash(running: Running) -> [u8; 4]
     ensures { result ≡ take 4 (finished running) }
 {
-    let word = sha1_digest::finish(running).a;
-    [
-        (word / 16777216 % 256) as u8,
-        (word / 65536 % 256) as u8,
-        (word / 256 % 256) as u8,
-        (word % 256) as u8,
-    ]
+    sha1_digest::finish(running).a.to_be_bytes()
 }
 
 // The hash's 4 bytes: of the header at the start of `sent`, the number, and the payload of the PDU at the start of `pdu`. Document 000, 3.5.3.
@@ -121,14 +104,11 @@ pub fn hash_of(sent: &[u8], number: u32, pdu: &[u8]) -> [u8; 4]
 pub fn plain_length(header: Header) -> usize
     ensures { (result ≡ header.payload_length - added_length) × (result ≤ 65528) }
 {
-    let size = octets::word_value(header.payload_length);
-    if size < Key::ADDED_LENGTH {
-        return 0;
-    }
-    size - Key::ADDED_LENGTH
+    usize::from(header.payload_length).saturating_sub(Key::ADDED_LENGTH)
 }
 
 // The first thing that keeps a PDU from being sealed into so many bytes: 1 to 6, 88, 85, 86, 87, or 0. Document 02, W-212.
+// Kept: the documents number the refusals and C answers the number, so a `Result` here would be made from a number and turned back into one.
 pub fn seal_fault(number: u64, pdu: &[u8], room: usize) -> u8
     ensures { result ≡ seal_number number pdu.now room }
 {

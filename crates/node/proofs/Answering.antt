@@ -7,16 +7,13 @@ use mathlib.Core.Path.{◌≡◌, refl, ap, sym, ◌∙◌}
 use lib.Dec.{eqb}
 use lib.ListN.{length}
 use borrow.Author.Tests.{ne_eqb, lt-ltb, le-ltb}
+use Rattle.std.specs.Prelude.{Result, Ok, Err, Option, None}
 use Rattle.octets.specs.Numbers.{◌or_else◌}
 use Rattle.octets.specs.Octets.{over}
 use Rattle.octets.proofs.Numbering.{or_else_first, or_else_later, gives_last, gives_none}
 use Rattle.pdu.specs.declared.Header.{Header}
-use Rattle.pdu.specs.declared.Reading.{Reading}
-use Rattle.pdu.specs.declared.Reading.TheVariants.{Pdu, Refused}
 use Rattle.pdu.specs.declared.Refusal.{Refusal}
 use Rattle.pdu.specs.declared.Refusal.TheVariants.{TooShort, WrongVersion, UnknownProtocol, NoDestination, HeaderCut, PayloadCut}
-use Rattle.pdu.specs.declared.Sender.{Sender}
-use Rattle.pdu.specs.declared.Sender.TheVariants.{Unknown}
 use Rattle.pdu.specs.Header.{header_of}
 use Rattle.pdu.specs.Sizes.{header_length, pdu_length}
 use Rattle.pdu.specs.Reading.{read_of, reading_number, refusal_number}
@@ -29,7 +26,7 @@ use Rattle.node.specs.Answers.{node_fault, room_fault, node_or_reading_fault, st
 use Rattle.node.specs.Answers.{answer_of, given_twice, output_after, Hears}
 
 -- the answer for a PDU with this header
-abbrev pub whole : Header → Sender → ℕ → ℕ → ℕ → Answer
+abbrev pub whole : Header → Option ℕ → ℕ → ℕ → ℕ → Answer
 whole header sender d r n =
     record {
       delivery = d;
@@ -41,7 +38,7 @@ whole header sender d r n =
       last_sender = sender;
     }
 
-pub whole_is : (header : Header) (sender : Sender) (d r n place long bytes : ℕ) → place ≡ cond (eqb d 0) (header_length header) 0
+pub whole_is : (header : Header) (sender : Option ℕ) (d r n place long bytes : ℕ) → place ≡ cond (eqb d 0) (header_length header) 0
     → long ≡ cond (eqb d 0) header.payload_length 0
     → bytes ≡ pdu_length header
     → ◌≡◌ {A = Answer}
@@ -91,41 +88,41 @@ module _ (node : Node) (received output : List ℕ) where
   -- who the PDU was heard from
   pub read_sender : node_or_reading_fault node received ≡ 0 → heard_from node received ≡ last_sender (header_of received) received
   unfolding heard_from
-  read_sender z = ap (λ (n : ℕ). cond (eqb n 0) (last_sender (header_of received) received) Unknown) z
+  read_sender z = ap (λ (n : ℕ). cond (eqb n 0) (last_sender (header_of received) received) None) z
 
-  pub unread_sender : (node_or_reading_fault node received ≡ 0 → ⊥) → heard_from node received ≡ Unknown
+  pub unread_sender : (node_or_reading_fault node received ≡ 0 → ⊥) → heard_from node received ≡ None
   unfolding heard_from
-  unread_sender ne = ap (λ (t : Bool). cond t (last_sender (header_of received) received) Unknown) (ne_eqb _ 0 ne)
+  unread_sender ne = ap (λ (t : Bool). cond t (last_sender (header_of received) received) None) (ne_eqb _ 0 ne)
 
   -- a number that is given twice
-  pub given_twice_lem : (n bytes : ℕ) (sender : Sender) → (n ≡ 0 → ⊥) → stop_fault node room received ≡ n → taken node received ≡ bytes
+  pub given_twice_lem : (n bytes : ℕ) (sender : Option ℕ) → (n ≡ 0 → ⊥) → stop_fault node room received ≡ n → taken node received ≡ bytes
       → heard_from node received ≡ sender
       → Hears node received output (given_twice n bytes sender) output
   unfolding answer_of output_after
   given_twice_lem n bytes sender ne e et es = rw (twice_delivery n e ne, twice_repeat n e ne, et, es, ne_eqb n 0 ne) (refl, refl)
 
   -- a fault of the lists, or a PDU that can't be read
-  unreadable : (n : ℕ) → (n ≡ 0 → ⊥) → node_or_reading_fault node received ≡ n → Hears node received output (given_twice n 0 Unknown) output
+  unreadable : (n : ℕ) → (n ≡ 0 → ⊥) → node_or_reading_fault node received ≡ n → Hears node received output (given_twice n 0 None) output
   unfolding stop_fault taken
   unreadable n ne e =
-      given_twice_lem n 0 Unknown ne (rw e (or_else_first n _ ne)) (rw (e, ne_eqb n 0 ne)) (unread_sender (λ z. ne (sym e ∙ z)))
+      given_twice_lem n 0 None ne (rw e (or_else_first n _ ne)) (rw (e, ne_eqb n 0 ne)) (unread_sender (λ z. ne (sym e ∙ z)))
 
-  pub fault_given : (n : ℕ) → (n ≡ 0 → ⊥) → n ≡ node_fault node → Hears node received output (given_twice n 0 Unknown) output
+  pub fault_given : (n : ℕ) → (n ≡ 0 → ⊥) → n ≡ node_fault node → Hears node received output (given_twice n 0 None) output
   unfolding node_or_reading_fault
   fault_given n ne e = unreadable n ne (rw (← e) (or_else_first n _ ne))
 
   module _ (clean : node_fault node ≡ 0) where
     pub refusal_given : (n : ℕ) → (n ≡ 0 → ⊥) → n ≡ reading_number (read_of received)
-        → Hears node received output (given_twice n 0 Unknown) output
+        → Hears node received output (given_twice n 0 None) output
     unfolding node_or_reading_fault
     refusal_given n ne e = unreadable n ne (or_else_later (node_fault node) _ clean ∙ sym e)
 
-    module _ (header : Header) (e : read_of received ≡ Pdu header) where
+    module _ (header : Header) (e : read_of received ≡ Ok header) where
       pub is_readable : node_or_reading_fault node received ≡ 0
       unfolding node_or_reading_fault
       is_readable = or_else_later (node_fault node) _ clean ∙ ap reading_number e
 
-      pub stopped : (n bytes : ℕ) (sender : Sender) → (n ≡ 0 → ⊥) → n ≡ drop_fault node header received → bytes ≡ pdu_length header
+      pub stopped : (n bytes : ℕ) (sender : Option ℕ) → (n ≡ 0 → ⊥) → n ≡ drop_fault node header received → bytes ≡ pdu_length header
           → sender ≡ last_sender header received
           → Hears node received output (given_twice n bytes sender) output
       unfolding stop_fault taken
@@ -139,7 +136,7 @@ module _ (node : Node) (received output : List ℕ) where
           (read_sender is_readable ∙ ap (λ (x : Header). last_sender x received) (sym is) ∙ sym es)
 
 -- delivery and repeating, once no earlier number stopped the PDU
-module _ (node : Node) (received output : List ℕ) (header : Header) (e : read_of received ≡ Pdu header)
+module _ (node : Node) (received output : List ℕ) (header : Header) (e : read_of received ≡ Ok header)
     (clean : node_or_reading_fault node received ≡ 0) (passes : drop_fault node header received ≡ 0) where
   is : header ≡ header_of received
   is = (shown received header e).is
@@ -159,7 +156,7 @@ module _ (node : Node) (received output : List ℕ) (header : Header) (e : read_
       or_else_later _ _ clean ∙ ap (λ (x : Header). drop_fault node x received or_else room_fault node.settings x (length output)) (sym is)
       ∙ or_else_later _ _ passes
 
-  module _ (sender : Sender) (es : sender ≡ last_sender header received) (d r n : ℕ) (now : List ℕ)
+  module _ (sender : Option ℕ) (es : sender ≡ last_sender header received) (d r n : ℕ) (now : List ℕ)
       (ed : d ≡ delivery_fault node.settings header) where
     answered_is : stop_fault node (length output) received ≡ 0 → r ≡ repeat_fault node.settings header
         → n ≡ cond (eqb r 0) (repeated_length header) 0
@@ -183,7 +180,7 @@ module _ (node : Node) (received output : List ℕ) (header : Header) (e : read_
     is_repeated z er fits en eo =
         answered_is (only_room ∙ gives_none _ 40 (rw (er, le-ltb _ _ fits))) (z ∙ sym er) (rw z en) (rw z eo)
 
-  pub no_room : (bytes : ℕ) (sender : Sender) → sender ≡ last_sender header received → repeat_fault node.settings header ≡ 0
+  pub no_room : (bytes : ℕ) (sender : Option ℕ) → sender ≡ last_sender header received → repeat_fault node.settings header ≡ 0
       → length output < repeated_length header → bytes ≡ pdu_length header
       → Hears node received output (given_twice 40 bytes sender) output
   no_room bytes sender es er short eb =
@@ -191,7 +188,7 @@ module _ (node : Node) (received output : List ℕ) (header : Header) (e : read_
       (from ∙ sym es)
 
 -- a refusal's number is not 0
-pub refusal_number_lem : (reading : Reading) (refusal : Refusal) {n : ℕ} → reading ≡ Refused refusal → n ≡ reading_number reading → n ≡ 0 → ⊥
+pub refusal_number_lem : (reading : Result Header Refusal) (refusal : Refusal) {n : ℕ} → reading ≡ Err refusal → n ≡ reading_number reading → n ≡ 0 → ⊥
 refusal_number_lem reading refusal e en z = omega (arith, en ∙ ap reading_number e, number_positive refusal)
   where
     number_positive : (r : Refusal) → 0 < refusal_number r

@@ -7,11 +7,11 @@ use mathlib.Core.List.{List, [], ◌∷◌, ◌++◌, append-nil}
 use mathlib.Core.Path.{◌≡◌, refl, ap, sym, ◌∙◌}
 use lib.ListN.{length, take, set, length-append}
 use lib.Seq.{take_at, take-take, get_or-take}
+use Rattle.std.specs.Prelude.{Ok}
 use Rattle.octets.specs.Numbers.{flag}
 use Rattle.octets.specs.Octets.{at, AllBytes, word_bytes}
 use Rattle.octets.proofs.Words.{bytes_joined, bytes_set, bytes_take, bytes_drop, bytes_word}
 use Rattle.pdu.specs.declared.Header.{Header}
-use Rattle.pdu.specs.declared.Reading.TheVariants.{Pdu}
 use Rattle.pdu.specs.Header.{path_count_place, path_count_in, header_of}
 use Rattle.pdu.specs.Sizes.{path_limit, pdu_limit, path_start, header_length, pdu_length}
 use Rattle.pdu.specs.Reading.{read_of}
@@ -39,7 +39,7 @@ path_joined [] later = refl
 path_joined (address ∷ path) later = ap (λ (bytes : List ℕ). word_bytes address ++ bytes) (path_joined path later)
 
 -- a PDU that was read
-module _ (received : List ℕ) (header : Header) (small : AllBytes received) (read : read_of received ≡ Pdu header) where
+module _ (received : List ℕ) (header : Header) (small : AllBytes received) (read : read_of received ≡ Ok header) where
   abbrev path : List ℕ
   path = path_in header received
 
@@ -161,7 +161,7 @@ module _ (received : List ℕ) (header : Header) (small : AllBytes received) (re
 
   -- the repeat reads back, whatever bytes come after it
   module _ (ready : Ready received header) (own : ℕ) (rest : List ℕ) where
-    pub repeat_reads : read_of (repeated own received ++ rest) ≡ Pdu (repeated_header header)
+    pub repeat_reads : read_of (repeated own received ++ rest) ≡ Ok (repeated_header header)
     repeat_reads = rw (same_bytes ready own) (read_encode (repeat_well_formed own) rest)
 
     pub repeat_path : path_in (repeated_header header) (repeated own received ++ rest) ≡ path_in header received ++ own_entry header own
@@ -172,7 +172,7 @@ module _ (received : List ℕ) (header : Header) (small : AllBytes received) (re
 
   module _ (ready : Ready received header) (own : ℕ) where
     -- the repeat alone
-    pub alone_reads : read_of (repeated own received) ≡ Pdu (repeated_header header)
+    pub alone_reads : read_of (repeated own received) ≡ Ok (repeated_header header)
     alone_reads = ap read_of (sym (append-nil (repeated own received))) ∙ repeat_reads ready own []
 
     pub alone_path : path_in (repeated_header header) (repeated own received) ≡ path_in header received ++ own_entry header own

@@ -6,11 +6,10 @@ use mathlib.Core.List.{List}
 use mathlib.Core.Path.{◌≡◌, ap, ◌∙◌}
 use lib.ListN.{length}
 use borrow.Author.Tests.{ne_eqb, not-false}
+use Rattle.std.specs.Prelude.{Err, None}
 use Rattle.octets.specs.Numbers.{◌or_else◌}
 use Rattle.octets.proofs.Numbering.{or_else_zero, gives_zero, gives_here, gives_later, or_else_first}
 use Rattle.pdu.specs.declared.Refusal.{Refusal}
-use Rattle.pdu.specs.declared.Reading.TheVariants.{Refused}
-use Rattle.pdu.specs.declared.Sender.TheVariants.{Unknown}
 use Rattle.pdu.specs.Reading.{read_of, refusal_number}
 use Rattle.editions.specs.Editions.{known}
 use Rattle.lists.specs.Lists.{list_fault}
@@ -41,7 +40,7 @@ module _ (node : Node) (n : ℕ) (some : n ≡ 0 → ⊥) (received : List ℕ) 
   unfolding taken
   unread_taken = rw (unread, ne_eqb n 0 some)
 
-  heard : heard_from node received ≡ Unknown
+  heard : heard_from node received ≡ None
   unfolding heard_from
   heard = rw (unread, ne_eqb n 0 some)
 
@@ -57,7 +56,7 @@ module _ (node : Node) (n : ℕ) (some : n ≡ 0 → ⊥) (received : List ℕ) 
   unfolding repeat_number
   unread_repeat room = rw (stops room) (or_else_first n _ some)
 
-  pub unread_answer : (room : ℕ) → answer_of node room received ≡ given_twice n 0 Unknown
+  pub unread_answer : (room : ℕ) → answer_of node room received ≡ given_twice n 0 None
   unfolding answer_of
   unread_answer room = rw (delivery room, unread_repeat room, unread_taken, heard, ne_eqb n 0 some)
 
@@ -77,14 +76,14 @@ module _ (node : Node) (n : ℕ) (some : n ≡ 0 → ⊥) (fault : node_fault no
   pub fault_repeat : (room : ℕ) → repeat_number node room received ≡ n
   fault_repeat = unread_repeat node n some received fault_unread
 
-  pub fault_answer : (room : ℕ) → answer_of node room received ≡ given_twice n 0 Unknown
+  pub fault_answer : (room : ℕ) → answer_of node room received ≡ given_twice n 0 None
   fault_answer = unread_answer node n some received fault_unread
 
   pub fault_output : (output : List ℕ) → output_after node received output ≡ output
   fault_output = unread_output node n some received fault_unread
 
 -- and where reading has it
-pub reading_unread : (node : Node) (received : List ℕ) (refusal : Refusal) → node_fault node ≡ 0 → read_of received ≡ Refused refusal
+pub reading_unread : (node : Node) (received : List ℕ) (refusal : Refusal) → node_fault node ≡ 0 → read_of received ≡ Err refusal
     → node_or_reading_fault node received ≡ refusal_number refusal
 unfolding node_or_reading_fault ◌or_else◌
 reading_unread node received refusal clean e = rw (clean, e)

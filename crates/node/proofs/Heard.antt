@@ -9,12 +9,12 @@ use mathlib.Core.Path.{◌≡◌, refl, ap, sym, ◌∙◌}
 use lib.Dec.{eqb, ltb}
 use lib.ListN.{take, drop}
 use borrow.Author.Tests.{eq-eqb, ne_eqb, eqb-false, le-ltb, ltb-false}
+use Rattle.std.specs.Prelude.{Result, Ok, Err}
 use Rattle.octets.specs.Octets.{AllBytes}
 use Rattle.octets.proofs.Numbering.{or_else_zero, gives_zero, gives_none, or_else_first, or_else_later}
 use Rattle.octets.proofs.Tests.{not_both}
+use Rattle.pdu.specs.declared.Refusal.{Refusal}
 use Rattle.pdu.specs.declared.Header.{Header}
-use Rattle.pdu.specs.declared.Reading.{Reading}
-use Rattle.pdu.specs.declared.Reading.TheVariants.{Pdu, Refused}
 use Rattle.pdu.specs.Header.{header_of}
 use Rattle.pdu.specs.Sizes.{header_length}
 use Rattle.pdu.specs.Reading.{read_of, reading_number}
@@ -57,7 +57,7 @@ last_in_path address (entry ∷ path) = go (eqb entry address) (last_in_path add
 -- what follows where the repeat number is 0
 pub record Repeats (node : Node) (room : ℕ) (received : List ℕ) : Type 0 where
   pub header : Header
-  pub read : read_of received ≡ Pdu header
+  pub read : read_of received ≡ Ok header
   pub ready : Ready received header
   pub no_echo : node.settings.echo ≡ true → header.path_bit ≡ true → in_path node.settings.own (path_in header received) ≡ false
   pub not_own : node.settings.echo ≡ true → header.source ≡ node.settings.own → ⊥
@@ -99,11 +99,11 @@ module _ (node : Node) where
         go (read_of received) refl t3.0 t3.1 t4.0 t1.1
         (room_enough _ _ _ (eq-eqb (repeat_fault node.settings (header_of received)) 0 t1.1) (gives_zero _ 40 (omega arith) t4.1))
       where
-        go : (reading : Reading) → read_of received ≡ reading → node_fault node ≡ 0 → reading_number reading ≡ 0
+        go : (reading : Result Header Refusal) → read_of received ≡ reading → node_fault node ≡ 0 → reading_number reading ≡ 0
             → drop_fault node (header_of received) received ≡ 0
             → repeat_fault node.settings (header_of received) ≡ 0 → repeated_length (header_of received) ≤ room → Repeats node room received
-        go (Refused refusal) e clean number pass again fit = absurd (refusal_number_lem (Refused refusal) refusal refl refl number)
-        go (Pdu header) e clean number pass again fit =
+        go (Err refusal) e clean number pass again fit = absurd (refusal_number_lem (Err refusal) refusal refl refl number)
+        go (Ok header) e clean number pass again fit =
             let is = (shown received header e).is in
             let passes : drop_fault node header received ≡ 0 = ap (λ (x : Header). drop_fault node x received) is ∙ pass in
             let repeats : repeat_fault node.settings header ≡ 0 = ap (repeat_fault node.settings) is ∙ again in
@@ -119,7 +119,7 @@ module _ (node : Node) where
               fits = omega (arith, fit, ap (λ (x : Header). repeated_length x) is);
             }
 
-    pub will_repeat : (header : Header) → node_fault node ≡ 0 → read_of received ≡ Pdu header → drop_fault node header received ≡ 0
+    pub will_repeat : (header : Header) → node_fault node ≡ 0 → read_of received ≡ Ok header → drop_fault node header received ≡ 0
         → repeat_fault node.settings header ≡ 0 → repeated_length header ≤ room → repeat_number node room received ≡ 0
     unfolding repeat_number stop_fault
     will_repeat header clean e passes repeats fits =
@@ -159,7 +159,7 @@ module _ (node : Node) where
       dropped_repeat = rw dropped_stop (or_else_first n _ some)
 
 -- a node that hears its own repeat
-module _ (received : List ℕ) (header : Header) (small : AllBytes received) (read : read_of received ≡ Pdu header) (is-ready : Ready received header)
+module _ (received : List ℕ) (header : Header) (small : AllBytes received) (read : read_of received ≡ Ok header) (is-ready : Ready received header)
     (bit : header.path_bit ≡ true) (own : ℕ) where
   pub own_in_path : in_path own (path_in (repeated_header header) (repeated own received)) ≡ true
   own_in_path =
@@ -179,7 +179,7 @@ module _ (received : List ℕ) (header : Header) (small : AllBytes received) (re
       abbrev again : List ℕ
       again = repeated own received
 
-      again_reads : read_of again ≡ Pdu (repeated_header header)
+      again_reads : read_of again ≡ Ok (repeated_header header)
       again_reads = alone_reads received header small read is-ready own
 
       again_read : node_or_reading_fault node again ≡ 0

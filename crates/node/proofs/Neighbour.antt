@@ -7,11 +7,10 @@ use mathlib.Core.Path.{◌≡◌, refl, ap, sym, ◌∙◌}
 use lib.Dec.{eqb}
 use lib.ListN.{length, drop}
 use borrow.Author.Tests.{eqb-true, eqb-false}
+use Rattle.std.specs.Prelude.{Ok, None, Some}
 use Rattle.octets.specs.Octets.{AllBytes, over}
 use Rattle.octets.proofs.Numbering.{or_else_first}
 use Rattle.pdu.specs.declared.Header.{Header}
-use Rattle.pdu.specs.declared.Sender.TheVariants.{Unknown, Known}
-use Rattle.pdu.specs.declared.Reading.TheVariants.{Pdu}
 use Rattle.pdu.specs.Header.{header_of}
 use Rattle.pdu.specs.Reading.{read_of}
 use Rattle.pdu.specs.Parts.{path_in, last_sender}
@@ -27,14 +26,14 @@ use Rattle.node.proofs.ChangedHeader.{same_path_bit}
 use Rattle.node.proofs.Encoded.{repeat_reads, repeat_path}
 use Rattle.node.proofs.Heard.{repeats}
 
-module _ (received : List ℕ) (header : Header) (small : AllBytes received) (read : read_of received ≡ Pdu header) (ready : Ready received header)
+module _ (received : List ℕ) (header : Header) (small : AllBytes received) (read : read_of received ≡ Ok header) (ready : Ready received header)
     (own : ℕ) (rest : List ℕ) where
-  pub repeat_sender : header.path_bit ≡ true → last_sender (repeated_header header) (repeated own received ++ rest) ≡ Known own
+  pub repeat_sender : header.path_bit ≡ true → last_sender (repeated_header header) (repeated own received ++ rest) ≡ Some own
   repeat_sender bit =
       sender_behind (repeated_header header) (repeated own received ++ rest) (same_path_bit header ∙ bit) (path_in header received) own
       (repeat_path received header small read ready own rest ∙ ap (λ (t : Bool). path_in header received ++ cond t (own ∷ []) []) bit)
 
-  pub repeat_unknown : header.path_bit ≡ false → last_sender (repeated_header header) (repeated own received ++ rest) ≡ Unknown
+  pub repeat_unknown : header.path_bit ≡ false → last_sender (repeated_header header) (repeated own received ++ rest) ≡ None
   repeat_unknown none = sender_unknown (repeated_header header) (repeated own received ++ rest) (same_path_bit header ∙ none)
 
 -- the node's answer
@@ -43,7 +42,7 @@ module _ (node : Node) (room : ℕ) (received : List ℕ) where
   unfolding answer_of
   carried read = read_sender node received [] read
 
-  pub not_carried : (node_or_reading_fault node received ≡ 0 → ⊥) → (answer_of node room received).last_sender ≡ Unknown
+  pub not_carried : (node_or_reading_fault node received ≡ 0 → ⊥) → (answer_of node room received).last_sender ≡ None
   unfolding answer_of
   not_carried unread = unread_sender node received [] unread
 
@@ -66,7 +65,7 @@ module _ (node : Node) (room : ℕ) (received : List ℕ) where
           absurd (omega (arith, large, given, unread_small node received))
 
   -- of bytes that were read
-  pub heard : (header : Header) → node_fault node ≡ 0 → read_of received ≡ Pdu header
+  pub heard : (header : Header) → node_fault node ≡ 0 → read_of received ≡ Ok header
       → (answer_of node room received).last_sender ≡ last_sender header received
   heard header clean read =
       carried (is_readable node received [] clean header read) ∙ ap (λ (h : Header). last_sender h received) (sym (shown received header read).is)
@@ -83,18 +82,18 @@ module _ (node : Node) (room : ℕ) (received : List ℕ) (small : AllBytes rece
   unfolding header
   is = (shown received (repeats node room received again).header (repeats node room received again).read).is
 
-  pub sent_reads : read_of sent ≡ Pdu (repeated_header header)
+  pub sent_reads : read_of sent ≡ Ok (repeated_header header)
   unfolding header
   sent_reads =
       let r = repeats node room received again in repeat_reads received r.header small r.read r.ready node.settings.own rest
 
-  pub sent_by : (header_of received).path_bit ≡ true → last_sender (repeated_header header) sent ≡ Known node.settings.own
+  pub sent_by : (header_of received).path_bit ≡ true → last_sender (repeated_header header) sent ≡ Some node.settings.own
   unfolding header
   sent_by bit =
       let r = repeats node room received again in
       repeat_sender received r.header small r.read r.ready node.settings.own rest (ap (λ (h : Header). h.path_bit) is ∙ bit)
 
-  pub sent_unknown : (header_of received).path_bit ≡ false → last_sender (repeated_header header) sent ≡ Unknown
+  pub sent_unknown : (header_of received).path_bit ≡ false → last_sender (repeated_header header) sent ≡ None
   unfolding header
   sent_unknown none =
       let r = repeats node room received again in
@@ -111,7 +110,7 @@ left node received output again = rw again
 
 pub neighbour : (repeater installer : Node) (received output : List ℕ) (room : ℕ) → AllBytes received
     → repeat_number repeater (length output) received ≡ 0 → (header_of received).path_bit ≡ true → node_fault installer ≡ 0
-    → (answer_of installer room (output_after repeater received output)).last_sender ≡ Known repeater.settings.own
+    → (answer_of installer room (output_after repeater received output)).last_sender ≡ Some repeater.settings.own
 neighbour repeater installer received output room small again bit clean =
     let own = repeater.settings.own in
     let rest = drop (length (repeated own received)) output in

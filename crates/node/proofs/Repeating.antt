@@ -8,12 +8,12 @@ use lib.Dec.{eqb}
 use lib.ListN.{length, take, set, length-append, length-drop, length-set}
 use lib.Seq.{length-take-le}
 use borrow.Author.Tests.{eqb-true, eqb-false}
+use Rattle.std.specs.Prelude.{Ok}
 use Rattle.octets.specs.Numbers.{flag}
 use Rattle.octets.specs.Octets.{at, AllBytes, word_bytes, over, placed, place_after}
 use Rattle.octets.proofs.Numbering.{or_else_zero, gives_zero}
 use Rattle.octets.proofs.Placing.{Begins, more, over_set, placed_start}
 use Rattle.pdu.specs.declared.Header.{Header}
-use Rattle.pdu.specs.declared.Reading.TheVariants.{Pdu}
 use Rattle.pdu.specs.Header.{is_set, hop_limit, path_bit, path_count_place, path_count_in, header_of}
 use Rattle.pdu.specs.Sizes.{path_limit, pdu_limit, path_start, header_length, pdu_length}
 use Rattle.pdu.specs.Reading.{read_of}
@@ -36,7 +36,7 @@ path_open : (bit : Bool) (count : ℕ) → (bit && eqb count path_limit) ≡ fal
 path_open true count e p = eqb-false count path_limit e
 path_open false count e p = let z : ◌≡◌ {A = ℕ} 0 1 = cc in absurd (omega arith)
 
-pub ready : (settings : Settings) (received : List ℕ) (header : Header) → read_of received ≡ Pdu header → repeat_fault settings header ≡ 0
+pub ready : (settings : Settings) (received : List ℕ) (header : Header) → read_of received ≡ Ok header → repeat_fault settings header ≡ 0
     → Ready received header
 unfolding repeat_fault
 ready settings received header e zero =

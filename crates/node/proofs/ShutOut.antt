@@ -9,9 +9,9 @@ use mathlib.Core.Path.{◌≡◌, refl, ap, sym, ◌∙◌}
 use lib.Dec.{eqb}
 use lib.ListN.{length, take, drop, replicate, length-take}
 use borrow.Author.Tests.{ne_eqb}
+use Rattle.std.specs.Prelude.{None, Some}
 use Rattle.octets.specs.Numbers.{◌gives◌, ◌or_else◌}
 use Rattle.octets.specs.Octets.{at, over}
-use Rattle.pdu.specs.declared.Sender.TheVariants.{Unknown, Known}
 use Rattle.pdu.specs.Header.{header_of}
 use Rattle.pdu.specs.Reading.{read_of}
 use Rattle.pdu.specs.Parts.{addresses_at, in_path, last_or}
@@ -88,16 +88,16 @@ record Given : Type 0 where
         delivered_length = 0;
         repeated_length = 22;
         taken = 20;
-        last_sender = Known 1000;
+        last_sender = Some 1000;
       }
   is_copied : take 22 (output_after (node_at 2000) example zeros) ≡ example_repeated
-  is_echo : answer_of (node_at 2000) 100 example_repeated ≡ given_twice 30 22 (Known 2000)
-  is_unread : answer_of (node_at 2000) 100 [] ≡ given_twice 1 0 Unknown
+  is_echo : answer_of (node_at 2000) 100 example_repeated ≡ given_twice 30 22 (Some 2000)
+  is_unread : answer_of (node_at 2000) 100 [] ≡ given_twice 1 0 None
   is_another's : (answer_of (node_at 2000) 100 added_header).delivery ≡ 39
-  is_own : answer_of (node_at 2000) 100 own_report ≡ given_twice 42 6 Unknown
-  is_own_with_path : answer_of (node_at 2000) 100 own_report_with_path ≡ given_twice 42 9 (Known 5)
-  is_echo_and_own : answer_of (node_at 2000) 100 own_report_echoed ≡ given_twice 30 9 (Known 2000)
-  is_own_and_listed : answer_of (node_with 2000 true true) 100 own_report ≡ given_twice 42 6 Unknown
+  is_own : answer_of (node_at 2000) 100 own_report ≡ given_twice 42 6 None
+  is_own_with_path : answer_of (node_at 2000) 100 own_report_with_path ≡ given_twice 42 9 (Some 5)
+  is_echo_and_own : answer_of (node_at 2000) 100 own_report_echoed ≡ given_twice 30 9 (Some 2000)
+  is_own_and_listed : answer_of (node_with 2000 true true) 100 own_report ≡ given_twice 42 6 None
   is_own_with_echo_off : (answer_of (node_with 2000 false false) 100 own_report).repeat ≡ 0
   is_for_own : (answer_of (node_at 2000) 100 for_own).repeat ≡ 41
 

@@ -1,11 +1,9 @@
 -- Document 01, "One PDU at one node" and "Numbers answered": what a node answers, as one value, and what it leaves in its output. Document 02, W-205: the
 -- answer carries the last sender; W-209: an edition that is not known is refused first.
-use Rattle.std.specs.Prelude.{ℕ, not, cond, ◌&&◌, List, [], ◌≡◌, eqb, ltb, length}
+use Rattle.std.specs.Prelude.{ℕ, not, cond, ◌&&◌, List, [], ◌≡◌, eqb, ltb, length, Option, None}
 use Rattle.octets.specs.Numbers.{◌gives◌, ◌or_else◌}
 use Rattle.octets.specs.Octets.{over}
 use Rattle.pdu.specs.declared.Header.{Header}
-use Rattle.pdu.specs.declared.Sender.{Sender}
-use Rattle.pdu.specs.declared.Sender.TheVariants.{Unknown}
 use Rattle.pdu.specs.Header.{header_of}
 use Rattle.pdu.specs.Sizes.{header_length, pdu_length}
 use Rattle.pdu.specs.Reading.{read_of, reading_number}
@@ -52,8 +50,8 @@ unfoldable pub taken : Node → List ℕ → ℕ
 taken node received = cond (eqb (node_or_reading_fault node received) 0) (pdu_length (header_of received)) 0
 
 -- who the PDU was heard from (document 02, W-205), whenever it was read; else unknown
-unfoldable pub heard_from : Node → List ℕ → Sender
-heard_from node received = cond (eqb (node_or_reading_fault node received) 0) (last_sender (header_of received) received) Unknown
+unfoldable pub heard_from : Node → List ℕ → Option ℕ
+heard_from node received = cond (eqb (node_or_reading_fault node received) 0) (last_sender (header_of received) received) None
 
 -- the two numbers; where the delivered payload lies in the received bytes, 0 and 0 where nothing is delivered; the length of the repeated PDU, 0
 -- where nothing is repeated; where the next PDU begins, also where a number from 30 on was given: a walk goes on there; and who it was heard from
@@ -70,7 +68,7 @@ answer_of node room received =
     }
 
 -- one number given twice: nothing is delivered and nothing repeated
-abbrev pub given_twice : ℕ → ℕ → Sender → Answer
+abbrev pub given_twice : ℕ → ℕ → Option ℕ → Answer
 given_twice number next sender =
     record {
       delivery = number;

@@ -1,9 +1,8 @@
 // One PDU at one node: what is delivered, what is repeated, and the repeated PDU.
 #![tactic(auto)]
 
-ghost use Rattle.std.specs.Prelude.{◌≡◌, cond, eqb, length};
+ghost use Rattle.std.specs.Prelude.{◌≡◌, cond, eqb, length, Ok};
 ghost use Rattle.octets.specs.Octets.{IsPart};
-ghost use Rattle.pdu.specs.declared.Reading.TheVariants.{Pdu};
 ghost use Rattle.pdu.specs.Sizes.{header_length, pdu_length};
 ghost use Rattle.pdu.specs.Reading.{read_of};
 ghost use Rattle.pdu.specs.Parts.{last_sender};
@@ -12,13 +11,14 @@ ghost use Rattle.decision.specs.Decision.{node_of, drop_fault};
 ghost use Rattle.node.specs.Answers.{node_fault, node_or_reading_fault, given_twice, Hears};
 
 use decision::Settings;
-use pdu::{Header, Reading, Sender};
+use pdu::Header;
 
 mod repeat;
 
 // What a node returns for one PDU. The delivered payload lies at `delivered_place` in the received bytes; place and length are 0 if nothing is delivered.
 // `repeated_length` is 0 if nothing is repeated. `taken` is where the next PDU begins in the received bytes. `last_sender` is who the PDU was heard from.
 // If the edition or a list is refused, or no PDU can be read, `taken` is 0 and the last sender unknown.
+// Kept: delivery and repeat are document 01's numbers, which the definitions, C and `relay` name.
 #[derive(Clone, Copy)]
 pub struct Answer {
     pub delivery: u8,
@@ -27,7 +27,7 @@ pub struct Answer {
     pub delivered_length: usize,
     pub repeated_length: usize,
     pub taken: usize,
-    pub last_sender: Sender,
+    pub last_sender: Option<u16>,
 }
 
 // Hears the PDU at the start of `received`, and returns one number for delivery and one for repeating. It checks in this order: the edition (17); the eight
@@ -38,20 +38,20 @@ pub struct Answer {
 pub fn hear(settings: Settings, lists: &[u16], received: &[u8], output: &mut [u8]) -> Answer
     ensures { Hears (node_of settings (lists_in lists.now)) received.now output.old result output.new }
 {
-    let fault = node_fault(settings, &lists[..]);
+    let fault = node_fault(settings, lists);
     if fault != 0 {
-        return given_twice(fault, 0, Sender::Unknown);
+        return given_twice(fault, 0, None);
     }
-    let reading = pdu::read(&received[..]);
-    let Reading::Pdu(header) = reading else {
-        return given_twice(pdu::reading_number(reading), 0, Sender::Unknown);
+    let reading = pdu::read(received);
+    let Ok(header) = reading else {
+        return given_twice(pdu::reading_number(reading), 0, None);
     };
-    let sender = pdu::parts::last_sender(&received[..], header);
-    let number = decision::drop_fault(settings, &lists[..], header, &received[..]);
+    let sender = pdu::parts::last_sender(received, header);
+    let number = decision::drop_fault(settings, lists, header, received);
     if number != 0 {
         return given_twice(number, header.pdu_length(), sender);
     }
-    decide(settings, &received[..], header, sender, output)
+    decide(settings, received, header, sender, output)
 }
 
 // What stops every PDU: 17, then the fault of the lists.
@@ -69,10 +69,10 @@ fn decide(
     settings: Settings,
     received: &[u8],
     header: Header,
-    sender: Sender,
+    sender: Option<u16>,
     output: &mut [u8],
 ) -> Answer
-    requires { (read_of received.now ≡ Pdu header) × (sender ≡ last_sender header received.now) }
+    requires { (read_of received.now ≡ Ok header) × (sender ≡ last_sender header received.now) }
     ensures { (lists : Lists) → node_or_reading_fault (node_of settings lists) received.now ≡ 0
         → drop_fault (node_of settings lists) header received.now ≡ 0
         → Hears (node_of settings lists) received.now output.old result output.new }
@@ -91,7 +91,7 @@ fn decide(
 }
 
 // One number given twice: nothing is delivered and nothing repeated. The next PDU begins at `next`.
-fn given_twice(number: u8, next: usize, sender: Sender) -> Answer
+fn given_twice(number: u8, next: usize, sender: Option<u16>) -> Answer
     ensures { result ≡ given_twice number next sender }
 {
     Answer {
@@ -105,7 +105,7 @@ fn given_twice(number: u8, next: usize, sender: Sender) -> Answer
     }
 }
 
-fn answered(header: Header, sender: Sender, delivery: u8, repeat: u8, size: usize) -> Answer
+fn answered(header: Header, sender: Option<u16>, delivery: u8, repeat: u8, size: usize) -> Answer
     ensures { result ≡ record {
       delivery = delivery;
       repeat = repeat;
@@ -116,26 +116,22 @@ fn answered(header: Header, sender: Sender, delivery: u8, repeat: u8, size: usiz
       last_sender = sender;
     } }
 {
-    let taken = header.pdu_length();
-    if delivery == 0 {
-        return Answer {
-            delivery,
-            repeat,
-            delivered_place: header.header_length(),
-            delivered_length: header.payload_length as usize,
-            repeated_length: size,
-            taken,
-            last_sender: sender,
-        };
-    }
-    Answer {
+    let undelivered = Answer {
         delivery,
         repeat,
         delivered_place: 0,
         delivered_length: 0,
         repeated_length: size,
-        taken,
+        taken: header.pdu_length(),
         last_sender: sender,
+    };
+    if delivery != 0 {
+        return undelivered;
+    }
+    Answer {
+        delivered_place: header.header_length(),
+        delivered_length: usize::from(header.payload_length),
+        ..undelivered
     }
 }
 

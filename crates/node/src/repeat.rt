@@ -1,7 +1,6 @@
 // The repeated PDU, each part written straight to its place in the output.
-ghost use Rattle.std.specs.Prelude.{◌≡◌, true, cond, ◌+◌, ◌-◌, ◌<◌, ◌≤◌, length, set};
+ghost use Rattle.std.specs.Prelude.{◌≡◌, true, cond, ◌+◌, ◌-◌, ◌<◌, ◌≤◌, length, set, Ok};
 ghost use Rattle.octets.specs.Octets.{word_bytes, over, placed, place_after};
-ghost use Rattle.pdu.specs.declared.Reading.TheVariants.{Pdu};
 ghost use Rattle.pdu.specs.Header.{hop_limit};
 ghost use Rattle.pdu.specs.Sizes.{path_limit, path_start, header_length};
 ghost use Rattle.pdu.specs.Reading.{read_of};
@@ -13,7 +12,7 @@ use pdu::Header;
 
 // Writes the repeat of the received PDU at the start of an output that has room for it.
 pub(crate) fn put_repeat(settings: Settings, received: &[u8], header: Header, output: &mut [u8])
-    requires { (read_of received.now ≡ Pdu header) × (repeat_fault settings header ≡ 0) × (repeated_length header ≤ length output.old) }
+    requires { (read_of received.now ≡ Ok header) × (repeat_fault settings header ≡ 0) × (repeated_length header ≤ length output.old) }
     ensures { output.new ≡ over (repeated settings.own received.now) output.old }
 {
     let own_place = put_lowered(output, received, header);
@@ -30,7 +29,7 @@ pub(crate) fn repeated_length(header: Header) -> usize
 
 // The received header with its hop limit lowered.
 fn put_lowered(output: &mut [u8], received: &[u8], header: Header) -> usize
-    requires { (read_of received.now ≡ Pdu header) × (header.hop_limit ≡ 0 → ⊥) × (header_length header ≤ length output.old) }
+    requires { (read_of received.now ≡ Ok header) × (header.hop_limit ≡ 0 → ⊥) × (header_length header ≤ length output.old) }
     ensures { (result ≡ header_length header) × (output.new ≡ over (lowered_header received.now) output.old) }
 {
     let end = header.header_length();

@@ -1,5 +1,5 @@
 -- What a table leaves in memory is that table.
-use Prim.Native.Nat.{ℕ, zero, suc, ◌+◌, ◌-◌, ◌≤◌, ◌<◌, min}
+use Prim.Native.Nat.{ℕ, zero, suc, ◌+◌, ◌-◌, ◌≤◌, min}
 use native.Mathlib.Omega.{arith}
 use mathlib.Core.Bool.{Bool, true, false, not, cond, ◌||◌}
 use mathlib.Core.List.{List, [], ◌∷◌, ◌++◌, append_assoc}
@@ -8,10 +8,8 @@ use lib.Dec.{T, eqb}
 use lib.ListN.{length, take, drop}
 use borrow.Author.Tests.{ne_eqb}
 use Rattle.octets.specs.Octets.{at, over}
-use Rattle.octets.proofs.Placing.{length_over}
 use Rattle.stations.specs.declared.Station.{Station}
 use Rattle.stations.specs.Table.{station_limit, station_from, stations_from, table_in, station_words, words_of, memory_of, station_at}
-use Rattle.stations.proofs.Memory.{length_words}
 use Rattle.stations_update.specs.declared.Heard.{Heard}
 use Rattle.stations_update.specs.Counting.{counted}
 

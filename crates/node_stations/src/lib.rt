@@ -8,10 +8,11 @@ use node::Answer;
 use stations::Station;
 use stations_update::Heard;
 
+// Kept as numbers: `delivery` of node's `Answer` is one, as C gets it.
 fn is_echo_number(number: u8) -> bool
     ensures { result ≡ is_echo_number number }
 {
-    if number == 30 { true } else { number == 42 }
+    number == 30 || number == 42
 }
 
 // The three fields that are counted, each from its bytes; bytes that are not there count as 0.

@@ -1,10 +1,9 @@
 -- What opening answers and leaves, from what its parts answer.
 use Prim.Native.Nat.{ℕ, ◌-◌, ◌≤◌}
 use native.Mathlib.Omega.{arith}
-use mathlib.Core.Bool.{cond}
 use mathlib.Core.List.{List}
 use mathlib.Core.Path.{◌≡◌, refl, ap, ap₂, sym, ◌∙◌}
-use lib.Dec.{eqb, ltb}
+use lib.Dec.{ltb}
 use lib.ListN.{length, take, drop, length-drop}
 use lib.Seq.{length-take-le}
 use borrow.Author.Tests.{ne_eqb, ltb-false}
@@ -39,11 +38,18 @@ module _ (key memory bytes output : List ℕ) where
   unfolding open_number
   early fault e some = sym (rw (← e) (or_else_first fault _ some))
 
--- what the steps of opening found: header, sealed payload, number, expanded key and nonce, and what is refused after the hash
+-- what is refused after the hash
+pub late_is : (key memory bytes output keys : List ℕ) (fault : ℕ) → keyless_fault memory bytes ≡ 0 → keys ≡ key_expansion key
+    → fault ≡ late memory bytes (length output) (genuine_under keys bytes) → fault ≡ open_number key memory bytes (length output)
+unfolding genuine
+late_is key memory bytes output keys fault none ek ef =
+    ef ∙ ap (λ (w : List ℕ). late memory bytes (length output) (genuine_under w bytes)) ek ∙ sym (open_late key memory bytes (length output) none)
+
+-- what the steps of opening found: header, sealed payload, number, expanded key and nonce, and that nothing is refused after the hash
 module _ (key memory bytes output : List ℕ) (header : Header) (sealed keys nonce : List ℕ) (number fault : ℕ)
     (none : keyless_fault memory bytes ≡ 0) (is : header ≡ header_of bytes) (es : sealed ≡ payload_in header bytes) (en : number ≡ number_in sealed)
     (ek : keys ≡ key_expansion key) (ec : nonce ≡ nonce_of header.source number)
-    (ef : fault ≡ late memory bytes (length output) (genuine_under keys bytes)) where
+    (ef : fault ≡ late memory bytes (length output) (genuine_under keys bytes)) (zero : fault ≡ 0) where
   payload_is : sealed ≡ payload_in (header_of bytes) bytes
   payload_is = es ∙ ap (λ (h : Header). payload_in h bytes) is
 
@@ -69,32 +75,25 @@ module _ (key memory bytes output : List ℕ) (header : Header) (sealed keys non
       let front : nonce ≡ nonce_of (source_of bytes) (message_number bytes) = ec ∙ ap₂ nonce_of source_is number_is in
       sym (take_added (stream keys nonce) 0 (length sealed - 7) (drop 3 sealed)) ∙ rw (size_is, front, ek, payload_is) refl
 
-  late_is : fault ≡ open_number key memory bytes (length output)
-  unfolding genuine
-  late_is = ef ∙ ap (λ (w : List ℕ). late memory bytes (length output) (genuine_under w bytes)) ek ∙ sym (open_late key memory bytes (length output) none)
-
   -- what putting the plain payload asks
-  pub ready : (7 ≤ length sealed) × (fault ≡ 0 → length sealed - 7 ≤ length output)
+  pub ready : (7 ≤ length sealed) × (length sealed - 7 ≤ length output)
   ready =
-      let long : 7 ≤ length sealed = omega (arith, length_sealed, (is_sealed memory bytes none).long) in (
-        long,
-        λ z.
-            let t1 = or_else_zero _ _ (sym ef ∙ z) in
-            let t2 = or_else_zero (source_fault (source_of bytes) memory) (ltb (length output) (plain_length bytes) gives 87) t1.1 in
-            omega (arith, size_is, ltb-false (length output) (plain_length bytes) (gives_zero _ 87 (omega arith) t2.1)),
+      let t1 = or_else_zero _ _ (sym ef ∙ zero) in
+      let t2 = or_else_zero (source_fault (source_of bytes) memory) (ltb (length output) (plain_length bytes) gives 87) t1.1 in (
+        omega (arith, length_sealed, (is_sealed memory bytes none).long),
+        omega (arith, size_is, ltb-false (length output) (plain_length bytes) (gives_zero _ 87 (omega arith) t2.1)),
       )
 
   pub opened : (long : ℕ) (left after : List ℕ)
-      → (long ≡ cond (eqb fault 0) (length sealed - 7) 0)
-      × (left ≡ cond (eqb fault 0) (over (added (stream keys nonce) 0 (take (length sealed - 7) (drop 3 sealed))) output) output)
-      → after ≡ cond (eqb fault 0) (memory_accepted header.source number memory) memory
-      → (◌≡◌ {A = Written} (record { number = fault; length = long }) (open_written key memory bytes (length output)))
+      → (long ≡ length sealed - 7) × (left ≡ over (added (stream keys nonce) 0 (take (length sealed - 7) (drop 3 sealed))) output)
+      → after ≡ memory_accepted header.source number memory
+      → (◌≡◌ {A = Written} (record { number = 0; length = long }) (open_written key memory bytes (length output)))
       × (left ≡ open_output key memory bytes output) × (after ≡ memory_after_opening key memory bytes (length output))
   unfolding open_written open_output memory_after_opening
   opened long left after put noted =
-      let length_is : long ≡ cond (eqb fault 0) (plain_length bytes) 0 = put.0 ∙ ap (λ (n : ℕ). cond (eqb fault 0) n 0) size_is in
-      let output-is : left ≡ cond (eqb fault 0) (over (plain_payload key bytes) output) output =
-      put.1 ∙ ap (λ (l : List ℕ). cond (eqb fault 0) (over l output) output) plain_is in
-      let memory_is : after ≡ cond (eqb fault 0) (memory_accepted (source_of bytes) (message_number bytes) memory) memory =
-      noted ∙ ap₂ (λ (a b : ℕ). cond (eqb fault 0) (memory_accepted a b memory) memory) source_is number_is in
-      rw (← late_is, length_is) (refl, output-is, memory_is)
+      let opens : open_number key memory bytes (length output) ≡ 0 = sym (late_is key memory bytes output keys fault none ek ef) ∙ zero in
+      rw opens (
+        ap (λ (n : ℕ). let w : Written = record { number = 0; length = n } in w) (put.0 ∙ size_is),
+        put.1 ∙ ap (λ (l : List ℕ). over l output) plain_is,
+        noted ∙ ap₂ (λ (a b : ℕ). memory_accepted a b memory) source_is number_is,
+      )

@@ -1,25 +1,15 @@
--- The plain payload put at the start of an output, unless the PDU is refused.
+-- The plain payload put at the start of an output.
 use Prim.Native.Nat.{ℕ, ◌-◌, ◌≤◌}
 use native.Mathlib.Omega.{arith}
-use mathlib.Core.Bool.{cond}
 use mathlib.Core.List.{List, ◌++◌}
 use mathlib.Core.Path.{◌≡◌, ap, ap₂, sym, ◌∙◌}
-use lib.Dec.{eqb}
 use lib.ListN.{length, take, drop, length-drop}
 use lib.Seq.{take_at, drop_at, length-take-le}
-use borrow.Author.Tests.{eq-eqb, ne_eqb}
 use borrow.Rule.Slice.PartMut.{put_mid}
 use Rattle.octets.specs.Octets.{over, placed}
 use Rattle.octets.proofs.Placing.{placed_start}
 use Rattle.ctr.specs.Ctr.{added}
 use Rattle.ctr.proofs.Streams.{length_added}
-
--- what is done where nothing is refused, and what stays where something is
-pub done : {A : Type 0} (refused : ℕ) (x y : A) → refused ≡ 0 → x ≡ cond (eqb refused 0) x y
-done refused x y e = sym (simp (eq-eqb refused 0 e))
-
-pub stays : {A : Type 0} (refused : ℕ) (x y : A) → (refused ≡ 0 → ⊥) → y ≡ cond (eqb refused 0) x y
-stays refused x y e = sym (simp (ne_eqb refused 0 e))
 
 -- a part put at the start of an output and deciphered there
 pub plain_put : (s : ℕ → ℕ) (sealed output o1 back part : List ℕ) (n k : ℕ) → n ≡ length sealed - 7 → 7 ≤ length sealed → length sealed - 7 ≤ length output

@@ -5,9 +5,9 @@ use mathlib.Core.Bool.{Bool, true, false, not}
 use mathlib.Core.List.{List}
 use mathlib.Core.Path.{◌≡◌, refl, sym, ◌∙◌}
 use borrow.Author.Tests.{lt-ltb, le-ltb, ltb-false, not-false, ne_eqb}
+use Rattle.std.specs.Prelude.{Ok}
 use Rattle.octets.proofs.Numbering.{or_else_zero, gives_zero, gives_here, gives_later, gives_last, gives_none, or_else_first, or_else_later}
 use Rattle.pdu.specs.declared.Header.{Header}
-use Rattle.pdu.specs.declared.Reading.TheVariants.{Pdu}
 use Rattle.pdu.specs.Header.{header_of, source_of}
 use Rattle.pdu.specs.Reading.{read_of, reading_number}
 use Rattle.pdu.specs.Parts.{payload_in}
@@ -76,7 +76,7 @@ module _ (memory bytes : List ℕ) (early : ℕ) (is : early ≡ sealed_fault by
 
 -- what follows where nothing is refused without the key
 pub record Sealed (memory bytes : List ℕ) : Type 0 where
-  pub read : read_of bytes ≡ Pdu (header_of bytes)
+  pub read : read_of bytes ≡ Ok (header_of bytes)
   pub encrypted : (header_of bytes).encrypted ≡ true
   pub long : 7 ≤ (header_of bytes).payload_length
   pub greater : number_fault (source_of bytes) (message_number bytes) (record_in memory) ≡ 0

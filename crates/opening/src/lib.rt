@@ -22,6 +22,7 @@ pub struct Numbered {
 }
 
 // The first thing that keeps bytes from being a sealed PDU: 1 to 6, 80, 81, or 0.
+// Kept, here and in the two below: the documents number the refusals and C answers the number, so a `Result` would be turned back into one.
 fn sealed_fault(pdu: &[u8]) -> u8
     ensures { result ≡ sealed_fault pdu.now }
 {
@@ -33,7 +34,7 @@ fn sealed_fault(pdu: &[u8]) -> u8
     if !header.encrypted {
         return 80;
     }
-    if octets::word_value(header.payload_length) < Key::ADDED_LENGTH {
+    if usize::from(header.payload_length) < Key::ADDED_LENGTH {
         81
     } else {
         0
@@ -96,36 +97,16 @@ fn keyed_fault(
     }
 }
 
-// Puts the plain payload at the start of the output, and answers its length; does nothing and answers 0 where the PDU is refused.
-fn put_plain(
-    refused: u8,
-    keys: &[u8; 176],
-    nonce: [u8; 5],
-    sealed: &[u8],
-    output: &mut [u8],
-) -> usize
-    requires { (7 ≤ length sealed.now) × (refused ≡ 0 → length sealed.now - 7 ≤ length output.old) }
-    ensures { (result ≡ cond (eqb refused 0) (length sealed.now - 7) 0) × (output.new
-        ≡ cond (eqb refused 0) (over (added (stream keys.now nonce) 0 (take (length sealed.now - 7) (drop 3 sealed.now)))
-        output.old) output.old) }
+// Puts the plain payload at the start of the output, and answers its length.
+fn put_plain(keys: &[u8; 176], nonce: [u8; 5], sealed: &[u8], output: &mut [u8]) -> usize
+    requires { (7 ≤ length sealed.now) × (length sealed.now - 7 ≤ length output.old) }
+    ensures { (result ≡ length sealed.now - 7) × (output.new
+        ≡ over (added (stream keys.now nonce) 0 (take (length sealed.now - 7) (drop 3 sealed.now))) output.old) }
 {
-    if refused != 0 {
-        return 0;
-    }
     let size = sealed.len() - Key::ADDED_LENGTH;
     octets::put(output, 0, octets::part(sealed, 3, size));
     ctr::add_stream(keys, nonce, 0, &mut output[0..size]);
     size
-}
-
-// Notes a number as the last accepted from a source, unless the PDU is refused.
-fn note(fault: u8, memory: &mut [u32; sources::MEMORY], source: u16, number: u32)
-    ensures { memory.new ≡ cond (eqb fault 0) (memory_accepted source number memory.old) memory.old }
-{
-    if fault != 0 {
-        return;
-    }
-    sources::accept(memory, source, number);
 }
 
 // Opens, as `open` does, a PDU that nothing refuses before the key is used. By itself, so that the expanded key lies on the stack once and not twice.
@@ -143,15 +124,15 @@ fn open_with_key(
     let keys = aes::expand(key);
     let header = pdu::header_of(pdu);
     let late = keyed_fault(&keys, memory, pdu, header, output.len());
+    if late != 0 {
+        return message::refused(late);
+    }
     let sealed = pdu::parts::payload(pdu, header);
     let number = message::number_in(sealed);
     let nonce = message::nonce(header.source, number);
-    let length = put_plain(late, &keys, nonce, sealed, output);
-    note(late, memory, header.source, number);
-    Written {
-        number: late,
-        length,
-    }
+    let length = put_plain(&keys, nonce, sealed, output);
+    sources::accept(memory, header.source, number);
+    Written { number: 0, length }
 }
 
 // Opens the sealed PDU at the start of `pdu` under a key, against the record in `memory`: writes the plain payload at the start of the output, notes

@@ -5,12 +5,12 @@ use mathlib.Core.Bool.{Bool, true, false, cond}
 use mathlib.Core.List.{List, [], ◌++◌}
 use mathlib.Core.Path.{◌≡◌, refl, sym, ◌∙◌}
 use lib.ListN.{length, drop}
+use Rattle.std.specs.Prelude.{Ok, Some, Result}
 use Rattle.octets.specs.Numbers.{flag}
 use Rattle.octets.specs.Octets.{over}
 use Rattle.octets.proofs.Tests.{flag_small}
+use Rattle.pdu.specs.declared.Refusal.{Refusal}
 use Rattle.pdu.specs.declared.Header.{Header}
-use Rattle.pdu.specs.declared.Reading.TheVariants.{Pdu}
-use Rattle.pdu.specs.declared.Sender.TheVariants.{Known}
 use Rattle.pdu.specs.Sizes.{pdu_length}
 use Rattle.pdu.specs.Reading.{read_of}
 use Rattle.pdu.specs.Parts.{path_in, payload_in, last_sender}
@@ -48,7 +48,7 @@ fresh_well_formed {settings} a =
 
 -- bytes that hold, at their start, the PDU asked for
 pub record Holds (settings : FreshSettings) (payload bytes : List ℕ) : Type 0 where
-  pub reads : read_of bytes ≡ Pdu (fresh_header settings (length payload))
+  pub reads : read_of bytes ≡ Ok (fresh_header settings (length payload))
   pub no_path : path_in (fresh_header settings (length payload)) bytes ≡ []
   pub carries : payload_in (fresh_header settings (length payload)) bytes ≡ payload
 
@@ -65,16 +65,16 @@ module _ (settings : FreshSettings) (payload : List ℕ) (room : ℕ) (done : or
 
   -- a fresh PDU with a path is heard from its source (document 02, W-205)
   pub fresh_sender : settings.with_path ≡ true → (rest : List ℕ)
-      → last_sender (fresh_header settings (length payload)) (fresh settings payload ++ rest) ≡ Known settings.source
+      → last_sender (fresh_header settings (length payload)) (fresh settings payload ++ rest) ≡ Some settings.source
   unfolding fresh_header
   fresh_sender bit rest = sender_empty (fresh_header settings (length payload)) (fresh settings payload ++ rest) bit (fresh_back rest).no_path
 
-same_header : (a b : Header) → Pdu a ≡ Pdu b → a ≡ b
+same_header : (a b : Header) → ◌≡◌ {A = Result Header Refusal} (Ok a) (Ok b) → a ≡ b
 same_header a b e = cc
 
 -- the hop limit on the air is the hop setting asked for
 pub hop_as_set : (settings : FreshSettings) (payload : List ℕ) (room : ℕ) (rest : List ℕ) (header : Header) → origination_number settings payload room ≡ 0
-    → read_of (fresh settings payload ++ rest) ≡ Pdu header → header.hop_limit ≡ settings.hop_limit
+    → read_of (fresh settings payload ++ rest) ≡ Ok header → header.hop_limit ≡ settings.hop_limit
 unfolding fresh_header
 hop_as_set settings payload room rest header done shown =
     let same : header ≡ fresh_header settings (length payload) = same_header _ _ (sym shown ∙ (fresh_back settings payload room done rest).reads) in

@@ -52,6 +52,7 @@ fn refused(number: u8) -> Written
     Written { number, length: 0 }
 }
 
+// Kept: a number, since definition `settings_fault` and C's `Written` carry it.
 // The refusals that need no output, 17, 10 to 13 and 16, or 0.
 fn settings_fault(settings: FreshSettings, payload: &[u8]) -> u8
     ensures { result ≡ settings_fault settings payload.now }
@@ -83,17 +84,14 @@ fn settings_fault(settings: FreshSettings, payload: &[u8]) -> u8
 fn unmarked(edition: u64, encrypted: bool) -> bool
     ensures { result ≡ (encrypted && eqb edition 11) }
 {
-    if encrypted { edition == 11 } else { false }
+    encrypted && edition == 11
 }
 
 // Reliable service without a destination.
 fn unaddressed(reliable: bool, destination: Destination) -> bool
     ensures { result ≡ (reliable && eqb (destination_flag destination) 0) }
 {
-    match destination {
-        Destination::Everyone => reliable,
-        Destination::Address(_) => false,
-    }
+    reliable && destination == Destination::Everyone
 }
 
 fn fresh_header(settings: FreshSettings, payload_length: usize) -> Header

@@ -8,12 +8,12 @@ use lib.Dec.{eqb}
 use lib.ListN.{length, take, drop, length-take}
 use lib.Seq.{length-take-le, take-add, take_at, take-length, drop_at, get_or-take}
 use borrow.Author.Tests.{eq-eqb, eqb-true}
+use Rattle.std.specs.Prelude.{Ok}
 use Rattle.octets.specs.Numbers.{flag}
 use Rattle.octets.specs.Octets.{at, word_at}
 use Rattle.octets.proofs.Tests.{both}
 use Rattle.pdu.specs.declared.Destination.TheVariants.{Everyone, Address}
 use Rattle.pdu.specs.declared.Header.{Header}
-use Rattle.pdu.specs.declared.Reading.TheVariants.{Pdu}
 use Rattle.pdu.specs.Header.{is_set, protocol, path_bit, destination_bit, payload_length, source_place, destination_place, pdu_id_place, path_count_place}
 use Rattle.pdu.specs.Header.{destination_in, pdu_id_in, path_count_in, header_of}
 use Rattle.pdu.specs.Sizes.{path_entries, path_start, header_length, pdu_length}
@@ -34,7 +34,7 @@ behind place n bytes h =
     ap (drop place) (take-add place n bytes) ∙ drop_at (take place bytes) (take n (drop place bytes)) place (length-take-le place bytes h)
 
 -- bytes that begin with the PDU that was read of others
-module _ (bytes other : List ℕ) (header : Header) (read : read_of bytes ≡ Pdu header)
+module _ (bytes other : List ℕ) (header : Header) (read : read_of bytes ≡ Ok header)
     (same : take (pdu_length header) other ≡ take (pdu_length header) bytes) where
   seen : Shown bytes header
   seen = shown bytes header read
@@ -81,7 +81,7 @@ module _ (bytes other : List ℕ) (header : Header) (read : read_of bytes ≡ Pd
       (ap (payload_length (at other 2)) (byte_same 3 (omega arith))) (word_same source_place (omega arith))
       ∙ header_found bytes destination_same id_same count_same
 
-  pub same_reads : read_of other ≡ Pdu header
+  pub same_reads : read_of other ≡ Ok header
   same_reads =
       let whole : Whole other =
       record {
@@ -91,7 +91,7 @@ module _ (bytes other : List ℕ) (header : Header) (read : read_of bytes ≡ Pd
         addressed = rw first_same seen.whole.addressed;
         all = rw (header_same, ← seen.is) long;
       } in
-      read_whole other whole ∙ ap Pdu (header_same ∙ sym seen.is)
+      read_whole other whole ∙ ap Ok (header_same ∙ sym seen.is)
 
   addresses_same : (place n : ℕ) → place + 2 * n ≤ pdu_length header → addresses_at other place n ≡ addresses_at bytes place n
   unfolding addresses_at
@@ -108,11 +108,11 @@ module _ (bytes other : List ℕ) (header : Header) (read : read_of bytes ≡ Pd
       ∙ behind (header_length header) size bytes (omega (arith, seen.ends))
 
 -- the PDU that was read of bytes, and anything behind it
-module _ (bytes : List ℕ) (header : Header) (read : read_of bytes ≡ Pdu header) (rest : List ℕ) where
+module _ (bytes : List ℕ) (header : Header) (read : read_of bytes ≡ Ok header) (rest : List ℕ) where
   front : take (pdu_length header) (take (pdu_length header) bytes ++ rest) ≡ take (pdu_length header) bytes
   front = take_at (take (pdu_length header) bytes) rest (pdu_length header) (length-take-le (pdu_length header) bytes (shown bytes header read).ends)
 
-  pub front_reads : read_of (take (pdu_length header) bytes ++ rest) ≡ Pdu header
+  pub front_reads : read_of (take (pdu_length header) bytes ++ rest) ≡ Ok header
   front_reads = same_reads bytes (take (pdu_length header) bytes ++ rest) header read front
 
   pub front_path : path_in header (take (pdu_length header) bytes ++ rest) ≡ path_in header bytes
@@ -123,7 +123,7 @@ module _ (bytes : List ℕ) (header : Header) (read : read_of bytes ≡ Pdu head
 
 -- what follows where bytes are exactly one PDU, and what that follows from
 pub record Exact (bytes : List ℕ) : Type 0 where
-  pub reads : read_of bytes ≡ Pdu (header_of bytes)
+  pub reads : read_of bytes ≡ Ok (header_of bytes)
   pub alone : length bytes ≡ pdu_length (header_of bytes)
 
 pub exact : (bytes : List ℕ) → exactly_one bytes ≡ true → Exact bytes

@@ -7,12 +7,11 @@ use mathlib.Core.Path.{◌≡◌, refl}
 use lib.Dec.{eqb, ltb}
 use lib.ListN.{length}
 use borrow.Author.Tests.{le-ltb, ltb-false, eq-eqb, eqb-true, not-false}
+use Rattle.std.specs.Prelude.{Result, Ok, Err}
 use Rattle.octets.specs.Octets.{at}
 use Rattle.pdu.specs.declared.Header.{Header}
 use Rattle.pdu.specs.declared.Refusal.{Refusal}
 use Rattle.pdu.specs.declared.Refusal.TheVariants.{TooShort, WrongVersion, UnknownProtocol, NoDestination, HeaderCut, PayloadCut}
-use Rattle.pdu.specs.declared.Reading.{Reading}
-use Rattle.pdu.specs.declared.Reading.TheVariants.{Pdu, Refused}
 use Rattle.pdu.specs.Header.{is_set, version, protocol, destination_bit, header_of}
 use Rattle.pdu.specs.Sizes.{fixed_length, header_length, pdu_length}
 use Rattle.pdu.specs.Reading.{read_of}
@@ -25,18 +24,18 @@ pub record Whole (bytes : List ℕ) : Type 0 where
   pub addressed : (eqb (protocol (at bytes 0)) 1 && not (is_set (destination_bit (at bytes 0)))) ≡ false
   pub all : pdu_length (header_of bytes) ≤ length bytes
 
-pub read_whole : (bytes : List ℕ) → Whole bytes → read_of bytes ≡ Pdu (header_of bytes)
+pub read_whole : (bytes : List ℕ) → Whole bytes → read_of bytes ≡ Ok (header_of bytes)
 unfolding read_of
 read_whole bytes w =
     let head : header_length (header_of bytes) ≤ length bytes = omega (arith, w.all) in
     simp (le-ltb _ _ w.six, eq-eqb _ _ w.version_0, le-ltb _ _ w.known, w.addressed, le-ltb _ _ head, le-ltb _ _ w.all)
 
-passed : (test : Bool) (refusal : Refusal) (later : Reading) (header : Header) → cond test (Refused refusal) later ≡ Pdu header
-    → (test ≡ false) × (later ≡ Pdu header)
+passed : (test : Bool) (refusal : Refusal) (later : Result Header Refusal) (header : Header) → cond test (Err refusal) later ≡ Ok header
+    → (test ≡ false) × (later ≡ Ok header)
 passed true refusal later header e = let z : ◌≡◌ {A = ℕ} 0 1 = cc in absurd (omega arith)
 passed false refusal later header e = (refl, e)
 
-same_header : (a b : Header) → Pdu a ≡ Pdu b → b ≡ a
+same_header : (a b : Header) → ◌≡◌ {A = Result Header Refusal} (Ok a) (Ok b) → b ≡ a
 same_header a b e = cc
 
 -- where reading shows a header, the bytes hold a PDU at their start, and the header is theirs
@@ -45,7 +44,7 @@ pub record Shown (bytes : List ℕ) (header : Header) : Type 0 where
   pub is : header ≡ header_of bytes
   pub ends : pdu_length header ≤ length bytes
 
-pub shown : (bytes : List ℕ) (header : Header) → read_of bytes ≡ Pdu header → Shown bytes header
+pub shown : (bytes : List ℕ) (header : Header) → read_of bytes ≡ Ok header → Shown bytes header
 unfolding read_of
 shown bytes header e =
     let byte0 = at bytes 0 in

@@ -5,9 +5,9 @@ use mathlib.Core.Bool.{Bool, true, false, cond}
 use mathlib.Core.List.{List, [], ◌∷◌, ◌++◌}
 use mathlib.Core.Path.{◌≡◌, refl, ap, ◌∙◌}
 use lib.ListN.{length, get_or}
+use Rattle.std.specs.Prelude.{None, Some}
 use Rattle.octets.specs.Octets.{AllBytes, word_at}
 use Rattle.pdu.specs.declared.Header.{Header}
-use Rattle.pdu.specs.declared.Sender.TheVariants.{Unknown, Known}
 use Rattle.pdu.specs.Header.{source_place, header_of}
 use Rattle.pdu.specs.Sizes.{path_start, path_entries}
 use Rattle.pdu.specs.Parts.{addresses_at, path_in, path_address, last_or, last_sender}
@@ -33,28 +33,28 @@ last_behind otherwise [] address = refl
 last_behind otherwise (first ∷ later) address = last_behind first later address
 
 module _ (header : Header) (bytes : List ℕ) where
-  pub sender_unknown : header.path_bit ≡ false → last_sender header bytes ≡ Unknown
+  pub sender_unknown : header.path_bit ≡ false → last_sender header bytes ≡ None
   sender_unknown none = rw none
 
   module _ (bit : header.path_bit ≡ true) where
-    pub sender_known : (address : ℕ) → last_or header.source (path_in header bytes) ≡ address → last_sender header bytes ≡ Known address
+    pub sender_known : (address : ℕ) → last_or header.source (path_in header bytes) ≡ address → last_sender header bytes ≡ Some address
     sender_known address last =
-        ap (λ (t : Bool). cond t (Known (last_or header.source (path_in header bytes))) Unknown) bit ∙ ap Known last
+        ap (λ (t : Bool). cond t (Some (last_or header.source (path_in header bytes))) None) bit ∙ ap Some last
 
-    pub sender_source : path_entries header ≡ 0 → last_sender header bytes ≡ Known header.source
+    pub sender_source : path_entries header ≡ 0 → last_sender header bytes ≡ Some header.source
     sender_source none =
         sender_known header.source
         (last_none header.source (path_in header bytes) (length_addresses bytes (path_start header) (path_entries header) ∙ none))
 
-    pub sender_at : (i : ℕ) → path_entries header ≡ i + 1 → last_sender header bytes ≡ Known (path_address header bytes i)
+    pub sender_at : (i : ℕ) → path_entries header ≡ i + 1 → last_sender header bytes ≡ Some (path_address header bytes i)
     sender_at i some =
         sender_known (path_address header bytes i)
         (last_at header.source (path_in header bytes) i (length_addresses bytes (path_start header) (path_entries header) ∙ some))
 
-    pub sender_empty : path_in header bytes ≡ [] → last_sender header bytes ≡ Known header.source
+    pub sender_empty : path_in header bytes ≡ [] → last_sender header bytes ≡ Some header.source
     sender_empty is = sender_known header.source (last_none header.source (path_in header bytes) (ap length is))
 
-    pub sender_behind : (path : List ℕ) (address : ℕ) → path_in header bytes ≡ path ++ (address ∷ []) → last_sender header bytes ≡ Known address
+    pub sender_behind : (path : List ℕ) (address : ℕ) → path_in header bytes ≡ path ++ (address ∷ []) → last_sender header bytes ≡ Some address
     sender_behind path address is = sender_known address (ap (last_or header.source) is ∙ last_behind header.source path address)
 
 -- of bytes, the last sender is a number of two bytes

@@ -1,10 +1,8 @@
 -- Document 01, "Header, byte by byte", below the table: the path's addresses, and the payload that follows the header; document 02, W-205: the last
 -- sender.
-use Rattle.std.specs.Prelude.{ℕ, zero, suc, ◌+◌, Bool, false, cond, ◌||◌, List, [], ◌∷◌, eqb, get_or, take, drop}
+use Rattle.std.specs.Prelude.{ℕ, zero, suc, ◌+◌, Bool, false, cond, ◌||◌, List, [], ◌∷◌, eqb, get_or, take, drop, Option, None, Some}
 use Rattle.octets.specs.Octets.{word_at}
 use Rattle.pdu.specs.declared.Header.{Header}
-use Rattle.pdu.specs.declared.Sender.{Sender}
-use Rattle.pdu.specs.declared.Sender.TheVariants.{Unknown, Known}
 use Rattle.pdu.specs.Sizes.{path_entries, path_start, header_length}
 
 -- so many 2-byte addresses from a place on
@@ -35,5 +33,5 @@ last_or otherwise [] = otherwise
 last_or otherwise (address ∷ later) = last_or address later
 
 -- document 02, W-205: the last path address, or the source if the path is empty; without the path bit it is unknown
-abbrev pub last_sender : Header → List ℕ → Sender
-last_sender header bytes = cond header.path_bit (Known (last_or header.source (path_in header bytes))) Unknown
+abbrev pub last_sender : Header → List ℕ → Option ℕ
+last_sender header bytes = cond header.path_bit (Some (last_or header.source (path_in header bytes))) None

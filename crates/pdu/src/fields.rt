@@ -5,45 +5,47 @@ ghost use Rattle.pdu.specs.Header.{pdu_id_place, path_count_place, destination_i
 ghost use Rattle.pdu.specs.Sizes.{header_limit};
 ghost use Rattle.pdu.specs.Reading.{start_fault, end_fault};
 
-use super::{Destination, Header};
+use super::{Destination, Header, Refusal};
 use octets::byte_value;
 
-// What so many bytes that begin with `byte0` are refused for before their header is looked at: 1, 2, 3 or 4, or 0.
+// What so many bytes that begin with `byte0` are refused for before their header is looked at.
 // Document 01, "Numbers answered", 1 to 4.
-pub fn start_fault(there: usize, byte0: u8) -> u8
+pub fn start_fault(there: usize, byte0: u8) -> Result<(), Refusal>
     ensures { result ≡ start_fault there byte0 }
 {
     if there < Header::FIXED_LENGTH {
-        return 1;
+        return Err(Refusal::TooShort);
     }
     if byte0 / 64 != 0 {
-        return 2;
+        return Err(Refusal::WrongVersion);
     }
     if 1 < byte0 / 8 % 8 {
-        return 3;
+        return Err(Refusal::UnknownProtocol);
     }
-    if no_destination(byte0) { 4 } else { 0 }
+    if no_destination(byte0) {
+        return Err(Refusal::NoDestination);
+    }
+    Ok(())
 }
 
-// What so many bytes are refused for as a PDU of those lengths: 5 or 6, or 0. Document 01, "Numbers answered", 5 and 6.
-pub fn end_fault(there: usize, header_length: usize, pdu_length: usize) -> u8
+// What so many bytes are refused for as a PDU of those lengths. Document 01, "Numbers answered", 5 and 6.
+pub fn end_fault(there: usize, header_length: usize, pdu_length: usize) -> Result<(), Refusal>
     ensures { result ≡ end_fault there header_length pdu_length }
 {
     if there < header_length {
-        return 5;
+        return Err(Refusal::HeaderCut);
     }
-    if there < pdu_length { 6 } else { 0 }
+    if there < pdu_length {
+        return Err(Refusal::PayloadCut);
+    }
+    Ok(())
 }
 
 // Reliable service without a destination.
 fn no_destination(byte0: u8) -> bool
     ensures { result ≡ (eqb (protocol byte0) 1 && not (is_set (destination_bit byte0))) }
 {
-    if byte0 / 8 % 8 == 1 {
-        byte0 % 2 != 1
-    } else {
-        false
-    }
+    byte0 / 8 % 8 == 1 && byte0 % 2 != 1
 }
 
 // A header: the fields that every header has as bytes show them, and these in the fields that byte 0 calls for, found before.
@@ -76,7 +78,7 @@ pub fn header_from(bytes: &[u8], destination: Destination, pdu_id: u8, path_coun
 pub fn payload_length(byte2: u8, byte3: u8) -> u16
     ensures { result ≡ payload_length byte2 byte3 }
 {
-    (byte2 % 16) as u16 * 256 + byte3 as u16
+    u16::from(byte2 % 16) * 256 + u16::from(byte3)
 }
 
 // The header's length by byte 0 and the path count: up to the count, its own byte if the path bit is set, and 2 bytes for each address.

@@ -7,22 +7,16 @@ pub mod parts;
 ghost use Rattle.std.specs.Prelude.{◌≡◌, ◌+◌, ◌*◌, ◌<◌, ◌≤◌};
 ghost use Rattle.pdu.specs.Header.{header_of};
 ghost use Rattle.pdu.specs.Sizes.{limits, path_limit, header_limit, pdu_limit, destination_flag, path_entries, path_start, header_length, pdu_length};
-ghost use Rattle.pdu.specs.Reading.{read_of, refusal_number, reading_number, no_extent, extent_of};
+ghost use Rattle.pdu.specs.Reading.{read_of, refusal_number, reading_number, extent_of};
 
 use octets::{byte_value, word_value};
 
 // Who a PDU is for.
-#[derive(Clone, Copy)]
+// Kept: no Option<u16>, since a PDU without a destination is for every node, and None would not say so.
+#[derive(Clone, Copy, Debug, PartialEq, Eq)]
 pub enum Destination {
     Everyone,
     Address(u16),
-}
-
-// Who a PDU was heard from: the last node that sent it, where that is known. Address 0 is an address like any other.
-#[derive(Clone, Copy)]
-pub enum Sender {
-    Unknown,
-    Known(u16),
 }
 
 // The fields of a header, in the order of document 01's table. A PDU ID or path count that the PDU does not have is 0.
@@ -44,29 +38,20 @@ pub struct Header {
     pub path_count: u8,
 }
 
-// Why bytes are not a PDU: document 01's numbers 1 to 6, in that order.
-#[derive(Clone, Copy)]
+// Why bytes are not a PDU: document 01's numbers 1 to 6.
+#[derive(Clone, Copy, Debug, PartialEq, Eq)]
 pub enum Refusal {
-    TooShort,
-    WrongVersion,
-    UnknownProtocol,
-    NoDestination,
-    HeaderCut,
-    PayloadCut,
+    TooShort = 1,
+    WrongVersion = 2,
+    UnknownProtocol = 3,
+    NoDestination = 4,
+    HeaderCut = 5,
+    PayloadCut = 6,
 }
 
-// What reading answers.
-#[derive(Clone, Copy)]
-pub enum Reading {
-    Pdu(Header),
-    Refused(Refusal),
-}
-
-// How far a PDU reaches: its path's addresses and its payload's bytes, and where header and PDU end, counted from its first byte. Of bytes that are no PDU
-// the number of the refusal, and 0 in every other field.
+// How far a PDU reaches: its path's addresses and its payload's bytes, and where header and PDU end, counted from its first byte.
 #[derive(Clone, Copy)]
 pub struct Extent {
-    pub number: u8,
     pub path_count: u8,
     pub payload_length: u16,
     pub header_length: usize,
@@ -153,6 +138,15 @@ impl Header {
     }
 }
 
+impl Refusal {
+    // The number of a refusal. Document 01, "Numbers answered", 1 to 6.
+    pub fn number(self) -> u8
+        ensures { result ≡ refusal_number self }
+    {
+        self as u8
+    }
+}
+
 // 1 where a destination is present and 0 for a PDU that is for everyone. Document 01, "Header, byte by byte": byte 0, bit 0.
 pub fn destination_flag(destination: Destination) -> u8
     ensures { (result ≡ destination_flag destination) × (result ≤ 1) }
@@ -165,24 +159,19 @@ pub fn destination_flag(destination: Destination) -> u8
 
 // The header of the PDU at the start of `bytes`, or why there is none there. Any bytes get an answer; bytes after the PDU are not looked at.
 // Document 01, "Header, byte by byte", and "Numbers answered", 1 to 6.
-pub fn read(bytes: &[u8]) -> Reading
+// The header is not asked of `header_of`: where that has other callers the back end does not inline it.
+pub fn read(bytes: &[u8]) -> Result<Header, Refusal>
     ensures { result ≡ read_of bytes.now }
 {
-    let start = fields::start_fault(bytes.len(), octets::byte(bytes, 0));
-    if start != 0 {
-        return Reading::Refused(refusal_of(start));
-    }
+    fields::start_fault(bytes.len(), octets::byte(bytes, 0))?;
     let header = fields::header_from(
         bytes,
         fields::destination_in(bytes),
         fields::pdu_id_in(bytes),
         fields::path_count_in(bytes),
     );
-    let end = fields::end_fault(bytes.len(), header.header_length(), header.pdu_length());
-    if end != 0 {
-        return Reading::Refused(refusal_of(end));
-    }
-    Reading::Pdu(header)
+    fields::end_fault(bytes.len(), header.header_length(), header.pdu_length())?;
+    Ok(header)
 }
 
 // The number of the first thing wrong with the bytes as a PDU, 1 to 6, and 0 where they begin with one. Any bytes get an answer; bytes after the PDU
@@ -190,85 +179,40 @@ pub fn read(bytes: &[u8]) -> Reading
 pub fn fault(bytes: &[u8]) -> u8
     ensures { result ≡ reading_number (read_of bytes.now) }
 {
-    extent_of(bytes).number
+    match extent_of(bytes) {
+        Ok(_) => 0,
+        Err(refusal) => refusal.number(),
+    }
 }
 
-// How far the PDU at the start of `bytes` reaches, or the number, 1 to 6, of why there is none there. Any bytes get an answer; bytes after the PDU are
-// not looked at. Document 01, "Numbers answered", 1 to 6, and "Sizes".
-pub fn extent_of(bytes: &[u8]) -> Extent
+// How far the PDU at the start of `bytes` reaches, or why there is none there. Any bytes get an answer; bytes after the PDU are not looked at.
+// Document 01, "Numbers answered", 1 to 6, and "Sizes".
+pub fn extent_of(bytes: &[u8]) -> Result<Extent, Refusal>
     ensures { result ≡ extent_of (read_of bytes.now) }
 {
     let byte0 = octets::byte(bytes, 0);
-    let start = fields::start_fault(bytes.len(), byte0);
-    if start != 0 {
-        return no_extent(start);
-    }
+    fields::start_fault(bytes.len(), byte0)?;
     let path_count = fields::path_count_in(bytes);
     let payload_length = fields::payload_length(octets::byte(bytes, 2), octets::byte(bytes, 3));
     let header_length = fields::header_length_in(byte0, path_count);
     let pdu_length = header_length + word_value(payload_length);
-    let end = fields::end_fault(bytes.len(), header_length, pdu_length);
-    if end != 0 {
-        return no_extent(end);
-    }
-    Extent {
-        number: 0,
+    fields::end_fault(bytes.len(), header_length, pdu_length)?;
+    Ok(Extent {
         path_count,
         payload_length,
         header_length,
         pdu_length,
-    }
-}
-
-fn no_extent(number: u8) -> Extent
-    ensures { result ≡ no_extent number }
-{
-    Extent {
-        number,
-        path_count: 0,
-        payload_length: 0,
-        header_length: 0,
-        pdu_length: 0,
-    }
-}
-
-// The refusal that has a number, 1 to 6.
-fn refusal_of(number: u8) -> Refusal
-    requires { (0 < number) × (number ≤ 6) }
-    ensures { refusal_number result ≡ number }
-{
-    match number {
-        1 => Refusal::TooShort,
-        2 => Refusal::WrongVersion,
-        3 => Refusal::UnknownProtocol,
-        4 => Refusal::NoDestination,
-        5 => Refusal::HeaderCut,
-        _ => Refusal::PayloadCut,
-    }
-}
-
-// The number of a refusal. Document 01, "Numbers answered", 1 to 6.
-pub fn refusal_number(refusal: Refusal) -> u8
-    ensures { result ≡ refusal_number refusal }
-{
-    match refusal {
-        Refusal::TooShort => 1,
-        Refusal::WrongVersion => 2,
-        Refusal::UnknownProtocol => 3,
-        Refusal::NoDestination => 4,
-        Refusal::HeaderCut => 5,
-        Refusal::PayloadCut => 6,
-    }
+    })
 }
 
 // The number of what reading answers: 0 for a header, else the refusal's. Document 01, "Numbers answered", 0 to 6.
-pub fn reading_number(reading: Reading) -> u8
+pub fn reading_number(reading: Result<Header, Refusal>) -> u8
     ensures { result ≡ reading_number reading }
 {
-    match reading {
-        Reading::Pdu(_) => 0,
-        Reading::Refused(refusal) => refusal_number(refusal),
+    if let Err(refusal) = reading {
+        return refusal.number();
     }
+    0
 }
 
 // The header that bytes show at their places in the table, whether or not they can be read; a byte that is not there counts as 0.

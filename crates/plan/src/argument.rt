@@ -2,48 +2,60 @@
 ghost use Rattle.std.specs.Prelude.{◌≡◌, ◌<◌};
 ghost use Rattle.plan.specs.Argument.{with_digit, argument_of};
 
-#[derive(Clone, Copy)]
-pub enum Argument {
-    Number(u64),
+use ArgumentError::{NotDecimal, TooLong};
+use std::env::Env;
+use std::fmt;
+
+#[derive(Clone, Copy, Debug, PartialEq, Eq)]
+pub enum ArgumentError {
     NotDecimal,
     TooLong,
 }
 
-const TOP: u64 = 18446744073709551615;
+impl fmt::Display for ArgumentError {
+    fn fmt<W: fmt::Write>(&self, f: &mut fmt::Formatter<W>) -> fmt::Result {
+        match self {
+            NotDecimal => write!(f, "is not a decimal number"),
+            TooLong => write!(
+                f,
+                "is above 18,446,744,073,709,551,615 or has more than 64 characters"
+            ),
+        }
+    }
+}
+
+// An argument of more than 64 bytes is too long, whatever it says.
+pub(crate) fn argument_at(rt: &impl Env, place: usize) -> Result<u64, ArgumentError> {
+    let mut text = [0u8; 64];
+    match rt.arg(place, &mut text) {
+        Ok(n) => read_argument(&text[..n]),
+        Err(_) => Err(TooLong),
+    }
+}
 
 // The number that the bytes write in decimal digits, and nothing but digits.
 // No bytes are not decimal; what 64 bits don't hold is too long. Zeros in front are taken.
-pub(crate) fn read_argument(text: &[u8]) -> Argument
+pub(crate) fn read_argument(text: &[u8]) -> Result<u64, ArgumentError>
     ensures { result ≡ argument_of text.now }
 {
-    if text.len() == 0 {
-        return Argument::NotDecimal;
+    if text.is_empty() {
+        return Err(NotDecimal);
     }
     let mut number: u64 = 0;
-    let mut i: usize = 0;
-    while i < text.len() {
-        let read = with_digit(number, text[i]);
-        let Argument::Number(longer) = read else {
-            return read;
-        };
-        number = longer;
-        i += 1;
+    for byte in text {
+        number = with_digit(number, *byte)?;
     }
-    Argument::Number(number)
+    Ok(number)
 }
 
-fn with_digit(number: u64, byte: u8) -> Argument
+#[tactic(auto, unfolding(crate::specs::Argument::with_digit))]
+fn with_digit(number: u64, byte: u8) -> Result<u64, ArgumentError>
     ensures { result ≡ with_digit number byte }
 {
-    if byte < 48 {
-        return Argument::NotDecimal;
+    if !byte.is_ascii_digit() {
+        return Err(NotDecimal);
     }
-    if byte > 57 {
-        return Argument::NotDecimal;
-    }
-    let digit = byte as u64 - 48;
-    if number > (TOP - digit) / 10 {
-        return Argument::TooLong;
-    }
-    Argument::Number(number * 10 + digit)
+    let digit = u64::from(byte - b'0');
+    let tens = number.checked_mul(10).ok_or(TooLong)?;
+    tens.checked_add(digit).ok_or(TooLong)
 }

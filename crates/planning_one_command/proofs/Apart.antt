@@ -16,8 +16,9 @@ use Rattle.pdu.specs.declared.Header.{Header}
 use Rattle.pdu.specs.Header.{header_of, source_of}
 use Rattle.bound.specs.Answer.{within64_bits, bound_answer}
 use Rattle.bound.specs.Bound.{bytes_bound}
-use Rattle.bound.specs.declared.Bound.{Bound}
-use Rattle.bound.specs.declared.Bound.TheVariants.{Exactly, TooLarge, HopRefused}
+use Rattle.std.specs.Prelude.{Result, Ok, Err}
+use Rattle.bound.specs.declared.BoundError.{BoundError}
+use Rattle.bound.specs.declared.BoundError.TheVariants.{TooLarge, HopRefused}
 use Rattle.bound.proofs.Answers.{hop_refused}
 use Rattle.origin.specs.declared.FreshSettings.{FreshSettings}
 use Rattle.origin.specs.Origination.{fresh_header, fresh}
@@ -101,10 +102,10 @@ only_heard hears nodes first taken by reception m node node_at sent sent_at =
 pub in_c : (h k value : ℕ) → (7 < h) ⊎ (7 < k) → (bound_in_c (bound_answer (max h k) value)).number ≡ 10
 in_c h k value above =
     let up : 7 < max h k = ⊎_elim {C = 7 < max h k} (λ first. omega (arith, first)) (λ second. omega (arith, second)) above in
-    ap (λ (b : Bound). (bound_in_c b).number) (hop_refused (max h k) value up)
+    ap (λ (b : Result ℕ BoundError). (bound_in_c b).number) (hop_refused (max h k) value up)
 
 -- the number of an answer that goes by that test
-refused : (t s : Bool) (value : ℕ) → (bound_in_c (cond t HopRefused (cond s (Exactly value) TooLarge))).number ≡ 10 → t ≡ true
+refused : (t s : Bool) (value : ℕ) → (bound_in_c (cond t (Err HopRefused) (cond s (Ok value) (Err TooLarge)))).number ≡ 10 → t ≡ true
 refused true s value e = refl
 refused false true value e = absurd (omega (arith, e))
 refused false false value e = absurd (omega (arith, e))

@@ -2,6 +2,8 @@
 use mathlib.Core.Path.{sym, ◌∙◌}
 use Rattle.octets.proofs.Parting.{one_part}
 use Rattle.promises.specs.Promise.{slice, Promised}
+use Rattle.job.proofs.JobRefusal.number.Reads as refusal-number-reads
+use Rattle.job.proofs.JobRefusal.number.Kinds as refusal-number-kinds
 use Rattle.job.proofs.taken_number.Reads as taken-number-reads
 use Rattle.job.proofs.taken_number.Kinds as taken-number-kinds
 use Rattle.job.proofs.job_number.Reads as job-number-reads
@@ -18,6 +20,9 @@ use Rattle.job.proofs.values.Reads as values-reads
 use Rattle.job.proofs.values.Kinds as values-kinds
 use Rattle.job.proofs.batch.Reads as batch-reads
 use Rattle.job.proofs.batch.Kinds as batch-kinds
+
+pub refusal_number_lem : Promised 0 refusal-number-kinds.ps refusal-number-kinds.r refusal-number-reads.Asked refusal-number-reads.Post (λ κs x. x)
+refusal_number_lem = (λ κs a. tt, λ κs a x y s t p q. p ∙ sym q)
 
 pub taken_number_lem : Promised 0 taken-number-kinds.ps taken-number-kinds.r taken-number-reads.Asked taken-number-reads.Post (λ κs x. x)
 taken_number_lem = (λ κs a. tt, λ κs a x y s t p q. p ∙ sym q)

@@ -18,8 +18,8 @@ use Rattle.pdu.proofs.fault.Reads as fault-reads
 use Rattle.pdu.proofs.fault.Kinds as fault-kinds
 use Rattle.pdu.proofs.extent_of.Reads as extent-of-reads
 use Rattle.pdu.proofs.extent_of.Kinds as extent-of-kinds
-use Rattle.pdu.proofs.refusal_number.Reads as refusal-number-reads
-use Rattle.pdu.proofs.refusal_number.Kinds as refusal-number-kinds
+use Rattle.pdu.proofs.Refusal.number.Reads as refusal-number-reads
+use Rattle.pdu.proofs.Refusal.number.Kinds as refusal-number-kinds
 use Rattle.pdu.proofs.reading_number.Reads as reading-number-reads
 use Rattle.pdu.proofs.reading_number.Kinds as reading-number-kinds
 use Rattle.pdu.proofs.header_of.Reads as header-of-reads

@@ -6,7 +6,7 @@ use base.Logic.{ent, sep, emp, id⊢, via, fst∗, snd∗}
 use contract.Monad.{fact, fact_use, fact_mono}
 use denote.Ref.{Bor}
 use seplogic.Ra.Ura.{Ura}
-use Rattle.pdu.specs.declared.Extent.{Extent}
+use Rattle.view.specs.declared.Span.{Span}
 use Rattle.view.specs.declared.Pdu.{Pdu}
 use Rattle.promises.specs.Promise.{Promised, PromisedInLogic}
 use Rattle.view.proofs.summary_of.Reads as summary-of-reads
@@ -26,9 +26,9 @@ both 𝓤 {φ} {ψ} {χ} f =
     fact_use 𝓤 φ (fst∗ 𝓤 (fact 𝓤 φ) (fact 𝓤 ψ))
     (λ p. via 𝓤 (fact 𝓤 ψ) (snd∗ 𝓤 (fact 𝓤 φ) (fact 𝓤 ψ)) (fact_mono 𝓤 ψ χ (λ q. f p q)))
 
--- two views that have the same bytes and extent
-same_view : {x y : Pdu} {bytes : Bor (List ℕ)} {extent : Extent} → (x.bytes ≡ bytes) × (x.at ≡ extent)
-    → (y.bytes ≡ bytes) × (y.at ≡ extent) → x ≡ y
+-- two views that have the same bytes and span
+same_view : {x y : Pdu} {bytes : Bor (List ℕ)} {span : Span} → (x.bytes ≡ bytes) × (x.at ≡ span)
+    → (y.bytes ≡ bytes) × (y.at ≡ span) → x ≡ y
 same_view p q = λ i. record { bytes = (p.0 ∙ sym q.0) i; at = (p.1 ∙ sym q.1) i }
 
 pub opened : PromisedInLogic open-contract.ended (λ M 𝓤 𝓛. open-contract.clauses 𝓛) (λ κs x. x)

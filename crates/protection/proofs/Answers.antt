@@ -8,12 +8,12 @@ use lib.Dec.{eqb}
 use lib.ListN.{length, drop, length-append, length-drop}
 use lib.Seq.{ext_get_or, length-take-le}
 use borrow.Author.Tests.{eqb-true}
+use Rattle.std.specs.Prelude.{Ok}
 use Rattle.octets.specs.Octets.{at, over}
 use Rattle.octets.proofs.Numbering.{or_else_zero}
 use Rattle.octets.proofs.Tests.{both}
 use Rattle.ctr.specs.Ctr.{counter_mode}
 use Rattle.pdu.specs.declared.Header.{Header}
-use Rattle.pdu.specs.declared.Reading.TheVariants.{Pdu}
 use Rattle.pdu.specs.Header.{header_of, source_of}
 use Rattle.pdu.specs.Sizes.{path_start, header_length, pdu_length}
 use Rattle.pdu.specs.Reading.{read_of}
@@ -48,7 +48,7 @@ four_same x y ex ey e =
     go a b c d (suc (suc (suc (suc i)))) h = absurd (omega arith)
 
 -- lengths, of any PDU that reads
-module _ (bytes : List ℕ) (read : read_of bytes ≡ Pdu (header_of bytes)) where
+module _ (bytes : List ℕ) (read : read_of bytes ≡ Ok (header_of bytes)) where
   pub length_payload : length (payload_in (header_of bytes) bytes) ≡ (header_of bytes).payload_length
   length_payload =
       let header = header_of bytes in
@@ -87,7 +87,7 @@ start_sealed : (header : Header) → path_start (sealed_header header) ≡ path_
 unfolding sealed_header
 start_sealed header = refl
 
-length_sealed : (key : List ℕ) (number : ℕ) (bytes : List ℕ) → read_of bytes ≡ Pdu (header_of bytes)
+length_sealed : (key : List ℕ) (number : ℕ) (bytes : List ℕ) → read_of bytes ≡ Ok (header_of bytes)
     → length (sealed_pdu key number bytes) ≡ pdu_length (header_of bytes) + 7
 unfolding sealed_pdu encode sealed_payload
 length_sealed key number bytes read =

@@ -6,11 +6,11 @@ use mathlib.Core.Path.{◌≡◌, ap, sym, ◌∙◌}
 use lib.Dec.{eqb}
 use lib.ListN.{length, drop, length-append, take-append-drop}
 use lib.Seq.{take_at}
+use Rattle.std.specs.Prelude.{Ok}
 use Rattle.octets.specs.Numbers.{flag}
 use Rattle.octets.specs.Octets.{AllBytes, word_bytes}
 use Rattle.octets.proofs.Tests.{flag_small}
 use Rattle.pdu.specs.declared.Header.{Header}
-use Rattle.pdu.specs.declared.Reading.TheVariants.{Pdu}
 use Rattle.pdu.specs.Header.{hop_limit, source_place, path_count_place}
 use Rattle.pdu.specs.Sizes.{destination_flag, pdu_length}
 use Rattle.pdu.specs.Reading.{read_of}
@@ -62,7 +62,7 @@ fields_hashed header known hop short =
     rw (masked, take_at fields count (place - source_place) size)
 
 -- a PDU that was read: what it hashes is by the header that it shows
-pub hashed_shown : (bytes : List ℕ) (header : Header) → AllBytes bytes → read_of bytes ≡ Pdu header → hashed_header bytes ≡ hashed_fields header
+pub hashed_shown : (bytes : List ℕ) (header : Header) → AllBytes bytes → read_of bytes ≡ Ok header → hashed_header bytes ≡ hashed_fields header
 unfolding encode
 hashed_shown bytes header small read =
     let ok = shown_well_formed bytes header small read in

@@ -2,10 +2,11 @@
 use Prim.Native.Nat.{ℕ}
 use mathlib.Core.List.{List, [], ◌∷◌}
 use mathlib.Core.Path.{◌≡◌, refl, ap, sym, ◌∙◌}
+use Rattle.std.specs.Prelude.{Result}
 use Rattle.octets.specs.Octets.{AllBytes}
 use Rattle.octets.proofs.Words.{bytes_joined}
+use Rattle.pdu.specs.declared.Refusal.{Refusal}
 use Rattle.pdu.specs.declared.Header.{Header}
-use Rattle.pdu.specs.declared.Reading.{Reading}
 use Rattle.pdu.specs.Header.{header_of}
 use Rattle.pdu.specs.Reading.{read_of, reading_number}
 use Rattle.pdu.specs.Parts.{payload_in}
@@ -108,7 +109,7 @@ module _ (repeat : Repeat) (received : List ℕ) (small : AllBytes received) (by
       let shows : header_of again ≡ repeated_header header = sym (shown again (repeated_header header) reads).is in
       let is : header ≡ header_of received = (shown received header r.read).is in
       record {
-        reads = ap (λ (x : Reading). reading_number x) reads ∙ sym (ap (λ (x : Reading). reading_number x) r.read);
+        reads = ap (λ (x : Result Header Refusal). reading_number x) reads ∙ sym (ap (λ (x : Result Header Refusal). reading_number x) r.read);
         encrypted = ap (λ (h : Header). h.encrypted) shows ∙ same_encrypted header ∙ ap (λ (h : Header). h.encrypted) is;
         size = ap (λ (h : Header). h.payload_length) shows ∙ same_size header ∙ ap (λ (h : Header). h.payload_length) is;
         source = ap (λ (h : Header). h.source) shows ∙ same_source header ∙ ap (λ (h : Header). h.source) is;

@@ -8,15 +8,15 @@ use mathlib.Core.Path.{◌≡◌, refl, ap, sym, ◌∙◌}
 use lib.ListN.{length, take, length-append}
 use lib.Seq.{take_at, drop_at}
 use borrow.Author.Tests.{le-ltb, eq-eqb}
+use Rattle.std.specs.Prelude.{Result, Ok}
 use Rattle.octets.specs.Octets.{at, AllBytes}
 use Rattle.octets.proofs.Numbering.{or_else_later, gives_later, gives_none}
 use Rattle.aes.specs.Cipher.{key_expansion}
 use Rattle.ctr.specs.Ctr.{stream, counter_mode}
 use Rattle.ctr.proofs.Twice.{added_twice}
 use Rattle.sha1_digest.specs.Sha1.{sha1}
+use Rattle.pdu.specs.declared.Refusal.{Refusal}
 use Rattle.pdu.specs.declared.Header.{Header}
-use Rattle.pdu.specs.declared.Reading.{Reading}
-use Rattle.pdu.specs.declared.Reading.TheVariants.{Pdu}
 use Rattle.pdu.specs.Header.{header_of, source_of}
 use Rattle.pdu.specs.Reading.{read_of, reading_number}
 use Rattle.pdu.specs.Parts.{path_in, payload_in}
@@ -114,7 +114,7 @@ module _ (key bytes behind : List ℕ) (number room : ℕ) (small : AllBytes byt
         path_long = formed.path_long;
       }
 
-  pub sealed_reads : read_of heard ≡ Pdu sealed
+  pub sealed_reads : read_of heard ≡ Ok sealed
   unfolding sealed_pdu
   sealed_reads = read_encode sealed_formed behind
 
@@ -169,7 +169,7 @@ module _ (key bytes behind : List ℕ) (number room : ℕ) (small : AllBytes byt
         let bit : (header_of heard).encrypted ≡ true = ap (λ (h : Header). h.encrypted) header_sent ∙ sealed_encrypted header in
         let long : 7 ≤ (header_of heard).payload_length = omega (arith, ap (λ (h : Header). h.payload_length) header_sent, sealed_size header) in
         let fault : number_fault (source_of heard) (message_number heard) (record_in memory) ≡ 0 = rw (source_sent, number_sent) greater in
-        keyless.keyless_none memory heard (ap (λ (x : Reading). reading_number x) sealed_reads) bit long fault
+        keyless.keyless_none memory heard (ap (λ (x : Result Header Refusal). reading_number x) sealed_reads) bit long fault
 
     pub opens : source_fault header.source memory ≡ 0 → header.payload_length ≤ space → open_number key memory heard space ≡ 0
     unfolding open_number

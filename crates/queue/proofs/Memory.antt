@@ -5,9 +5,9 @@ use mathlib.Core.List.{List, [], ◌++◌, flatten}
 use mathlib.Core.Path.{◌≡◌, refl, ap, ap₂, sym, ◌∙◌}
 use lib.ListN.{length, take, drop, length-take}
 use lib.Seq.{take-take, take_at, drop-drop}
-use Rattle.octets.specs.Octets.{word_at, word_bytes}
+use Rattle.octets.specs.Octets.{word_at, word_bytes, placed}
 use Rattle.octets.proofs.Words.{word_back}
-use Rattle.octets.proofs.Placing.{is_placed, length_placed}
+use Rattle.octets.proofs.Placing.{is_placed, length_placed, placed_more}
 use Rattle.queue.specs.declared.Level.{Level}
 use Rattle.queue.specs.declared.QueueNumbers.{QueueNumbers}
 use Rattle.queue.specs.Queue.{memory_length, numbers_in, claimed, pdus_in, held_in, numbered, level_of, kept_level, Empty, Kept, memory_after_clear}
@@ -136,3 +136,14 @@ module _ (memory : List ℕ) (long : length memory ≡ memory_length) where
   unfolding memory_after_clear flatten
   clear_kept =
       record { long = length_numbered memory long 0 0 0; level = clear_level ∙ ap (λ (l : List (List ℕ)). level_of l) (sym clear_held) }
+
+-- the three numbers, put one after another
+pub numbers_put : (memory one two three : List ℕ) (pdus bytes place : ℕ) → 6 ≤ length memory → one ≡ placed memory 0 (word_bytes pdus)
+    → two ≡ placed one 2 (word_bytes bytes) → three ≡ placed two 4 (word_bytes place) → three ≡ numbered pdus bytes place memory
+unfolding numbered
+numbers_put memory one two three pdus bytes place room e1 e2 e3 =
+    e3
+    ∙ ap (λ (l : List ℕ). placed l 4 (word_bytes place))
+    (e2 ∙ ap (λ (l : List ℕ). placed l 2 (word_bytes bytes)) e1
+    ∙ placed_more memory 0 (word_bytes pdus) (word_bytes bytes) 2 refl (omega arith))
+    ∙ placed_more memory 0 (word_bytes pdus ++ word_bytes bytes) (word_bytes place) 4 refl (omega arith)

@@ -36,21 +36,15 @@ impl Level {
     pub const MEMORY: usize = 2566;
 }
 
-fn least(number: usize, limit: usize) -> usize
-    ensures { result ≡ min number limit }
-{
-    if number < limit { number } else { limit }
-}
-
 // The number in the two bytes from `place` on, and no more than a limit. The first byte is cut by itself, so that each is read as it was written, alone:
 // one read of two bytes would wait for both to be stored.
 fn number_at(memory: &[u8], place: usize, limit: usize) -> usize
     requires { (place ≤ 4) × (limit ≤ 2048) }
     ensures { result ≡ min (word_at memory.now place) limit }
 {
-    let high = octets::byte_value(octets::byte(memory, place));
-    let low = octets::byte_value(octets::byte(memory, place + 1));
-    least(least(high, limit / 256 + 1) * 256 + low, limit)
+    let high = usize::from(octets::byte(memory, place));
+    let low = usize::from(octets::byte(memory, place + 1));
+    (high.min(limit / 256 + 1) * 256 + low).min(limit)
 }
 
 // The numbers that a memory keeps, each no more than it can be, so that any memory holds a queue; and a memory is as long as is said of one.
@@ -65,34 +59,33 @@ pub fn numbers_in(memory: &[u8; Level::MEMORY]) -> QueueNumbers
     QueueNumbers { pdus, bytes, place }
 }
 
-// The length of the PDU at the start of `bytes`; 0 where none can be read, or where it does not fit the room.
-fn fitting_length(bytes: &[u8], room: usize) -> usize
+// The length of the PDU at the start of `bytes`, if one can be read and fits the room.
+fn fitting_length(bytes: &[u8], room: usize) -> Option<usize>
     ensures { result ≡ cond (eqb (reading_number (read_of bytes.now)) 0 && leb (pdu_length (header_of bytes.now)) room)
-        (pdu_length (header_of bytes.now)) 0 }
+        (Some (pdu_length (header_of bytes.now))) None }
 {
-    let extent = pdu::extent_of(bytes);
-    if extent.number != 0 {
-        return 0;
-    }
+    let Ok(extent) = pdu::extent_of(bytes) else {
+        return None;
+    };
     let size = extent.pdu_length;
-    if size <= room { size } else { 0 }
+    if size <= room { Some(size) } else { None }
 }
 
 // The level of the PDUs that lie back to back from the start of `bytes` on: at most so many, and as many as fit the room together. Document 02, W-206.
 pub fn level_in(bytes: &[u8], most: usize, room: usize) -> Level
     ensures { result ≡ level_of (front room (pdus_in most bytes.now)) }
 {
-    let mut pdus: usize = 0;
     let mut place: usize = 0;
-    while pdus < most {
-        let size = fitting_length(&bytes[place..], room - place);
-        if size == 0 {
-            break;
-        }
+    for pdus in 0..most {
+        let Some(size) = fitting_length(&bytes[place..], room - place) else {
+            return Level { pdus, bytes: place };
+        };
         place += size;
-        pdus += 1;
     }
-    Level { pdus, bytes: place }
+    Level {
+        pdus: most,
+        bytes: place,
+    }
 }
 
 // The level that the memory keeps, without a look at a PDU. Document 02, W-207.
@@ -110,15 +103,9 @@ pub fn kept_level(memory: &[u8; Level::MEMORY]) -> Level
 pub fn keep(memory: &mut [u8; Level::MEMORY], pdus: u16, bytes: u16, place: u16)
     ensures { memory.new ≡ numbered pdus bytes place memory.old }
 {
-    let numbers = [
-        octets::high(pdus),
-        octets::low(pdus),
-        octets::high(bytes),
-        octets::low(bytes),
-        octets::high(place),
-        octets::low(place),
-    ];
-    octets::put(memory, 0, &numbers);
+    octets::put_word(memory, 0, pdus);
+    octets::put_word(memory, 2, bytes);
+    octets::put_word(memory, 4, place);
 }
 
 // Drops all PDUs held. Document 02, W-207.

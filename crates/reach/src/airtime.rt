@@ -1,9 +1,9 @@
 // How often the report goes out, and how many bytes that is.
-use super::words::{say, say_count, say_number};
-use bound::Bound;
+use super::network::Network;
+use super::words::Count;
+use bound::BoundError;
 use chains::NODE_LIMIT;
-use octets::byte;
-use std::io;
+use std::{fmt, io};
 use ways::{Airtime, ROW};
 
 // The count of transmissions stops here. No PDU has more than 4,615 bytes, so that of their bytes never stops before.
@@ -11,141 +11,105 @@ const ENOUGH: u64 = 10000000;
 
 const ENOUGH_BYTES: u64 = 46150000000;
 
-// How often it goes out, if that was counted, and how many bytes that is, if they were asked for.
+// How often it goes out, and how many bytes that is, if they were asked for: in all, and of each node.
 #[derive(Clone, Copy)]
 pub(crate) struct Air {
-    pub(crate) is_counted: bool,
-    pub(crate) has_bytes: bool,
     pub(crate) times: u64,
-    pub(crate) octets: u64,
+    pub(crate) octets: Option<u64>,
+    pub(crate) times_of: [u64; NODE_LIMIT],
+    pub(crate) octets_of: [u64; NODE_LIMIT],
 }
 
-pub(crate) fn count(
-    hop_limit: u8,
-    size: u16,
-    pairs: &[u8],
-    marks: &mut [u8],
-    times: &mut [u64],
-    octets: &mut [u64],
-) -> Air {
+// None where the count stops.
+pub(crate) fn count(network: &Network, size: Option<u16>) -> Option<Air> {
+    let nodes = network.nodes();
+    let hop_limit = u64::from(network.hop_limit);
     let mut table = [0u8; NODE_LIMIT * ROW];
-    let sent = ways::transmissions(pairs, 0, hop_limit as u64, ENOUGH, marks, times, &mut table);
-    if !is_exact(sent) {
-        return Air {
-            is_counted: false,
-            has_bytes: false,
-            times: 0,
-            octets: 0,
-        };
-    }
-    let on_air = ways::bytes(
+    let mut all_marks = network.all_marks();
+    let marks = &mut all_marks[..nodes];
+    let mut air = Air {
+        times: 0,
+        octets: None,
+        times_of: [0; NODE_LIMIT],
+        octets_of: [0; NODE_LIMIT],
+    };
+    let pairs = network.pairs();
+    let times_of = &mut air.times_of[..nodes];
+    let Airtime::Exactly(times) = ways::transmissions(
+        pairs, 0, hop_limit, ENOUGH, marks, times_of, &mut table,
+    ) else {
+        return None;
+    };
+    air.times = times;
+    let Some(size) = size else {
+        return Some(air);
+    };
+    let octets_of = &mut air.octets_of[..nodes];
+    let octets = ways::bytes(
         pairs,
         0,
-        hop_limit as u64,
+        hop_limit,
         size,
         ENOUGH_BYTES,
         marks,
-        octets,
+        octets_of,
         &mut table,
     );
-    Air {
-        is_counted: true,
-        has_bytes: size > 0,
-        times: number_in(sent),
-        octets: number_in(on_air),
-    }
+    air.octets = match octets {
+        Airtime::Exactly(number) => Some(number),
+        _ => Some(0),
+    };
+    Some(air)
 }
 
-fn is_exact(airtime: Airtime) -> bool {
-    match airtime {
-        Airtime::Exactly(_) => true,
-        _ => false,
-    }
-}
+// A bound of a thing, or that it is larger than 64 bits hold.
+#[derive(Clone, Copy)]
+struct Most<'a>(Result<u64, BoundError>, &'a str);
 
-fn number_in(airtime: Airtime) -> u64 {
-    match airtime {
-        Airtime::Exactly(number) => number,
-        _ => 0,
+impl fmt::Display for Most<'_> {
+    fn fmt<W: fmt::Write>(&self, f: &mut fmt::Formatter<W>) -> fmt::Result {
+        let Most(bound, what) = self;
+        match bound {
+            Ok(number) => write!(f, "{}", Count(*number, *what)),
+            Err(_) => write!(f, "more than 18446744073709551615 {what}s"),
+        }
     }
 }
 
 pub(crate) fn print_airtime(
     rt: &impl Print,
-    hop_limit: u8,
-    size: u16,
-    air: Air,
-    marks: &[u8],
+    network: &Network,
+    size: Option<u16>,
+    air: Option<Air>,
 ) -> io::Result<()> {
-    let repeaters = repeaters_in(marks);
-    say(rt, "the report goes out ")?;
-    if air.is_counted {
-        say_count(rt, air.times, " time")?;
-    } else {
-        say_number(rt, ENOUGH)?;
-        say(rt, " times or more, where the count stops,")?;
-    }
-    say(rt, " on this network, and ")?;
-    say_most(
-        rt,
-        bound::most_transmissions(repeaters, hop_limit as u64),
-        " time",
-    )?;
-    say(rt, " on the worst one with ")?;
-    say_count(rt, repeaters, " repeater")?;
-    say(rt, "\n")?;
-    if air.has_bytes {
-        print_bytes(rt, hop_limit, size, air, repeaters)?;
-    }
-    Ok(())
-}
-
-fn print_bytes(
-    rt: &impl Print,
-    hop_limit: u8,
-    size: u16,
-    air: Air,
-    repeaters: u64,
-) -> io::Result<()> {
-    say(rt, "that is ")?;
-    say_count(rt, air.octets, " byte")?;
-    say(rt, " on the air if the fresh report has ")?;
-    say_number(rt, size as u64)?;
-    say(rt, ", and ")?;
-    say_most(
-        rt,
-        bound::most_bytes(repeaters, hop_limit as u64, size as u64),
-        " byte",
-    )?;
-    say(rt, " on the worst one\n")
-}
-
-fn say_most(rt: &impl Print, bound: Bound, what: &str) -> io::Result<()> {
-    match bound {
-        Bound::Exactly(number) => say_count(rt, number, what),
-        _ => {
-            say(rt, "more than 18446744073709551615")?;
-            say(rt, what)?;
-            say(rt, "s")
+    let hop_limit = u64::from(network.hop_limit);
+    let nodes = network.repeaters();
+    let repeaters = Count(nodes, "repeater");
+    print!(rt; "the report goes out ")?;
+    match air {
+        Some(Air { times, .. }) => {
+            let times = Count(times, "time");
+            print!(rt; "{times}")?;
         }
+        None => print!(rt; "{ENOUGH} times or more, where the count stops,")?,
     }
-}
-
-// How many nodes besides the originator repeat the report.
-fn repeaters_in(marks: &[u8]) -> u64 {
-    let mut repeaters: u64 = 0;
-    for place in 1..marks.len() {
-        repeaters = with_repeater(repeaters, byte(marks, place));
-    }
-    repeaters
-}
-
-fn with_repeater(repeaters: u64, mark: u8) -> u64 {
-    if mark > 0 {
-        return repeaters;
-    }
-    if repeaters > 65535 {
-        return repeaters;
-    }
-    repeaters + 1
+    let most = Most(bound::most_transmissions(nodes, hop_limit), "time");
+    println!(rt; " on this network, and {most} on the worst one with {repeaters}")?;
+    let Some(
+        Air {
+            octets: Some(octets),
+            ..
+        },
+    ) = air
+    else {
+        return Ok(());
+    };
+    let Some(size) = size else {
+        return Ok(());
+    };
+    let octets = Count(octets, "byte");
+    let most = Most(bound::most_bytes(nodes, hop_limit, u64::from(size)), "byte");
+    println!(rt;
+        "that is {octets} on the air if the fresh report has {size}, and {most} on the worst one"
+    )
 }

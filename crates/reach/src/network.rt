@@ -3,12 +3,15 @@
 // comment, up to the line's end; lines without a number say nothing.
 ghost use Rattle.std.specs.Prelude.{◌≤◌};
 
-use super::stored::{keep, place_of, put_mark, put_pair};
 use chains::NODE_LIMIT;
+use octets::part;
+use std::fmt;
 
-#[derive(Clone, Copy)]
+// Room for 16,384 hearings, two bytes each.
+const PAIRS_ROOM: usize = 32768;
+
+#[derive(Clone, Copy, Debug, PartialEq, Eq)]
 pub(crate) enum Fault {
-    Nothing,
     NotDecimal,
     AddressTooLarge,
     HopLimitTooLarge,
@@ -20,290 +23,301 @@ pub(crate) enum Fault {
     NoNode,
 }
 
-// What was read: the nodes' addresses, the pairs of their places and their marks stand in the caller's slices.
+impl fmt::Display for Fault {
+    fn fmt<W: fmt::Write>(&self, f: &mut fmt::Formatter<W>) -> fmt::Result {
+        match self {
+            Fault::NotDecimal => write!(
+                f,
+                "only decimal numbers, white space, `:`, `,`, `-` and comments after `#` are taken"
+            ),
+            Fault::AddressTooLarge => write!(f, "an address is at most 65535"),
+            Fault::HopLimitTooLarge => write!(f, "the hop limit, the first number, is 0 to 7"),
+            Fault::HopLimitNotAlone => write!(f, "the hop limit stands alone on its line"),
+            Fault::MarkMisplaced => write!(
+                f,
+                "a `-` follows the first address of its line, and white space, `:` or `,` follows it"
+            ),
+            Fault::TooManyNodes => write!(f, "there are more than 255 nodes"),
+            Fault::TooManyHearings => write!(f, "there are more than 16384 hearings"),
+            Fault::NoHopLimit => write!(f, "the text ends before the hop limit"),
+            Fault::NoNode => write!(f, "the text ends before the originator's line"),
+        }
+    }
+}
+
+// What a text stopped at, and on which of its lines, the first being 1.
+#[derive(Clone, Copy)]
+pub(crate) struct Refusal {
+    pub(crate) line: usize,
+    pub(crate) fault: Fault,
+}
+
+// A node is a place among the addresses. The pairs say who hears whom, and a mark says that its node does not repeat the report.
 #[derive(Clone, Copy)]
 pub(crate) struct Network {
-    pub(crate) fault: Fault,
-    pub(crate) stopped: bool,
     pub(crate) hop_limit: u8,
-    pub(crate) nodes: usize,
-    pub(crate) pairs_end: usize,
-    pub(crate) at: usize,
-    number: u32,
-    sender: u8,
-    in_number: bool,
+    nodes: u8,
+    addresses: [u16; NODE_LIMIT],
+    marks: [u8; NODE_LIMIT],
+    pairs_end: usize,
+    pairs: [u8; PAIRS_ROOM],
+}
+
+impl Network {
+    fn new() -> Network {
+        Network {
+            hop_limit: 0,
+            nodes: 0,
+            addresses: [0; NODE_LIMIT],
+            marks: [0; NODE_LIMIT],
+            pairs_end: 0,
+            pairs: [0; PAIRS_ROOM],
+        }
+    }
+
+    pub(crate) fn nodes(&self) -> usize
+        ensures { result ≤ 255 }
+    {
+        usize::from(self.nodes)
+    }
+
+    pub(crate) fn address(&self, node: usize) -> u16 {
+        if node < NODE_LIMIT {
+            self.addresses[node]
+        } else {
+            0
+        }
+    }
+
+    pub(crate) fn marks(&self) -> &[u8] {
+        &self.marks[..usize::from(self.nodes)]
+    }
+
+    pub(crate) fn all_marks(&self) -> [u8; NODE_LIMIT] {
+        self.marks
+    }
+
+    pub(crate) fn pairs(&self) -> &[u8] {
+        part(&self.pairs, 0, self.pairs_end)
+    }
+
+    // The originator sends the report, also where it repeats nothing.
+    pub(crate) fn is_mute(&self, node: usize) -> bool {
+        node > 0 && node < NODE_LIMIT && self.marks[node] > 0
+    }
+
+    // How many nodes besides the originator repeat the report.
+    pub(crate) fn repeaters(&self) -> u64 {
+        let repeaters = self
+            .marks()
+            .iter()
+            .skip(1)
+            .filter(|mark| **mark == 0)
+            .count();
+        repeaters as u64
+    }
+
+    // The node of that address, a new one where there is none.
+    fn node_of(&mut self, address: u16) -> Result<u8, Fault> {
+        let nodes = usize::from(self.nodes);
+        for node in 0..nodes {
+            if self.addresses[node] == address {
+                return Ok(node as u8);
+            }
+        }
+        if nodes >= NODE_LIMIT {
+            return Err(Fault::TooManyNodes);
+        }
+        self.addresses[nodes] = address;
+        self.nodes += 1;
+        Ok(nodes as u8)
+    }
+
+    fn put_hearing(&mut self, sender: u8, node: u8) -> Result<(), Fault> {
+        let end = self.pairs_end;
+        if end > PAIRS_ROOM - 2 {
+            return Err(Fault::TooManyHearings);
+        }
+        self.pairs[end] = sender;
+        self.pairs[end + 1] = node;
+        self.pairs_end = end + 2;
+        Ok(())
+    }
+
+    fn put_mark(&mut self, node: u8) {
+        let node = usize::from(node);
+        if node < NODE_LIMIT {
+            self.marks[node] = 1;
+        }
+    }
+}
+
+// What the numbers of a line said so far: none, the hop limit, the sender, or the sender and others that hear it.
+#[derive(Clone, Copy)]
+enum Line {
+    Empty,
+    HopLimit,
+    Sender(u8),
+    Hearings(u8),
+}
+
+#[derive(Clone, Copy)]
+struct Reader {
+    network: Network,
+    hop_limit: Option<u8>,
+    number: Option<u32>,
+    line: Line,
     in_comment: bool,
-    has_hop_limit: bool,
-    on_hop_line: bool,
-    line_begun: bool,
-    at_first: bool,
     after_mark: bool,
 }
 
-// Reads a text, the end of its last line included, as far as it is a network. Where it is not, `fault` says what it stopped at, and `at` the byte.
-pub(crate) fn read_network(
-    text: &[u8],
-    addresses: &mut [u16],
-    pairs: &mut [u8],
-    marks: &mut [u8],
-) -> Network {
-    let mut network = nothing_read();
-    let mut i: usize = 0;
-    while i < text.len() {
-        network = with_byte(network, text[i], addresses, pairs, marks);
-        if network.stopped {
-            return stopped_at(network, i);
-        }
-        i += 1;
-    }
-    stopped_at(whole(network), i)
-}
-
-fn nothing_read() -> Network {
-    Network {
-        fault: Fault::Nothing,
-        stopped: false,
-        hop_limit: 0,
-        nodes: 0,
-        pairs_end: 0,
-        at: 0,
-        number: 0,
-        sender: 0,
-        in_number: false,
+// Reads a text as far as it is a network.
+pub(crate) fn read_network(text: &[u8]) -> Result<Network, Refusal> {
+    let mut reader = Reader {
+        network: Network::new(),
+        hop_limit: None,
+        number: None,
+        line: Line::Empty,
         in_comment: false,
-        has_hop_limit: false,
-        on_hop_line: false,
-        line_begun: false,
-        at_first: false,
         after_mark: false,
-    }
-}
-
-fn stopped_at(network: Network, at: usize) -> Network {
-    let mut placed = network;
-    placed.at = at;
-    placed
-}
-
-// A network has a hop limit and at least one node, the originator.
-fn whole(network: Network) -> Network {
-    if network.stopped {
-        return network;
-    }
-    if !network.has_hop_limit {
-        return stopped_by(network, Fault::NoHopLimit);
-    }
-    if network.nodes == 0 {
-        return stopped_by(network, Fault::NoNode);
-    }
-    network
-}
-
-fn stopped_by(network: Network, fault: Fault) -> Network {
-    Network {
-        fault,
-        stopped: true,
-        hop_limit: network.hop_limit,
-        nodes: network.nodes,
-        pairs_end: network.pairs_end,
-        at: network.at,
-        number: network.number,
-        sender: network.sender,
-        in_number: network.in_number,
-        in_comment: network.in_comment,
-        has_hop_limit: network.has_hop_limit,
-        on_hop_line: network.on_hop_line,
-        line_begun: network.line_begun,
-        at_first: network.at_first,
-        after_mark: network.after_mark,
-    }
-}
-
-fn with_byte(
-    network: Network,
-    byte: u8,
-    addresses: &mut [u16],
-    pairs: &mut [u8],
-    marks: &mut [u8],
-) -> Network {
-    if byte == b'\n' {
-        return next_line(with_number(network, addresses, pairs));
-    }
-    if network.in_comment {
-        return network;
-    }
-    if byte == b'#' {
-        return comment(with_number(network, addresses, pairs));
-    }
-    if is_between(byte) {
-        return parted(with_number(network, addresses, pairs));
-    }
-    if byte == b'-' {
-        return with_mark(with_number(network, addresses, pairs), marks);
-    }
-    with_digit(network, byte)
-}
-
-fn is_between(byte: u8) -> bool {
-    if byte == b':' {
-        return true;
-    }
-    if byte == b',' {
-        return true;
-    }
-    if byte == b' ' {
-        return true;
-    }
-    if byte < 9 {
-        return false;
-    }
-    byte <= 13
-}
-
-fn next_line(network: Network) -> Network {
-    let mut next = network;
-    next.in_comment = false;
-    next.on_hop_line = false;
-    next.line_begun = false;
-    next.at_first = false;
-    next.after_mark = false;
-    next
-}
-
-fn parted(network: Network) -> Network {
-    let mut next = network;
-    next.after_mark = false;
-    next
-}
-
-// The mark of the node at the line's start.
-fn with_mark(network: Network, marks: &mut [u8]) -> Network {
-    if network.stopped {
-        return network;
-    }
-    if !network.at_first {
-        return stopped_by(network, Fault::MarkMisplaced);
-    }
-    if network.after_mark {
-        return stopped_by(network, Fault::MarkMisplaced);
-    }
-    put_mark(marks, network.sender as usize);
-    let mut next = network;
-    next.after_mark = true;
-    next
-}
-
-fn comment(network: Network) -> Network {
-    let mut next = network;
-    next.in_comment = true;
-    next
-}
-
-fn with_digit(network: Network, byte: u8) -> Network {
-    if byte < 48 {
-        return stopped_by(network, Fault::NotDecimal);
-    }
-    if byte > 57 {
-        return stopped_by(network, Fault::NotDecimal);
-    }
-    if network.after_mark {
-        return stopped_by(network, Fault::MarkMisplaced);
-    }
-    if network.number > 6553 {
-        return stopped_by_number(network);
-    }
-    let mut next = network;
-    next.number = network.number * 10 + (byte - 48) as u32;
-    next.in_number = true;
-    next
-}
-
-fn stopped_by_number(network: Network) -> Network {
-    if network.has_hop_limit {
-        stopped_by(network, Fault::AddressTooLarge)
-    } else {
-        stopped_by(network, Fault::HopLimitTooLarge)
-    }
-}
-
-// The number that ends here, if one does: the hop limit, a node, or a node that hears the one at its line's start.
-fn with_number(network: Network, addresses: &mut [u16], pairs: &mut [u8]) -> Network {
-    if !network.in_number {
-        return network;
-    }
-    let number = network.number;
-    let mut next = network;
-    next.number = 0;
-    next.in_number = false;
-    if !network.has_hop_limit {
-        return with_hop_limit(next, number);
-    }
-    if network.on_hop_line {
-        return stopped_by(next, Fault::HopLimitNotAlone);
-    }
-    if number > 65535 {
-        return stopped_by(next, Fault::AddressTooLarge);
-    }
-    with_node(next, number as u16, addresses, pairs)
-}
-
-fn with_hop_limit(network: Network, number: u32) -> Network {
-    if number > 7 {
-        return stopped_by(network, Fault::HopLimitTooLarge);
-    }
-    let mut next = network;
-    next.hop_limit = number as u8;
-    next.has_hop_limit = true;
-    next.on_hop_line = true;
-    next
-}
-
-fn with_node(network: Network, address: u16, addresses: &mut [u16], pairs: &mut [u8]) -> Network {
-    let place = place_of(addresses, network.nodes, address);
-    if place >= NODE_LIMIT {
-        return stopped_by(network, Fault::TooManyNodes);
-    }
-    keep(addresses, place, address);
-    let mut next = network;
-    if place == network.nodes {
-        next.nodes = place + 1;
-    }
-    if !network.line_begun {
-        next.line_begun = true;
-        next.at_first = true;
-        next.sender = place as u8;
-        return next;
-    }
-    with_hearing(next, place as u8, pairs)
-}
-
-fn with_hearing(network: Network, node: u8, pairs: &mut [u8]) -> Network {
-    let end = put_pair(pairs, network.pairs_end, network.sender, node);
-    if end == 0 {
-        return stopped_by(network, Fault::TooManyHearings);
-    }
-    let mut next = network;
-    next.pairs_end = end;
-    next.at_first = false;
-    next
-}
-
-// The line that a byte of the text stands on, the first being 1.
-pub(crate) fn line_of(text: &[u8], at: usize) -> usize {
-    let mut line: usize = 1;
-    let mut i: usize = 0;
-    while i < text.len() {
-        if i == at {
-            break;
+    };
+    for at in 0..text.len() {
+        if let Err(fault) = reader.read(text[at]) {
+            return Err(refused(&text[..at], fault));
         }
-        line += line_ends(text[i]);
-        i += 1;
     }
-    line
+    match reader.whole() {
+        Ok(()) => Ok(reader.network),
+        Err(fault) => Err(refused(text, fault)),
+    }
 }
 
-fn line_ends(byte: u8) -> usize
-    ensures { result ≤ 1 }
-{
-    if byte == b'\n' { 1 } else { 0 }
+// The fault stands behind these bytes of the text.
+fn refused(before: &[u8], fault: Fault) -> Refusal {
+    let ends = before.iter().filter(|byte| **byte == b'\n').count();
+    Refusal {
+        line: ends + 1,
+        fault,
+    }
+}
+
+impl Reader {
+    fn read(&mut self, byte: u8) -> Result<(), Fault> {
+        if byte == b'\n' {
+            return self.end_line();
+        }
+        if self.in_comment {
+            return Ok(());
+        }
+        if byte.is_ascii_digit() {
+            return self.put_digit(u32::from(byte - b'0'));
+        }
+        match byte {
+            b'#' => {
+                self.end_number()?;
+                self.in_comment = true;
+                Ok(())
+            }
+            b'-' => {
+                self.end_number()?;
+                self.put_mark()
+            }
+            b':' | b',' | b' ' | b'\t' | 11 | 12 | b'\r' => {
+                self.end_number()?;
+                self.after_mark = false;
+                Ok(())
+            }
+            _ => Err(Fault::NotDecimal),
+        }
+    }
+
+    // A network has a hop limit and at least one node, the originator.
+    fn whole(&mut self) -> Result<(), Fault> {
+        self.end_line()?;
+        let Some(hop_limit) = self.hop_limit else {
+            return Err(Fault::NoHopLimit);
+        };
+        self.network.hop_limit = hop_limit;
+        if self.network.nodes == 0 {
+            return Err(Fault::NoNode);
+        }
+        Ok(())
+    }
+
+    fn end_line(&mut self) -> Result<(), Fault> {
+        self.end_number()?;
+        self.line = Line::Empty;
+        self.in_comment = false;
+        self.after_mark = false;
+        Ok(())
+    }
+
+    fn put_digit(&mut self, digit: u32) -> Result<(), Fault>
+        requires { digit ≤ 9 }
+    {
+        if self.after_mark {
+            return Err(Fault::MarkMisplaced);
+        }
+        let number = self.number.unwrap_or(0);
+        if number > 6553 {
+            return Err(match self.hop_limit {
+                Some(_) => Fault::AddressTooLarge,
+                None => Fault::HopLimitTooLarge,
+            });
+        }
+        self.number = Some(number * 10 + digit);
+        Ok(())
+    }
+
+    // The mark of the node at the line's start.
+    fn put_mark(&mut self) -> Result<(), Fault> {
+        let Line::Sender(node) = self.line else {
+            return Err(Fault::MarkMisplaced);
+        };
+        if self.after_mark {
+            return Err(Fault::MarkMisplaced);
+        }
+        self.network.put_mark(node);
+        self.after_mark = true;
+        Ok(())
+    }
+
+    // The number that ends here, if one does: the hop limit, a node, or a node that hears the one at its line's start.
+    fn end_number(&mut self) -> Result<(), Fault> {
+        let Some(number) = self.number else {
+            return Ok(());
+        };
+        self.number = None;
+        if self.hop_limit.is_none() {
+            return self.put_hop_limit(number);
+        }
+        if matches!(self.line, Line::HopLimit) {
+            return Err(Fault::HopLimitNotAlone);
+        }
+        let Ok(address) = u16::try_from(number) else {
+            return Err(Fault::AddressTooLarge);
+        };
+        let node = self.network.node_of(address)?;
+        self.put_node(node)
+    }
+
+    fn put_hop_limit(&mut self, number: u32) -> Result<(), Fault> {
+        if number > 7 {
+            return Err(Fault::HopLimitTooLarge);
+        }
+        self.hop_limit = Some(number as u8);
+        self.line = Line::HopLimit;
+        Ok(())
+    }
+
+    fn put_node(&mut self, node: u8) -> Result<(), Fault> {
+        match self.line {
+            Line::Sender(sender) | Line::Hearings(sender) => {
+                self.network.put_hearing(sender, node)?;
+                self.line = Line::Hearings(sender);
+            }
+            _ => self.line = Line::Sender(node),
+        }
+        Ok(())
+    }
 }

@@ -1,29 +1,30 @@
 // What is printed of a network: a line a node, the totals, how often the report goes out, and what the failure of a node does.
 use super::airtime::{Air, count, print_airtime};
 use super::failures::print_failures;
-use super::words::{at_most, count_at, say, say_address, say_count, say_number};
-use chains::{Least, NO_CHAIN, NO_NODE, NODE_LIMIT};
-use octets::byte;
+use super::network::Network;
+use super::words::Count;
+use chains::{NO_CHAIN, NO_NODE, NODE_LIMIT};
 use std::io;
 
-// The size is that of the fresh report; 0 where bytes are not asked for.
+// The size is that of the fresh report, where bytes are asked for.
 pub(crate) fn print_report(
     rt: &(impl Print + Eprint),
-    hop_limit: u8,
-    size: u16,
-    addresses: &[u16],
-    pairs: &[u8],
-    marks: &mut [u8],
+    network: &Network,
+    size: Option<u16>,
 ) -> io::Result<()> {
     let mut all = [0u8; NODE_LIMIT];
-    let nodes = at_most(marks.len(), NODE_LIMIT);
-    let lengths: &mut [u8] = &mut all[0..nodes];
-    if !chains::find_lengths(pairs, marks, 0, NO_NODE, lengths) {
+    let lengths = &mut all[..network.nodes()];
+    if !chains::find_lengths(network.pairs(), network.marks(), 0, NO_NODE, lengths) {
         return say_unserved(rt);
     }
-    print_title(rt, hop_limit, addresses)?;
-    print_counted(rt, hop_limit, size, addresses, pairs, marks, lengths)?;
-    print_failures(rt, hop_limit, addresses, pairs, marks, lengths)?;
+    let hop_limit = network.hop_limit;
+    let originator = network.address(0);
+    println!(rt; "hop limit {hop_limit}, originator {originator}")?;
+    let air = count(network, size);
+    print_nodes(rt, network, lengths, air)?;
+    print_totals(rt, hop_limit, lengths)?;
+    print_airtime(rt, network, size, air)?;
+    print_failures(rt, network, lengths)?;
     print_conditions(rt)
 }
 
@@ -32,56 +33,23 @@ fn say_unserved(rt: &impl Eprint) -> io::Result<()> {
     eprintln!(rt; "reach: the network has no originator or more than 255 nodes")
 }
 
-fn print_title(rt: &impl Print, hop_limit: u8, addresses: &[u16]) -> io::Result<()> {
-    say(rt, "hop limit ")?;
-    say_number(rt, hop_limit as u64)?;
-    say(rt, ", originator ")?;
-    say_address(rt, addresses, 0)?;
-    say(rt, "\n")
-}
-
-fn print_counted(
-    rt: &impl Print,
-    hop_limit: u8,
-    size: u16,
-    addresses: &[u16],
-    pairs: &[u8],
-    marks: &mut [u8],
-    lengths: &[u8],
-) -> io::Result<()> {
-    let mut all_times = [0u64; NODE_LIMIT];
-    let mut all_bytes = [0u64; NODE_LIMIT];
-    let nodes = at_most(lengths.len(), NODE_LIMIT);
-    let times: &mut [u64] = &mut all_times[0..nodes];
-    let octets: &mut [u64] = &mut all_bytes[0..nodes];
-    let air = count(hop_limit, size, pairs, marks, times, octets);
-    print_nodes(rt, hop_limit, air, addresses, lengths, marks, times, octets)?;
-    print_totals(rt, hop_limit, lengths)?;
-    print_airtime(rt, hop_limit, size, air, marks)
-}
-
 fn print_nodes(
     rt: &impl Print,
-    hop_limit: u8,
-    air: Air,
-    addresses: &[u16],
+    network: &Network,
     lengths: &[u8],
-    marks: &[u8],
-    times: &[u64],
-    octets: &[u64],
+    air: Option<Air>,
 ) -> io::Result<()> {
-    for place in 0..lengths.len() {
-        say(rt, "node ")?;
-        say_address(rt, addresses, place)?;
-        let mute = is_mute(marks, place);
-        print_chain(rt, hop_limit, lengths[place], mute)?;
-        print_sent(
-            rt,
-            air,
-            mute,
-            count_at(times, place),
-            count_at(octets, place),
-        )?;
+    for (node, length) in lengths.iter().enumerate() {
+        let address = network.address(node);
+        let mute = network.is_mute(node);
+        print!(rt; "node {address}")?;
+        print_chain(rt, network.hop_limit, *length, mute)?;
+        if mute {
+            print!(rt; "; does not repeat")?;
+        } else if let Some(air) = air {
+            print_sent(rt, air, node)?;
+        }
+        println!(rt; "")?;
     }
     Ok(())
 }
@@ -89,81 +57,56 @@ fn print_nodes(
 // A mark also stands for lists that stop the report, so of a mute node delivery is said with that condition.
 fn print_chain(rt: &impl Print, hop_limit: u8, length: u8, mute: bool) -> io::Result<()> {
     if length == 0 {
-        return say(rt, ": the originator");
+        return print!(rt; ": the originator");
     }
     if length == NO_CHAIN {
-        return say(rt, ": no chain, out of reach");
+        return print!(rt; ": no chain, out of reach");
     }
-    say(rt, ": chain of ")?;
-    say_count(rt, length as u64, " hearing")?;
+    let hearings = Count(u64::from(length), "hearing");
     if !chains::is_delivered(hop_limit, length) {
-        return say(rt, ", out of reach");
+        return print!(rt; ": chain of {hearings}, out of reach");
     }
-    say(rt, ", delivered with path count ")?;
-    say_number(rt, length as u64 - 1)?;
+    let path_count = length - 1;
+    print!(rt; ": chain of {hearings}, delivered with path count {path_count}")?;
     if mute {
-        say(rt, " if its lists let it in")?;
+        print!(rt; " if its lists let it in")?;
     }
     Ok(())
 }
 
-// The originator sends the report, also where it repeats nothing.
-fn is_mute(marks: &[u8], place: usize) -> bool {
-    if place == 0 {
-        return false;
+fn print_sent(rt: &impl Print, air: Air, node: usize) -> io::Result<()> {
+    let times = Count(of(&air.times_of, node), "time");
+    print!(rt; "; sends it {times}")?;
+    if air.octets.is_some() {
+        let octets = Count(of(&air.octets_of, node), "byte");
+        print!(rt; ", {octets}")?;
     }
-    byte(marks, place) > 0
+    Ok(())
 }
 
-fn print_sent(rt: &impl Print, air: Air, mute: bool, times: u64, octets: u64) -> io::Result<()> {
-    if mute {
-        return say(rt, "; does not repeat\n");
-    }
-    if !air.is_counted {
-        return say(rt, "\n");
-    }
-    say(rt, "; sends it ")?;
-    say_count(rt, times, " time")?;
-    if air.has_bytes {
-        say(rt, ", ")?;
-        say_count(rt, octets, " byte")?;
-    }
-    say(rt, "\n")
+fn of(counts: &[u64; NODE_LIMIT], node: usize) -> u64 {
+    if node < NODE_LIMIT { counts[node] } else { 0 }
 }
 
 fn print_totals(rt: &impl Print, hop_limit: u8, lengths: &[u8]) -> io::Result<()> {
-    let missed = chains::missed(hop_limit, lengths);
-    say_count(rt, missed as u64, " node")?;
-    say(rt, " out of reach\n")?;
+    let missed = Count(chains::missed(hop_limit, lengths) as u64, "node");
+    println!(rt; "{missed} out of reach")?;
     match chains::least_hop_limit(lengths) {
-        Least::HopLimit(least) => {
-            say(rt, "the least hop limit that reaches all is ")?;
-            say_number(rt, least as u64)?;
-            say(rt, "\n")
-        }
-        Least::Unreachable => say(rt, "no hop limit reaches all\n"),
+        Some(least) => println!(rt; "the least hop limit that reaches all is {least}"),
+        None => println!(rt; "no hop limit reaches all"),
     }
 }
 
 fn print_conditions(rt: &impl Print) -> io::Result<()> {
-    say(
-        rt,
-        "This holds if the report is fresh and has a path. Each transmission is taken once by every node that hears its sender, and by no other.\n",
+    println!(rt;
+        "This holds if the report is fresh and has a path. Each transmission is taken once by every node that hears its sender, and by no other."
     )?;
-    say(
-        rt,
-        "Every node has its own address, echo suppression on and lists without fault.\n",
+    println!(rt; "Every node has its own address, echo suppression on and lists without fault.")?;
+    println!(rt;
+        "A node without `-` repeats the report and has room for it (4615 bytes always suffice)."
     )?;
-    say(
-        rt,
-        "A node without `-` repeats the report and has room for it (4615 bytes always suffice).\n",
+    println!(rt;
+        "A node whose lists stop the report has a `-` and is not delivered it. A destination has a `-`, and only it is delivered the report."
     )?;
-    say(
-        rt,
-        "A node whose lists stop the report has a `-` and is not delivered it. A destination has a `-`, and only it is delivered the report.\n",
-    )?;
-    say(
-        rt,
-        "If transmissions are lost, the report goes out no more often.\n",
-    )
+    println!(rt; "If transmissions are lost, the report goes out no more often.")
 }

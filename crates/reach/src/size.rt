@@ -5,33 +5,21 @@ const SHORTEST: u16 = 7;
 
 const LONGEST: u16 = 4105;
 
-// The length that the bytes write in decimal digits; 0 where they do not, or no fresh PDU with a path has it.
-pub(crate) fn read_size(text: &[u8]) -> u16 {
+// The length that the bytes write in decimal digits, if they do and a fresh PDU with a path can have it.
+pub(crate) fn read_size(text: &[u8]) -> Option<u16> {
     let mut size: u16 = 0;
-    let mut i: usize = 0;
-    while i < text.len() {
-        size = with_digit(size, text[i]);
-        i += 1;
+    for byte in text {
+        size = with_digit(size, *byte)?;
     }
-    if size < SHORTEST {
-        return 0;
+    if size < SHORTEST || size > LONGEST {
+        return None;
     }
-    if size > LONGEST {
-        return 0;
-    }
-    size
+    Some(size)
 }
 
-// Above the longest it stays there, also for what is no digit.
-fn with_digit(size: u16, byte: u8) -> u16 {
-    if size > LONGEST {
-        return size;
+fn with_digit(size: u16, byte: u8) -> Option<u16> {
+    if !byte.is_ascii_digit() {
+        return None;
     }
-    if byte < 48 {
-        return LONGEST + 1;
-    }
-    if byte > 57 {
-        return LONGEST + 1;
-    }
-    size * 10 + (byte - 48) as u16
+    size.checked_mul(10)?.checked_add(u16::from(byte - b'0'))
 }

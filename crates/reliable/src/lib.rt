@@ -19,6 +19,7 @@ fn get(recs: &[Retained], place: usize) -> Retained
     retained::freed_record()
 }
 
+// Kept, and the two below: over iterators, with the test as a closure, the library takes another record than it should on boards of 32 bits.
 fn first_due(recs: &[Retained], a: Ask) -> usize
     ensures { result ≡ place_of (is_due a.time a.delay) a recs.now }
 {

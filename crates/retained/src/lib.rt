@@ -20,7 +20,7 @@ pub struct Retained {
 
 // What a retained PDU is known by.
 #[repr(C)]
-#[derive(Clone, Copy)]
+#[derive(Clone, Copy, Default, PartialEq, Eq)]
 pub struct Names {
     pub source: u16,
     pub destination: u16,
@@ -29,7 +29,7 @@ pub struct Names {
 
 // What an operation answers: its number, the last accepted time, what was done and to which place, the PDU's names, and the bytes written.
 #[repr(C)]
-#[derive(Clone, Copy)]
+#[derive(Clone, Copy, Default)]
 pub struct Outcome {
     pub number: u8,
     pub deed: u8,
@@ -40,6 +40,7 @@ pub struct Outcome {
 }
 
 // Why bytes can't be retained: 75, then 72; 0 where they can. Document 02, W-210.
+// Kept: a number, as in C and in definition `retain_fault`.
 pub fn retain_fault(bytes: &[u8]) -> u8
     ensures { result ≡ retain_fault bytes.now }
 {
@@ -49,31 +50,23 @@ pub fn retain_fault(bytes: &[u8]) -> u8
     if 256 < bytes.len() { 72 } else { 0 }
 }
 
+#[tactic(auto, unfolding(crate::specs::Records::is_retainable, pdu::specs::Reading::exactly_one))]
 fn is_retainable(bytes: &[u8]) -> bool
     ensures { result ≡ is_retainable bytes.now }
 {
-    if pdu::fault(bytes) != 0 {
-        return false;
-    }
-    if pdu::pdu_length_in(bytes) != bytes.len() {
-        return false;
-    }
-    is_first_sending(pdu::header_of(bytes))
+    pdu::fault(bytes) == 0
+        && pdu::pdu_length_in(bytes) == bytes.len()
+        && is_first_sending(pdu::header_of(bytes))
 }
 
 fn is_first_sending(header: Header) -> bool
     ensures { result ≡ is_first_sending header }
 {
-    if header.protocol != 1 {
-        return false;
-    }
-    if header.ack {
-        return false;
-    }
-    header.path_entries() == 0
+    header.protocol == 1 && !header.ack && header.path_entries() == 0
 }
 
 // What a PDU is known by: source, destination and ID, of any bytes as its header shows them; without a destination, 0. Document 02, W-210.
+#[tactic(auto, unfolding(crate::specs::Records::names_of))]
 pub fn names_of(bytes: &[u8]) -> Names
     ensures { result ≡ names_of bytes.now }
 {

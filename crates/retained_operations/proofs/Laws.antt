@@ -1,22 +1,15 @@
 -- Laws that the decision on what a search found is proved by.
 use native.Mathlib.Omega.{arith}
 use mathlib.Core.Path.{◌≡◌, refl, sym, ◌∙◌, ap}
-use Prim.Native.Nat.{ℕ, ◌+◌, ◌<◌, ◌≤◌}
+use Prim.Native.Nat.{ℕ, ◌<◌, ◌≤◌}
 use mathlib.Core.Bool.{Bool, true, false, not}
-use mathlib.Core.List.{List}
 use lib.Dec.{eqb, ltb}
 use borrow.Author.Tests.{lt-ltb, le-ltb, eqb-true, eqb-false, eq-eqb, ne_eqb}
 use Rattle.octets.specs.Numbers.{◌gives◌, ◌or_else◌}
-use Rattle.octets.specs.Octets.{placed}
 use Rattle.octets.proofs.Numbering.{gives_here, gives_later, or_else_first, or_else_later}
-use Rattle.retained.specs.declared.Retained.{Retained}
-use Rattle.retained.specs.declared.Names.{Names}
-use Rattle.retained.specs.Records.{pdu_of, placed_names, freed_record}
-use Rattle.retained.specs.Table.{did, sent, failed, freed}
 use Rattle.retained_operations.specs.declared.Ask.{Ask}
-use Rattle.retained_operations.specs.declared.Kind.TheVariants.{Search}
 use Rattle.retained_operations.specs.declared.Effect.{Effect}
-use Rattle.retained_operations.specs.Operations.{left_of, emitted, decide_number, stays, changes, decide_of, keep_number, send_number, send_effect, effect_of}
+use Rattle.retained_operations.specs.Operations.{decide_number, stays, decide_of}
 
 module _ (a : Ask) (count number : ℕ) where
   pub number_early : (a.early ≡ 0 → ⊥) → a.early ≡ decide_number a count number
@@ -72,65 +65,3 @@ not_16 a count m n e f g = by (eqb a.early 0) refl
         let early = eqb-false a.early 0 h in
         sym (decide_refuses a count m e a.early (number_early a count m early) early)
         ∙ decide_refuses a count n f a.early (number_early a count n early) early
-
-module _ (count named free : ℕ) where
-  pub keep_71 : named < count → 71 ≡ keep_number count named free
-  unfolding ◌gives◌ ◌or_else◌
-  keep_71 h = simp (lt-ltb named count h)
-
-  pub keep_0 : count ≤ named → free < count → 0 ≡ keep_number count named free
-  unfolding ◌gives◌ ◌or_else◌
-  keep_0 h k = simp (le-ltb named count h, lt-ltb free count k)
-
-  pub keep_70 : count ≤ named → count ≤ free → 70 ≡ keep_number count named free
-  unfolding ◌gives◌ ◌or_else◌
-  keep_70 h k = simp (le-ltb named count h, le-ltb free count k)
-
-module _ (a : Ask) (count place : ℕ) where
-  module _ (r : Retained) where
-    pub send_77 : place < count → r.count < a.tries → a.room < r.length → 77 ≡ send_number a count place r
-    unfolding ◌gives◌
-    send_77 h k l = simp (lt-ltb place count h, lt-ltb r.count a.tries k, lt-ltb a.room r.length l)
-
-    pub send_fits : place < count → r.count < a.tries → r.length ≤ a.room → 0 ≡ send_number a count place r
-    unfolding ◌gives◌
-    send_fits h k l = simp (lt-ltb place count h, lt-ltb r.count a.tries k, le-ltb a.room r.length l)
-
-    pub send_drops : place < count → a.tries ≤ r.count → 0 ≡ send_number a count place r
-    unfolding ◌gives◌
-    send_drops h k = simp (lt-ltb place count h, le-ltb r.count a.tries k)
-
-    pub send_none : count ≤ place → 0 ≡ send_number a count place r
-    unfolding ◌gives◌
-    send_none h = simp (le-ltb place count h)
-
-    module _ (names : Names) (are : names ≡ placed_names r) where
-      pub sends : place < count → r.count < a.tries
-          → changes place (r.count + 1) (did sent a.time place names r.length) ≡ send_effect a count place r
-      sends h k = ap (λ (n : Names). changes place (r.count + 1) (did sent a.time place n r.length)) are
-          ∙ simp (lt-ltb place count h, lt-ltb r.count a.tries k)
-
-      pub drops : place < count → a.tries ≤ r.count → changes place 0 (did failed a.time place names 0) ≡ send_effect a count place r
-      drops h k = ap (λ (n : Names). changes place 0 (did failed a.time place n 0)) are
-          ∙ simp (lt-ltb place count h, le-ltb r.count a.tries k)
-
-    pub rests : count ≤ place → stays 0 a.time count ≡ send_effect a count place r
-    rests h = simp (le-ltb place count h)
-
-  pub frees : place < count → changes place 0 (did freed a.time place a.names 0) ≡ effect_of Search a count place
-  frees h = simp (lt-ltb place count h)
-
-  pub ignores : count ≤ place → stays 0 a.time count ≡ effect_of Search a count place
-  ignores h = simp (le-ltb place count h)
-
--- what is sent again, and what is dropped
-module _ (e : Effect) (r : Retained) (output : List ℕ) where
-  pub resent : (x : Retained) (part after : List ℕ) → e.outcome.deed ≡ 2
-      → x ≡ record { pdu = r.pdu; length = r.length; sent_at = e.outcome.last; count = e.count } → part ≡ pdu_of r → after ≡ placed output 0 part
-      → (x ≡ left_of e r) × (after ≡ emitted e r output)
-  unfolding left_of emitted
-  resent x part after d l b p = simp (eq-eqb e.outcome.deed 2 d) (l, p ∙ ap (placed output 0) b)
-
-  pub dropped : (e.outcome.deed ≡ 2 → ⊥) → (freed_record ≡ left_of e r) × (output ≡ emitted e r output)
-  unfolding left_of emitted
-  dropped d = simp (ne_eqb e.outcome.deed 2 d) (refl, refl)

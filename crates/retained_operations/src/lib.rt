@@ -12,15 +12,18 @@ ghost use Rattle.retained_operations.specs.declared.Kind.TheVariants.{Search, An
 use retained::{Names, Outcome, Retained};
 
 // What an ask comes to: a record is sought, a PDU that was heard is answered, or nothing is done.
-#[derive(Clone, Copy)]
+#[derive(Clone, Copy, Default)]
 pub enum Kind {
+    #[default]
     Search,
     Answer,
     Nothing,
 }
 
-// `early` is a refusal that comes before the table is looked at, `late` one that comes after 74 and 73; 0 for none. `length` is the length of an answer.
-#[derive(Clone, Copy)]
+// What is asked of a table. `early` is a refusal that comes before the table is looked at, `late` one that comes after 74 and 73; 0 for none.
+// `length` is that of an answer.
+// Kept: `start`, `is_due`, `is_named`, `retain`, `step` and `hear` promise their result of every Ask by its fields; an enum of kinds would narrow them.
+#[derive(Clone, Copy, Default)]
 pub struct Ask {
     pub kind: Kind,
     pub early: u8,
@@ -35,6 +38,7 @@ pub struct Ask {
 }
 
 // What is to be done to the record at `place`, and the count that it then has; nothing, where there is no such place.
+// Kept: the count stands beside the outcome's deed, a number: `Outcome` is C's, and definitions `left_of` and `emitted` read the deed.
 #[derive(Clone, Copy)]
 pub struct Effect {
     pub place: usize,
@@ -46,19 +50,12 @@ pub struct Effect {
 pub fn ask_retain(last: u64, time: u64, bytes: &[u8]) -> Ask
     ensures { result ≡ ask_retain last time bytes.now }
 {
-    let late = retained::retain_fault(bytes);
-    let names = retained::names_of(bytes);
     Ask {
-        kind: Kind::Search,
-        early: 0,
-        late,
         last,
         time,
-        delay: 0,
-        tries: 0,
-        room: 0,
-        names,
-        length: 0,
+        late: retained::retain_fault(bytes),
+        names: retained::names_of(bytes),
+        ..Ask::default()
     }
 }
 
@@ -66,28 +63,13 @@ pub fn ask_retain(last: u64, time: u64, bytes: &[u8]) -> Ask
 pub fn ask_step(last: u64, time: u64, delay: u64, tries: u64, room: usize) -> Ask
     ensures { result ≡ ask_step last time delay tries room }
 {
-    let names = no_names();
     Ask {
-        kind: Kind::Search,
-        early: 0,
-        late: 0,
         last,
         time,
         delay,
         tries,
         room,
-        names,
-        length: 0,
-    }
-}
-
-fn no_names() -> Names
-    ensures { result ≡ record { source = 0; destination = 0; pdu_id = 0 } }
-{
-    Names {
-        source: 0,
-        destination: 0,
-        pdu_id: 0,
+        ..Ask::default()
     }
 }
 
@@ -95,24 +77,13 @@ fn no_names() -> Names
 pub fn start(a: Ask, count: usize) -> usize
     ensures { result ≡ search_start a count }
 {
-    if !seeks(a) {
-        return count;
-    }
-    if count == 16 {
-        return 0;
-    }
-    count
+    if seeks(a) && count == 16 { 0 } else { count }
 }
 
 fn seeks(a: Ask) -> bool
     ensures { result ≡ seeks a.kind }
 {
-    let kind = a.kind;
-    match kind {
-        Kind::Search => true,
-        Kind::Answer => false,
-        Kind::Nothing => false,
-    }
+    matches!(a.kind, Kind::Search)
 }
 
 // Whether a record is due at the ask's time. Document 02, W-210.
@@ -126,8 +97,7 @@ pub fn is_due(a: Ask, r: Retained) -> bool
 pub fn is_named(a: Ask, r: Retained) -> bool
     ensures { result ≡ is_named a.names r }
 {
-    let names = a.names;
-    retained::in_use::is_named(r, names)
+    retained::in_use::is_named(r, a.names)
 }
 
 // Whether a record is free, for any ask. Document 02, W-210.
@@ -142,8 +112,7 @@ pub fn retain(a: Ask, count: usize, named: usize, free: usize) -> Effect
     ensures { result ≡ retain_at a count named free }
 {
     let number = retain_number(count, named, free);
-    let names = a.names;
-    let effect = changed(free, 0, 1, a.time, names, 0);
+    let effect = changed(free, 0, 1, a.time, a.names, 0);
     decide(a, count, number, effect)
 }
 
@@ -171,14 +140,11 @@ pub fn step(a: Ask, count: usize, place: usize, r: Retained) -> Effect
 fn step_number(a: Ask, count: usize, place: usize, r: Retained) -> u8
     ensures { result ≡ send_number a count place r }
 {
-    if place < count {
-        if r.count < a.tries {
-            if a.room < r.length {
-                return 77;
-            }
-        }
+    if place < count && r.count < a.tries && a.room < r.length {
+        77
+    } else {
+        0
     }
-    0
 }
 
 fn step_effect(a: Ask, count: usize, place: usize, r: Retained) -> Effect
@@ -203,6 +169,7 @@ pub fn hear(a: Ask, count: usize, place: usize) -> Effect
 }
 
 // An effect, unless the ask or the number refuses it: 10 and 11, 74, 73, 75 or 72 or 77 of the ask, then the number.
+#[tactic(auto, unfolding(crate::specs::Operations::decide_of))]
 fn decide(a: Ask, count: usize, number: u8, effect: Effect) -> Effect
     ensures { result ≡ decide_of a count number effect }
 {
@@ -213,6 +180,8 @@ fn decide(a: Ask, count: usize, number: u8, effect: Effect) -> Effect
     effect
 }
 
+// The first refusal: the ask's early one, 74, 73, the ask's late one, then the number; 0 for none.
+// Kept, also in `retain_number` and `step_number`: the numbers are document 02's, as in definition `decide_number` and in C.
 fn number_of(a: Ask, count: usize, number: u8) -> u8
     ensures { result ≡ decide_number a count number }
 {
@@ -231,43 +200,17 @@ fn number_of(a: Ask, count: usize, number: u8) -> u8
     number
 }
 
+// Kept: three values by a `match`; there is no step to run.
 fn effect_of(a: Ask, count: usize, place: usize) -> Effect
     ensures { result ≡ effect_of a.kind a count place }
 {
-    let kind = a.kind;
-    match kind {
-        Kind::Search => free_effect(a, count, place),
-        Kind::Answer => answer_effect(a, count),
-        Kind::Nothing => unchanged(0, a.time, count),
-    }
-}
-
-fn free_effect(a: Ask, count: usize, place: usize) -> Effect
-    ensures { result ≡ effect_of Search a count place }
-{
-    if place < count {
-        let names = a.names;
-        return changed(place, 0, 4, a.time, names, 0);
-    }
-    unchanged(0, a.time, count)
-}
-
-fn answer_effect(a: Ask, count: usize) -> Effect
-    ensures { result ≡ effect_of Answer a count 0 }
-{
-    let names = a.names;
-    let outcome = Outcome {
-        number: 0,
-        deed: 5,
-        last: a.time,
-        place: 0,
-        names,
-        length: a.length,
-    };
-    Effect {
-        place: count,
-        count: 0,
-        outcome,
+    match a.kind {
+        Kind::Search if place < count => changed(place, 0, 4, a.time, a.names, 0),
+        Kind::Answer => Effect {
+            place: count,
+            ..changed(0, 0, 5, a.time, a.names, a.length)
+        },
+        _ => unchanged(0, a.time, count),
     }
 }
 
@@ -292,14 +235,10 @@ fn changed(place: usize, count: u64, deed: u8, last: u64, names: Names, written:
 fn unchanged(number: u8, last: u64, count: usize) -> Effect
     ensures { result ≡ stays number last count }
 {
-    let names = no_names();
     let outcome = Outcome {
         number,
-        deed: 0,
         last,
-        place: 0,
-        names,
-        length: 0,
+        ..Outcome::default()
     };
     Effect {
         place: count,
@@ -309,6 +248,7 @@ fn unchanged(number: u8, last: u64, count: usize) -> Effect
 }
 
 // The record at the effect's place after it: sent again, its PDU written at the start of the output; else dropped, nothing written. Document 02, W-210.
+#[tactic(auto, unfolding(crate::specs::Operations::left_of, crate::specs::Operations::emitted))]
 pub fn send(output: &mut [u8], e: Effect, r: Retained) -> Retained
     ensures { (result ≡ left_of e r) × (output.new ≡ emitted e r output.old) }
 {
@@ -318,6 +258,7 @@ pub fn send(output: &mut [u8], e: Effect, r: Retained) -> Retained
     }
     let pdu = r.pdu;
     octets::put(output, 0, octets::part(&pdu, 0, r.length));
+    // Kept: `..r` copies the record once more: 304 bytes of stack, and 38 ns where 25 were.
     Retained {
         pdu,
         length: r.length,

@@ -6,8 +6,8 @@ use mathlib.Core.Bool.{true}
 use mathlib.Core.List.{List, [], ◌++◌}
 use lib.ListN.{length, set, length-set}
 use borrow.Author.Tests.{eq-eqb}
+use Rattle.std.specs.Prelude.{Ok}
 use Rattle.pdu.specs.declared.Header.{Header}
-use Rattle.pdu.specs.declared.Reading.TheVariants.{Pdu}
 use Rattle.pdu.specs.Header.{header_of}
 use Rattle.pdu.specs.Reading.{read_of}
 use Rattle.pdu.proofs.Inversion.{shown}
@@ -39,7 +39,7 @@ module _ (sending : Sending) (names : Names) (hop : sending.hop_limit ≤ 7) (po
       }
 
   -- it reads back, whatever bytes follow
-  pub ack_reads : read_of (acknowledgement sending names ++ rest) ≡ Pdu (ack_header sending names)
+  pub ack_reads : read_of (acknowledgement sending names ++ rest) ≡ Ok (ack_header sending names)
   unfolding acknowledgement
   ack_reads = read_encode formed rest
 

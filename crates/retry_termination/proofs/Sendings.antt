@@ -7,12 +7,12 @@ use mathlib.Core.List.{List, [], ◌∷◌, ◌++◌, append-nil}
 use lib.Dec.{eqb}
 use lib.ListN.{length}
 use borrow.Author.Tests.{eqb-true, ltb-false, not-false, not-true}
+use Rattle.std.specs.Prelude.{Ok}
 use Rattle.octets.specs.Octets.{AllBytes, word_bytes}
 use Rattle.octets.proofs.Numbering.{or_else_zero, gives_zero}
 use Rattle.octets.proofs.Words.{bytes_none, bytes_more, bytes_joined, bytes_word, bytes_four}
 use Rattle.octets.proofs.Tests.{both, flag_small}
 use Rattle.pdu.specs.declared.Header.{Header}
-use Rattle.pdu.specs.declared.Reading.TheVariants.{Pdu}
 use Rattle.pdu.specs.declared.Destination.TheVariants.{Address}
 use Rattle.pdu.specs.Header.{header_of}
 use Rattle.pdu.specs.Sizes.{path_entries, path_start, pdu_length}
@@ -70,7 +70,7 @@ module _ (sending : Sending) (names : Names) (hop : sending.hop_limit ≤ 7) (po
   ack_one =
       is_exact (acknowledgement sending names)
       (record {
-        reads = ap read_of (sym (append-nil (acknowledgement sending names))) ∙ ack_reads sending names hop port [] ∙ ap Pdu (sym ack_alone_shows);
+        reads = ap read_of (sym (append-nil (acknowledgement sending names))) ∙ ack_reads sending names hop port [] ∙ ap Ok (sym ack_alone_shows);
         alone = long ∙ ap (λ (h : Header). pdu_length h) (sym ack_alone_shows);
       })
 

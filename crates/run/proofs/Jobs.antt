@@ -15,13 +15,14 @@ use Rattle.batch.specs.Walk.{batch_limit, walk}
 use Rattle.lines.specs.Lines.{first_line, refused_line}
 use Rattle.job.specs.declared.Section.{Section}
 use Rattle.job.specs.declared.Job.{Job}
-use Rattle.job.specs.declared.JobReading.TheVariants as reading
-use Rattle.job.specs.Jobs.{job_of, settings_of, values_in, padded_values, job_lists, batch_in, node_in}
+use Rattle.std.specs.Prelude.{Ok, Err}
+use Rattle.job.specs.declared.JobRefusal.{JobRefusal}
+use Rattle.job.specs.Jobs.{job_refusal_number, job_of, settings_of, values_in, padded_values, job_lists, batch_in, node_in}
 use Rattle.job.proofs.Inversion.{job_in, lists_right}
 use Rattle.job.proofs.Padding.{values_start}
 use Rattle.run.specs.Run.{room_for_one, walk_lines, batch_lines, run_lines, text_with, place_with}
 
-pub batch_short : (bytes : List ℕ) (job : Job) (batch : List ℕ) → job_of bytes ≡ reading.Job job → batch ≡ batch_in bytes job
+pub batch_short : (bytes : List ℕ) (job : Job) (batch : List ℕ) → job_of bytes ≡ Ok job → batch ≡ batch_in bytes job
     → length batch ≤ batch_limit
 batch_short bytes job batch e eb =
     let i = job_in bytes job e in
@@ -34,7 +35,7 @@ module _ (bytes : List ℕ) (section : Section) (few : section.count ≤ 64) whe
   list_is array list e el = el ∙ ap (take (2 * section.count)) e ∙ values_start bytes section few
 
 -- a block into which a job's lists were laid holds them
-pub lists_are : (bytes : List ℕ) (job : Job) (a b c d before block : List ℕ) → job_of bytes ≡ reading.Job job
+pub lists_are : (bytes : List ℕ) (job : Job) (a b c d before block : List ℕ) → job_of bytes ≡ Ok job
     → a ≡ values_in bytes job.source_pass → b ≡ values_in bytes job.source_reject
     → c ≡ values_in bytes job.destination_pass → d ≡ values_in bytes job.destination_reject
     → block ≡ over (laid (cut_lists (eight a [] b [] c [] d []))) before → lists_in block ≡ job_lists bytes job
@@ -86,13 +87,13 @@ job_put bytes job settings lists batch text t1 t2 p1 p2 es el eb e1 e2 =
 
 -- a job's lines by its reading
 module _ (bytes text : List ℕ) where
-  pub refused_put : (number : ℕ) (t : List ℕ) (p : ℕ) → job_of bytes ≡ reading.Refused number
-      → (p ≡ place_after text 0 (refused_line number)) × (t ≡ placed text 0 (refused_line number))
+  pub refused_put : (refusal : JobRefusal) (t : List ℕ) (p : ℕ) → job_of bytes ≡ Err refusal
+      → (p ≡ place_after text 0 (refused_line (job_refusal_number refusal))) × (t ≡ placed text 0 (refused_line (job_refusal_number refusal)))
       → (p ≡ place_with text 0 (run_lines bytes)) × (t ≡ text_with text 0 (run_lines bytes))
   unfolding run_lines text_with place_with
-  refused_put number t p e r = rw e r
+  refused_put refusal t p e r = rw e r
 
-  pub read_put : (job : Job) (t : List ℕ) (p : ℕ) → job_of bytes ≡ reading.Job job
+  pub read_put : (job : Job) (t : List ℕ) (p : ℕ) → job_of bytes ≡ Ok job
       → (p ≡ place_with text 0 (batch_lines (node_in bytes job) (batch_in bytes job)))
       × (t ≡ text_with text 0 (batch_lines (node_in bytes job) (batch_in bytes job)))
       → (p ≡ place_with text 0 (run_lines bytes)) × (t ≡ text_with text 0 (run_lines bytes))

@@ -3,13 +3,10 @@ use Prim.Native.Nat.{ℕ, suc, ◌+◌, ◌-◌, ◌*◌, ◌≤◌, ◌<◌}
 use native.Mathlib.Omega.{arith}
 use mathlib.Core.Bool.{Bool, true, false, not, cond, ◌||◌}
 use mathlib.Core.List.{List, [], ◌∷◌, ◌++◌}
-use mathlib.Core.Logic.{◌⊎◌, ⊎_elim}
 use mathlib.Core.Path.{◌≡◌, refl, ap, sym, ◌∙◌}
 use lib.Dec.{eqb, leb}
 use lib.ListN.{length, take, drop, length-drop}
 use borrow.Author.Tests.{lt-leb, eqb-false}
-use denote.Enum.Declared.{tag_of}
-use Rattle.batch.specs.contracts.Stepped.{the_type}
 use Rattle.octets.specs.Numbers.{flag}
 use Rattle.octets.specs.Octets.{placed, place_after}
 use Rattle.octets.proofs.Placing.{length_placed}
@@ -19,7 +16,7 @@ use Rattle.node.specs.Repeat.{repeated}
 use Rattle.node.specs.Answers.{node_or_reading_fault, taken, answer_of}
 use Rattle.batch.specs.declared.Cursor.{Cursor}
 use Rattle.batch.specs.declared.Stepped.{Stepped}
-use Rattle.batch.specs.declared.Stepped.TheVariants.{TooLong, Ended, Answered}
+use Rattle.batch.specs.declared.Stepped.TheVariants.{Ended, Answered}
 use Rattle.batch.specs.Walk.{batch_limit, next_cursor, step_of, Walk, ending_at, before, walk_from, walk}
 use Rattle.batch.proofs.Stepping.{taken_within, not_too_long}
 use Rattle.batch.proofs.Walking.{walk_end, walk_more, not_taken}
@@ -48,9 +45,10 @@ module _ (node : Node) (batch : List ℕ) where
     pub text_is : final_text text place lines offset ended ≡ final_text text₀ place₀ 0 0 false
     pub place_is : final_place text place lines offset ended ≡ final_place text₀ place₀ 0 0 false
 
-  pub going_start : (text repeated : List ℕ) (place : ℕ) → length repeated ≡ room_for_one → Going text place text repeated place 0 0 false
-  going_start text repeated place e =
-      record { few = omega arith; fewer = λ x. omega arith; within = omega arith; same = refl; room = e; text_is = refl; place_is = refl }
+  pub going_start : (text repeated : List ℕ) (place : ℕ) (cursor : Cursor) → length repeated ≡ room_for_one
+      → cursor ≡ record { place = 0; ended = false } → Going text place text repeated place 0 cursor.place cursor.ended
+  going_start text repeated place cursor e start =
+      rw start (record { few = omega arith; fewer = λ x. omega arith; within = omega arith; same = refl; room = e; text_is = refl; place_is = refl })
 
   module _ (short : length batch ≤ batch_limit) where
     -- a step that did not answer: nothing is left of the walk

@@ -7,13 +7,12 @@ use mathlib.Core.Path.{◌≡◌, refl, ap, ◌∙◌}
 use lib.Dec.{leb, eqb}
 use lib.ListN.{length, drop, length-append, length-drop}
 use borrow.Author.Tests.{leb-false, eq-eqb, ne_eqb, eqb-true, eqb-false}
-use Rattle.octets.specs.Numbers.{flag}
+use Rattle.std.specs.Prelude.{Option, None, Some}
+use Rattle.octets.specs.Numbers.{flag, ◌gives◌, ◌or_else◌}
 use Rattle.octets.proofs.Numbering.{or_else_zero}
 use Rattle.octets.specs.Octets.{AllBytes}
 use Rattle.octets.proofs.Words.{bytes_take, bytes_drop}
 use Rattle.octets.proofs.Tests.{flag_small}
-use Rattle.pdu.specs.declared.Sender.{Sender}
-use Rattle.pdu.specs.declared.Sender.TheVariants.{Unknown, Known}
 use Rattle.pdu.specs.Header.{header_of}
 use Rattle.pdu.specs.Sizes.{pdu_length}
 use Rattle.pdu.specs.Reading.{read_of, reading_number}
@@ -37,13 +36,24 @@ use Rattle.text.proofs.Decimal.{length_decimal, decimal_of_16_bits}
 use Rattle.lines.proofs.Shown.{length_shown, shown_within}
 use Rattle.lines.proofs.Lines.{first_line_at_most, refused_line_at_most, pdu_line_at_most, last_line_at_most}
 use Rattle.job.specs.declared.Job.{Job}
-use Rattle.job.specs.declared.JobReading.{JobReading}
-use Rattle.job.specs.declared.JobReading.TheVariants as reading
-use Rattle.job.specs.Jobs.{job_number, job_of, batch_in, node_in}
+use Rattle.std.specs.Prelude.{Ok, Err}
+use Rattle.job.proofs.Results.{Read}
+use Rattle.job.specs.Jobs.{job_refusal_number, job_of, batch_in, node_in}
 use Rattle.job.proofs.Inversion.{job_in, own_small}
-use Rattle.job.proofs.Within.{gives_within, or_else_within, number_within}
+use Rattle.job.proofs.Within.{refusal_within}
 use Rattle.run.specs.Run.{room_for_one, repeated_or_none, line_at, pdu_lines, walk_lines, batch_lines, job_lines, run_lines, printed, text_room}
 use Rattle.run.proofs.Jobs.{batch_short, own_is}
+
+-- numbers of at most so much
+gives_within : (test : Bool) {n most : ℕ} → n ≤ most → (test gives n) ≤ most
+unfolding ◌gives◌
+gives_within true h = h
+gives_within false h = omega arith
+
+or_else_within : (n later : ℕ) {most : ℕ} → n ≤ most → later ≤ most → (n or_else later) ≤ most
+unfolding ◌or_else◌
+or_else_within zero later h k = k
+or_else_within (suc n) later h k = h
 
 -- the lines' characters together
 abbrev characters : List (List ℕ) → ℕ
@@ -109,7 +119,7 @@ sender_within : (bytes : List ℕ) → AllBytes bytes
     → length (sender_shown (last_sender (header_of bytes) bytes)) ≤ 1 + 4 * flag (header_of bytes).path_bit
 sender_within bytes small = go (header_of bytes).path_bit
   where
-    go : (bit : Bool) → length (sender_shown (cond bit (Known (last_or (header_of bytes).source (path_in (header_of bytes) bytes))) Unknown))
+    go : (bit : Bool) → length (sender_shown (cond bit (Some (last_or (header_of bytes).source (path_in (header_of bytes) bytes))) None))
         ≤ 1 + 4 * flag bit
     go true = omega (arith, decimal_of_16_bits (last_or (header_of bytes).source (path_in (header_of bytes) bytes)) (sender_small bytes small))
     go false = omega arith
@@ -119,7 +129,7 @@ module _ (node : Node) (batch : List ℕ) (bytes : AllBytes batch) (number offse
   abbrev received : List ℕ
   received = drop offset batch
 
-  abbrev sender : Sender
+  abbrev sender : Option ℕ
   sender = heard_from node received
 
   abbrev repeat_of : ℕ
@@ -167,7 +177,7 @@ module _ (node : Node) (batch : List ℕ) (bytes : AllBytes batch) (number offse
   line_of_fault : (node_or_reading_fault node received ≡ 0 → ⊥) → length (line_at node batch number offset) ≤ 21
   unfolding repeat_number stop_fault
   line_of_fault h =
-      let unknown : length (sender_shown sender) ≡ 1 = ap (λ (s : Sender). length (sender_shown s)) (unread_sender node received [] h) in
+      let unknown : length (sender_shown sender) ≡ 1 = ap (λ (s : Option ℕ). length (sender_shown s)) (unread_sender node received [] h) in
       omega (arith, line_not_repeated (ne_eqb repeat_of 0 (λ z. h (or_else_zero _ _ (or_else_zero _ _ z).0).0)), unknown)
 
 -- the lines of a walk
@@ -257,10 +267,11 @@ pub printed_within : (bytes : List ℕ) → AllBytes bytes → length (printed b
 unfolding printed run_lines
 printed_within bytes small = go (job_of bytes) refl
   where
-    go : (read : JobReading) → job_of bytes ≡ read → characters (job_lines bytes read) ≤ text_room
-    go (reading.Refused number) e =
-        let known : number < 256 = omega (arith, ap job_number e, number_within bytes) in
+    go : (read : Read Job) → job_of bytes ≡ read → characters (job_lines bytes read) ≤ text_room
+    go (Err refusal) e =
+        let number = job_refusal_number refusal in
+        let known : number < 256 = omega (arith, refusal_within refusal) in
         omega (arith, one_more (refused_line number) [], refused_line_at_most number known, none)
-    go (reading.Job job) e =
+    go (Ok job) e =
         batch_within (node_in bytes job) (batch_in bytes job) (batch_bytes bytes small job) (batch_short bytes job _ e refl)
         (omega (arith, own_is job, own_small bytes job small (job_in bytes job e)))

@@ -10,8 +10,9 @@ use lib.Seq.{take_all}
 use borrow.Author.Tests.{leb-true, leb-false}
 use Rattle.octets.specs.Octets.{AllBytes, placed, place_after}
 use Rattle.octets.proofs.Placing.{is_after, length_placed, nothing_placed, placed_more, placed_start, take_over}
-use Rattle.job.specs.declared.JobReading.{JobReading}
-use Rattle.job.specs.declared.JobReading.TheVariants as reading
+use Rattle.std.specs.Prelude.{Ok, Err}
+use Rattle.job.specs.declared.Job.{Job}
+use Rattle.job.proofs.Results.{Read}
 use Rattle.job.specs.Jobs.{job_of, job_limit}
 use Rattle.job.proofs.Inversion.{job_in}
 use Rattle.job.proofs.Longest.{job_cut}
@@ -52,9 +53,9 @@ pub printed_cut : (input : List ℕ) (room : ℕ) → job_limit < room → print
 unfolding printed run_lines
 printed_cut input room h = ap flatten (go (leb (length input) room) refl)
   where
-    refused : (read : JobReading) → job_of input ≡ read → job_limit < length input → job_lines (take room input) read ≡ job_lines input read
-    refused (reading.Refused number) e long = refl
-    refused (reading.Job job) e long = absurd (omega (arith, (job_in input job e).short))
+    refused : (read : Read Job) → job_of input ≡ read → job_limit < length input → job_lines (take room input) read ≡ job_lines input read
+    refused (Err refusal) e long = refl
+    refused (Ok job) e long = absurd (omega (arith, (job_in input job e).short))
 
     go : (all : Bool) → leb (length input) room ≡ all → job_lines (take room input) (job_of (take room input)) ≡ job_lines input (job_of input)
     go true e = ap (λ (bytes : List ℕ). job_lines bytes (job_of bytes)) (take_all room input (leb-true (length input) room e))

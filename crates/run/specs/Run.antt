@@ -1,5 +1,5 @@
 -- Document 01, "The program `relay`": the lines that a job prints, and the room for them.
-use Rattle.std.specs.Prelude.{ℕ, ◌+◌, ◌*◌, ◌≤◌, cond, ◌≡◌, eqb, length, take, drop}
+use Rattle.std.specs.Prelude.{ℕ, ◌+◌, ◌*◌, ◌≤◌, cond, ◌≡◌, eqb, length, take, drop, Result, Ok, Err}
 use mathlib.Core.List.{List, [], ◌∷◌, ◌++◌, flatten}
 use Rattle.octets.specs.Octets.{placed, place_after}
 use Rattle.pdu.specs.Sizes.{pdu_limit}
@@ -7,9 +7,9 @@ use Rattle.decision.specs.Decision.{Node}
 use Rattle.node.specs.Repeat.{repeated}
 use Rattle.node.specs.Answers.{delivery_number, repeat_number, heard_from}
 use Rattle.batch.specs.Walk.{batch_limit, Walk, walk}
-use Rattle.job.specs.declared.JobReading.{JobReading}
-use Rattle.job.specs.declared.JobReading.TheVariants.{Job, Refused}
-use Rattle.job.specs.Jobs.{job_of, job_limit, batch_in, node_in}
+use Rattle.job.specs.declared.JobRefusal.{JobRefusal}
+use Rattle.job.specs.declared.Job.{Job}
+use Rattle.job.specs.Jobs.{job_refusal_number, job_of, job_limit, batch_in, node_in}
 use Rattle.lines.specs.Lines.{first_line, pdu_line, last_line, refused_line}
 
 -- the program's output for one PDU has room for the longest, so that none is too long for it
@@ -58,9 +58,9 @@ abbrev pub LinesPut : List ℕ → ℕ → List (List ℕ) → List ℕ → ℕ 
 LinesPut before place lines after end = (end ≡ place_with before place lines) × (after ≡ text_with before place lines)
 
 -- the lines of a job: a bad job prints only `refused` and the number
-abbrev pub job_lines : List ℕ → JobReading → List (List ℕ)
-job_lines bytes (Refused number) = refused_line number ∷ []
-job_lines bytes (Job job) = batch_lines (node_in bytes job) (batch_in bytes job)
+abbrev pub job_lines : List ℕ → Result Job JobRefusal → List (List ℕ)
+job_lines bytes (Err refusal) = refused_line (job_refusal_number refusal) ∷ []
+job_lines bytes (Ok job) = batch_lines (node_in bytes job) (batch_in bytes job)
 
 -- what `relay` prints for the bytes of a job, line by line
 unfoldable pub run_lines : List ℕ → List (List ℕ)

@@ -1,17 +1,16 @@
 // One run of `relay`: a job's bytes to the text that is printed.
 #![tactic(auto)]
 
-ghost use Rattle.std.specs.Prelude.{◌≡◌, ◌*◌, ◌≤◌, length, take};
+ghost use Rattle.std.specs.Prelude.{◌≡◌, ◌*◌, ◌≤◌, length, take, Ok};
 ghost use Rattle.lists.specs.Lists.{lists_in};
 ghost use Rattle.decision.specs.Decision.{node_of};
 ghost use Rattle.batch.specs.Walk.{batch_limit};
-ghost use Rattle.job.specs.declared.JobReading.TheVariants as reading;
 ghost use Rattle.job.specs.Jobs.{job_of, node_in, batch_in};
 ghost use Rattle.run.specs.Run.{lines_of, batch_lines, LinesPut, Ran};
 
 use batch::{Cursor, Stepped};
 use decision::Settings;
-use job::{Job, JobReading};
+use job::Job;
 use pdu::Header;
 
 // Writes what `relay` prints for a job's bytes into the text, line after line from its start, and answers where the lines end. Any bytes get an
@@ -20,18 +19,18 @@ use pdu::Header;
 pub fn relay(bytes: &[u8], text: &mut [u8]) -> usize
     ensures { Ran bytes.now text.old text.new result }
 {
-    let reading = job::read(bytes);
-    match reading {
-        JobReading::Refused(number) => lines::put_refused_line(text, 0, number),
-        JobReading::Job(job) => put_job(text, bytes, job),
+    match job::read(bytes) {
+        Err(refusal) => lines::put_refused_line(text, 0, refusal.number()),
+        Ok(job) => put_job(text, bytes, job),
     }
 }
 
 fn put_job(text: &mut [u8], bytes: &[u8], job: Job) -> usize
-    requires { job_of bytes.now ≡ reading.Job job }
+    requires { job_of bytes.now ≡ Ok job }
     ensures { LinesPut text.old 0
         (batch_lines (node_in bytes.now job) (batch_in bytes.now job)) text.new result }
 {
+    // Kept: each list needs an array that outlives the call, so a closure for the four would only be another name for `job::values`.
     let source_pass = job::values(bytes, job.source_pass);
     let source_reject = job::values(bytes, job.source_reject);
     let destination_pass = job::values(bytes, job.destination_pass);
@@ -72,32 +71,26 @@ fn put_walk(text: &mut [u8], place: usize, settings: Settings, lists: &[u16], ba
     let mut repeated = [0u8; Header::PDU_LIMIT];
     let mut next_place = place;
     let mut lines: u64 = 0;
-    let mut offset: usize = 0;
-    let mut ended = false;
-    loop {
-        let cursor = Cursor {
-            place: offset,
-            ended,
-        };
-        let stepped = batch::step(settings, lists, batch, cursor, &mut repeated);
-        let Stepped::Answered(answer, next) = stepped else {
-            break;
-        };
+    let mut cursor = Cursor::start();
+    while let Stepped::Answered(answer, next) = batch::step(
+        settings,
+        lists,
+        batch,
+        cursor,
+        &mut repeated,
+    ) {
         lines += 1;
-        let length = answer.repeated_length;
-        let sender = answer.last_sender;
         next_place = lines::put_pdu_line(
             text,
             next_place,
             lines,
-            offset as u64,
+            cursor.place as u64,
             answer.delivery,
             answer.repeat,
-            &repeated[..length],
-            sender,
+            &repeated[..answer.repeated_length],
+            answer.last_sender,
         );
-        offset = next.place;
-        ended = next.ended;
+        cursor = next;
     }
-    lines::put_last_line(text, next_place, lines, offset as u64)
+    lines::put_last_line(text, next_place, lines, cursor.place as u64)
 }

@@ -5,9 +5,9 @@ use mathlib.Core.List.{List}
 use mathlib.Core.Path.{◌≡◌, refl, sym, ◌∙◌}
 use lib.ListN.{length}
 use borrow.Author.Tests.{ne_eqb}
+use Rattle.std.specs.Prelude.{Ok}
 use Rattle.octets.specs.Octets.{over}
 use Rattle.pdu.specs.declared.Header.{Header}
-use Rattle.pdu.specs.declared.Reading.TheVariants.{Pdu}
 use Rattle.pdu.specs.declared.Written.{Written}
 use Rattle.pdu.specs.Header.{header_of}
 use Rattle.pdu.specs.Sizes.{pdu_length}
@@ -30,14 +30,14 @@ module _ (key : List ℕ) (number : ℕ) (bytes output : List ℕ) where
 
 -- what putting the sealed PDU asks, and with the header that it reads
 pub ready : (number room fault : ℕ) (bytes : List ℕ) → fault ≡ seal_number number bytes room → fault ≡ 0
-    → (read_of bytes ≡ Pdu (header_of bytes)) × ((header_of bytes).payload_length ≤ 4088) × (sealed_length bytes ≤ room)
+    → (read_of bytes ≡ Ok (header_of bytes)) × ((header_of bytes).payload_length ≤ 4088) × (sealed_length bytes ≤ room)
 ready number room fault bytes e z =
     let s = sealable number room bytes (sym e ∙ z) in
     (s.read, omega (arith, s.short), s.fits)
 
 pub with_header : (bytes : List ℕ) (room : ℕ) (header : Header) → header ≡ header_of bytes
-    → (read_of bytes ≡ Pdu (header_of bytes)) × ((header_of bytes).payload_length ≤ 4088) × (sealed_length bytes ≤ room)
-    → (read_of bytes ≡ Pdu header) × (header.payload_length ≤ 4088) × (pdu_length header + 7 ≤ room)
+    → (read_of bytes ≡ Ok (header_of bytes)) × ((header_of bytes).payload_length ≤ 4088) × (sealed_length bytes ≤ room)
+    → (read_of bytes ≡ Ok header) × (header.payload_length ≤ 4088) × (pdu_length header + 7 ≤ room)
 with_header bytes room header is p = rw is (p.0, p.1, p.2)
 
 pub number_fits : (number room fault : ℕ) (bytes : List ℕ) → fault ≡ seal_number number bytes room → fault ≡ 0 → number < 2 ^ 32

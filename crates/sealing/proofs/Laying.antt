@@ -9,6 +9,7 @@ use lib.Dec.{eqb}
 use lib.ListN.{length, take, drop, length-append}
 use lib.Seq.{take_at, drop_at, take-add, take-take, length-take-le, take-append-le}
 use borrow.Rule.Slice.PartMut.{put_mid}
+use Rattle.std.specs.Prelude.{Ok}
 use Rattle.octets.specs.Numbers.{flag}
 use Rattle.octets.specs.Octets.{at, AllBytes, over, placed, place_after}
 use Rattle.octets.proofs.Placing.{Begins, more, length_over}
@@ -19,7 +20,6 @@ use Rattle.ctr.proofs.Streams.{length_added}
 use Rattle.sha1_digest.specs.Sha1.{sha1}
 use Rattle.sha1_digest.proofs.Feeding.{twenty}
 use Rattle.pdu.specs.declared.Header.{Header}
-use Rattle.pdu.specs.declared.Reading.TheVariants.{Pdu}
 use Rattle.pdu.specs.Header.{header_of, source_place, path_count_place}
 use Rattle.pdu.specs.Sizes.{destination_flag, path_entries, path_start, header_length, pdu_length}
 use Rattle.pdu.specs.Reading.{read_of}
@@ -107,7 +107,7 @@ pub record Laid (bytes output : List ℕ) (header : Header) (number place end : 
       → after ≡ take place before ++ (counter_mode key nonce (take (end - place) (drop place before)) ++ drop (end - place) (drop place before))
       → (end ≡ sealed_length bytes) × (after ≡ over (sealed_pdu key number bytes) output)
 
-module _ (bytes output : List ℕ) (header : Header) (small : AllBytes bytes) (read : read_of bytes ≡ Pdu header) (short : header.payload_length ≤ 4088)
+module _ (bytes output : List ℕ) (header : Header) (small : AllBytes bytes) (read : read_of bytes ≡ Ok header) (short : header.payload_length ≤ 4088)
     (room : pdu_length header + 7 ≤ length output) where
   abbrev path : List ℕ
   path = path_bytes (path_in header bytes)

@@ -1,10 +1,9 @@
 // Sealing a PDU.
 #![tactic(auto)]
 
-ghost use Rattle.std.specs.Prelude.{◌≡◌, ◌++◌, ◌+◌, ◌-◌, ◌≤◌, length, take, drop};
+ghost use Rattle.std.specs.Prelude.{◌≡◌, ◌++◌, ◌+◌, ◌-◌, ◌≤◌, length, take, drop, Ok};
 ghost use Rattle.octets.specs.Octets.{over};
 ghost use Rattle.ctr.specs.Ctr.{counter_mode};
-ghost use Rattle.pdu.specs.declared.Reading.TheVariants.{Pdu};
 ghost use Rattle.pdu.specs.Header.{header_of};
 ghost use Rattle.pdu.specs.Sizes.{header_length, pdu_length};
 ghost use Rattle.pdu.specs.Reading.{read_of};
@@ -14,42 +13,25 @@ ghost use Rattle.message.specs.Protection.{added_length};
 ghost use Rattle.message.specs.Sealable.{sealed_length};
 ghost use Rattle.sealing.specs.Sealing.{sealed_header, sealed_pdu, seal_written, seal_output};
 
+use message::Key;
 use pdu::{Header, Written};
 
-// The length of a payload with number and hash.
-fn longer(size: u16) -> u16
-    requires { size ≤ 4088 }
-    ensures { result ≡ size + added_length }
-{
-    size + 7
-}
-
+#[tactic(auto, unfolding(crate::specs::Sealing::sealed_header))]
 fn sealed_header(header: Header) -> Header
     requires { header.payload_length ≤ 4088 }
     ensures { result ≡ sealed_header header }
 {
-    let destination = header.destination;
     Header {
-        protocol: header.protocol,
         time_stamp_request: false,
-        path_bit: header.path_bit,
-        port: header.port,
         encrypted: true,
-        reserved: header.reserved,
-        ack: header.ack,
-        added_header: header.added_header,
-        hop_limit: header.hop_limit,
-        payload_length: longer(header.payload_length),
-        source: header.source,
-        destination,
-        pdu_id: header.pdu_id,
-        path_count: header.path_count,
+        payload_length: header.payload_length + Key::ADDED_LENGTH as u16,
+        ..header
     }
 }
 
 // Puts the header as it is sent and the path, and answers the place after them.
 fn put_head(output: &mut [u8], pdu: &[u8], header: Header) -> usize
-    requires { (read_of pdu.now ≡ Pdu header) × (header.payload_length ≤ 4088) × (pdu_length header + 7 ≤ length output.old) }
+    requires { (read_of pdu.now ≡ Ok header) × (header.payload_length ≤ 4088) × (pdu_length header + 7 ≤ length output.old) }
     ensures { (result ≡ header_length header)
         × (output.new ≡ over (header_bytes (sealed_header header) ++ path_bytes (path_in header pdu.now)) output.old) }
 {
@@ -88,7 +70,7 @@ pub fn seal(key: [u8; 16], number: u64, pdu: &[u8], output: &mut [u8]) -> Writte
 }
 
 fn put_sealed(key: [u8; 16], number: u32, pdu: &[u8], output: &mut [u8]) -> usize
-    requires { (read_of pdu.now ≡ Pdu (header_of pdu.now)) × ((header_of pdu.now).payload_length ≤ 4088)
+    requires { (read_of pdu.now ≡ Ok (header_of pdu.now)) × ((header_of pdu.now).payload_length ≤ 4088)
         × (sealed_length pdu.now ≤ length output.old) }
     ensures { (result ≡ sealed_length pdu.now)
         × (output.new ≡ over (sealed_pdu key number pdu.now) output.old) }

@@ -1,31 +1,11 @@
 // One block of SHA-1 (FIPS 180-4): the hash value after it.
 #![tactic(auto)]
 
-ghost use Rattle.std.specs.Prelude.{◌≡◌, ◌+◌, ◌*◌, ◌%◌, ◌^◌};
-ghost use Rattle.sha1_block.specs.Sha1Block.{rotl, mixing, constant, words, hash_step, summed, compressed};
-
-use std::num::wrapping_add_u32;
-
-// A word turned left by 1, by 5 and by 30 bits. FIPS 180-4, 2.2.2.
-fn rotl1(x: u32) -> u32
-    ensures { result ≡ rotl 1 x }
-{
-    (x << 1) | (x >> 31)
-}
-
-fn rotl5(x: u32) -> u32
-    ensures { result ≡ rotl 5 x }
-{
-    (x << 5) | (x >> 27)
-}
-
-fn rotl30(x: u32) -> u32
-    ensures { result ≡ rotl 30 x }
-{
-    (x << 30) | (x >> 2)
-}
+ghost use Rattle.std.specs.Prelude.{◌≡◌};
+ghost use Rattle.sha1_block.specs.Sha1Block.{mixing, constant, words, hash_step, summed, compressed};
 
 // The function of step `t`. FIPS 180-4, 4.1.1.
+#[tactic(auto, unfolding(crate::specs::Sha1Block::mixing))]
 fn mix(t: usize, x: u32, y: u32, z: u32) -> u32
     ensures { result ≡ mixing t x y z }
 {
@@ -42,6 +22,7 @@ fn mix(t: usize, x: u32, y: u32, z: u32) -> u32
 }
 
 // The constant of step `t`. FIPS 180-4, 4.2.1.
+#[tactic(auto, unfolding(crate::specs::Sha1Block::constant))]
 fn constant_of(t: usize) -> u32
     ensures { result ≡ constant t }
 {
@@ -55,13 +36,6 @@ fn constant_of(t: usize) -> u32
         return 0x8f1bbcdc;
     }
     0xca62c1d6
-}
-
-// The sum of five words.
-fn sum(a: u32, b: u32, c: u32, d: u32, e: u32) -> u32
-    ensures { result ≡ (a + b + c + d + e) % 2 ^ 32 }
-{
-    ((a as u64 + b as u64 + c as u64 + d as u64 + e as u64) % 4294967296) as u32
 }
 
 // The five variables of a step, or the five words of a hash value.
@@ -79,9 +53,14 @@ fn one_step(t: usize, w: u32, s: Five) -> Five
     ensures { result ≡ hash_step t w s }
 {
     Five {
-        a: sum(rotl5(s.a), mix(t, s.b, s.c, s.d), s.e, constant_of(t), w),
+        a: s.a
+            .rotate_left(5)
+            .wrapping_add(mix(t, s.b, s.c, s.d))
+            .wrapping_add(s.e)
+            .wrapping_add(constant_of(t))
+            .wrapping_add(w),
         b: s.a,
-        c: rotl30(s.b),
+        c: s.b.rotate_left(30),
         d: s.c,
         e: s.d,
     }
@@ -92,18 +71,12 @@ fn add_all(h: Five, s: Five) -> Five
     ensures { result ≡ summed h s }
 {
     Five {
-        a: wrapping_add_u32(s.a, h.a),
-        b: wrapping_add_u32(s.b, h.b),
-        c: wrapping_add_u32(s.c, h.c),
-        d: wrapping_add_u32(s.d, h.d),
-        e: wrapping_add_u32(s.e, h.e),
+        a: s.a.wrapping_add(h.a),
+        b: s.b.wrapping_add(h.b),
+        c: s.c.wrapping_add(h.c),
+        d: s.d.wrapping_add(h.d),
+        e: s.e.wrapping_add(h.e),
     }
-}
-
-fn word(a: u8, b: u8, c: u8, d: u8) -> u32
-    ensures { result ≡ a * 2 ^ 24 + b * 2 ^ 16 + c * 2 ^ 8 + d }
-{
-    a as u32 * 16777216 + b as u32 * 65536 + c as u32 * 256 + d as u32
 }
 
 // The sixteen words of a block. FIPS 180-4, 5.2.1.
@@ -111,11 +84,9 @@ fn words_of(block: [u8; 64]) -> [u32; 16]
     ensures { result ≡ words block 16 }
 {
     let mut w = [0u32; 16];
-    let mut t: usize = 0;
-    while t < 16 {
+    for t in 0..16 {
         let at = 4 * t;
-        w[t] = word(block[at], block[at + 1], block[at + 2], block[at + 3]);
-        t += 1;
+        w[t] = u32::from_be_bytes([block[at], block[at + 1], block[at + 2], block[at + 3]]);
     }
     w
 }
@@ -126,13 +97,11 @@ pub fn compress(h: Five, block: [u8; 64]) -> Five
 {
     let mut w = words_of(block);
     let mut s = h;
-    let mut t: usize = 0;
-    while t < 80 {
+    for t in 0..80 {
         let place = t % 16;
         let next = one_step(t, w[place], s);
         s = next;
-        w[place] = rotl1(w[(t + 13) % 16] ^ w[(t + 8) % 16] ^ w[(t + 2) % 16] ^ w[place]);
-        t += 1;
+        w[place] = (w[(t + 13) % 16] ^ w[(t + 8) % 16] ^ w[(t + 2) % 16] ^ w[place]).rotate_left(1);
     }
     add_all(h, s)
 }

@@ -2,7 +2,9 @@
 -- Assumes nothing.
 use Rattle.std.proofs.Common.{◌≡◌, ℕ, zero, suc, ◌+◌, ◌-◌, ◌*◌, ◌/◌, ◌%◌, ◌^◌, ◌<◌, ◌≤◌, cond, eqb, ◌≢◌, List, [], ◌∷◌, ◌++◌, length, take, drop, set, replicate, sym, refl, ap, ◌∙◌, subst, ap₂, append-nil, le_of_suc-le-suc, not-suc-le-zero, add-one, arith, length-append, length-drop, length-set, drop_of_length-le, take_all, take-suc, take-suc-set, eq-eqb, ne_eqb}
 use mathlib.Core.Logic.{by_cases}
+use native.Mathlib.Nat.{div-div-eq-div-mul}
 use native.Mathlib.Decide.{dec_lt}
+use Rattle.std.specs.Int.{w64, to_be_bytes}
 use lib.Seq.{append_snoc, take-append-le, drop-append-le}
 use Rattle.octets.specs.Octets.{at}
 use Rattle.sha1_block.specs.declared.Five.{Five}
@@ -27,16 +29,21 @@ full place x y e p = p ∙ sym (simp (eq-eqb place 63 e))
 pub not_full : (place : ℕ) (x y : Five) {h : Five} → place ≢ 63 → h ≡ y → h ≡ cond (eqb place 63) x y
 not_full place x y e p = p ∙ sym (simp (ne_eqb place 63 e))
 
--- one byte more of a part
+-- one byte more of a part, which is in its block, and counted last
 pub fed_more :
-    (start : Running) (part : List ℕ) (i : ℕ) {h h' : Five} {block : List ℕ} {t t' : ℕ} → i < length part
-    → ◌≡◌ {A = Running} (record { hash = h; block = block; total = t }) (fed start (take i part))
-    → h' ≡ cond (eqb (t % 64) 63) (compressed h (set block (t % 64) (at part i))) h → t' ≡ (t + 1) % 2 ^ 64
-    → ◌≡◌ {A = Running} (record { hash = h'; block = set block (t % 64) (at part i); total = t' }) (fed start (take (i + 1) part))
+    (start : Running) (part : List ℕ) (i : ℕ) {r s : Running} → i < length part → (length r.block ≡ 64) × (r ≡ fed start (take i part))
+    → let place = r.total % 64 in
+    let block = set r.block place (at part i) in
+    ◌≡◌ {A = Running} s (record { hash = cond (eqb place 63) (compressed r.hash block) r.hash; block = block; total = r.total })
+    → (length s.block ≡ 64)
+    × (◌≡◌ {A = Running} (record { hash = s.hash; block = s.block; total = (s.total + 1) % 2 ^ 64 }) (fed start (take (i + 1) part)))
 unfolding fed fed_byte
-fed_more start part i {h} {h'} {block} {t} {t'} l p q r =
-    running q refl r ∙ ap (λ (x : Running). fed_byte x (at part i)) p ∙ fed_append start (take i part) (at part i ∷ [])
-    ∙ ap (fed start) (sym (ap (λ (n : ℕ). take n part) (add-one i) ∙ take-suc part i 0 l))
+fed_more start part i {r} {s} l p q = (
+  ap (λ (x : Running). length x.block) q ∙ length-set r.block (r.total % 64) (at part i) ∙ p.0,
+  ap (λ (x : Running). let y : Running = record { hash = x.hash; block = x.block; total = (x.total + 1) % 2 ^ 64 } in y) q
+      ∙ ap (λ (x : Running). fed_byte x (at part i)) p.1 ∙ fed_append start (take i part) (at part i ∷ [])
+      ∙ ap (fed start) (sym (ap (λ (n : ℕ). take n part) (add-one i) ∙ take-suc part i 0 l)),
+)
 
 pub fed_all :
     (start : Running) (part : List ℕ) (i : ℕ) {r : Running} → length part ≤ i → r ≡ fed start (take i part) → r ≡ fed start part
@@ -177,3 +184,7 @@ finished_by r {s} {all} {first} {last} p q u v =
     let e : all ≡ fed r ((0x80 ∷ replicate (zeros r.total) 0) ++ eight_bytes (8 * r.total % 2 ^ 64)) =
     v ∙ ap₂ fed (u ∙ ap (fed r) p) q ∙ fed_append r (0x80 ∷ replicate (zeros r.total) 0) (eight_bytes (8 * r.total % 2 ^ 64)) in
     ap (λ (x : Running). x.hash) e
+
+-- the eight bytes of a number, as the library has them
+pub eight_are : (x : ℕ) → to_be_bytes w64 x ≡ eight_bytes x
+eight_are x = simp div-div-eq-div-mul

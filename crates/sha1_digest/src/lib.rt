@@ -2,10 +2,9 @@
 #![tactic(auto)]
 
 ghost use Rattle.std.specs.Prelude.{◌≡◌, ◌*◌, ◌%◌, ◌^◌};
-ghost use Rattle.sha1_digest.specs.Sha1.{eight_bytes, hash_begun, fed, final_hash};
+ghost use Rattle.sha1_digest.specs.Sha1.{hash_begun, fed, final_hash};
 
 use sha1_block::Five;
-use std::num::wrapping_add_u64;
 
 // A message that comes part by part: the hash value of its full blocks, the block that is being filled, and how many bytes came, modulo 2^64.
 #[derive(Clone, Copy)]
@@ -33,52 +32,26 @@ pub fn begin() -> Running
 }
 
 // A part of the message more. FIPS 180-4, 5.2.1 and 6.1.2.
-pub fn feed(running: Running, part: &[u8]) -> Running
+pub fn feed(mut running: Running, part: &[u8]) -> Running
     ensures { result ≡ fed running part.now }
 {
-    let mut hash = running.hash;
-    let mut block = running.block;
-    let mut total = running.total;
-    let mut i: usize = 0;
-    while i < part.len() {
-        let place = (total % 64) as usize;
-        block[place] = part[i];
+    for byte in part {
+        let place = (running.total % 64) as usize;
+        running.block[place] = *byte;
         if place == 63 {
-            let next = sha1_block::compress(hash, block);
-            hash = next;
+            let next = sha1_block::compress(running.hash, running.block);
+            running.hash = next;
         }
-        total = wrapping_add_u64(total, 1);
-        i += 1;
+        running.total = running.total.wrapping_add(1);
     }
-    Running {
-        hash: hash,
-        block: block,
-        total: total,
-    }
-}
-
-// The eight bytes of a number, the most significant first.
-fn eight_bytes(x: u64) -> [u8; 8]
-    ensures { result ≡ eight_bytes x }
-{
-    let high = x / 4294967296;
-    [
-        (high / 16777216 % 256) as u8,
-        (high / 65536 % 256) as u8,
-        (high / 256 % 256) as u8,
-        (high % 256) as u8,
-        (x / 16777216 % 256) as u8,
-        (x / 65536 % 256) as u8,
-        (x / 256 % 256) as u8,
-        (x % 256) as u8,
-    ]
+    running
 }
 
 // The length in bits of a message of `n` bytes, as a number of 64 bits. FIPS 180-4, 5.1.1.
 fn bits(n: u64) -> u64
     ensures { result ≡ 8 * n % 2 ^ 64 }
 {
-    n % 2305843009213693952 * 8
+    n.wrapping_mul(8)
 }
 
 // The hash value of the bytes that came, whose five words are their digest: the padding is fed too. FIPS 180-4, 5.1.1 and 6.1.2.
@@ -89,7 +62,7 @@ pub fn finish(running: Running) -> Five
     let zeros = ((119 - n % 64) % 64) as usize;
     let mut marker = [0u8; 64];
     marker[0] = 0x80;
-    let marked = feed(running, &marker[0..1 + zeros]);
-    let length = eight_bytes(bits(n));
+    let marked = feed(running, &marker[..1 + zeros]);
+    let length = bits(n).to_be_bytes();
     feed(marked, &length).hash
 }

@@ -8,7 +8,9 @@ use lib.Dec.{eqb, leb}
 use lib.ListN.{length, get_or, take, drop, set, length-append, length-drop}
 use lib.Seq.{get_or-drop, drop-cons, length-take-le}
 use lib.ListN.{drop_of_length-le}
-use borrow.Author.Tests.{ltb-true, leb-false, lt-ltb, le-ltb, le-leb, lt-leb, eq-eqb, ne_eqb}
+use Rattle.std.proofs.Common.{Option, Some, None, is_some}
+use Rattle.std.specs.Option.{unwrap_or}
+use borrow.Author.Tests.{ltb-true, ltb-false, leb-false, lt-ltb, le-ltb, le-leb, lt-leb, eq-eqb, ne_eqb}
 use Rattle.octets.specs.Numbers.{◌gives◌}
 use Rattle.octets.specs.Octets.{at}
 use Rattle.sources.specs.Sources.{Accepted, source_limit, entries_from, record_in, place_of, is_held, last_number}
@@ -68,10 +70,6 @@ module _ (source : ℕ) (held : List Accepted) (place : ℕ) where
       let one : place + 1 ≡ suc place = omega arith in
       rw (drop-cons held place none inside, ne_eqb _ _ e, one) (omega arith)
 
-  pub nowhere : (end : ℕ) → end ≡ place → length held ≤ place → place + place_of source (drop place held) ≡ end
-  unfolding place_of
-  nowhere end e h = rw (drop_of_length-le held h) (omega arith)
-
 pub place_within : (source : ℕ) (held : List Accepted) → place_of source held ≤ length held
 unfolding place_of
 place_within source [] = omega arith
@@ -80,6 +78,57 @@ place_within source (entry ∷ later) = go (eqb entry.source source) (place_with
     go : (test : Bool) → place_of source later ≤ length later → cond test 0 (suc (place_of source later)) ≤ suc (length later)
     go true h = omega arith
     go false h = omega arith
+
+-- a source is found at its place, if at all
+module _ (source : ℕ) (memory : List ℕ) where
+  abbrev pub sought : Option ℕ
+  sought = cond (is_held source (record_in memory)) (Some (place_of source (record_in memory))) None
+
+  pub found_here : (place : ℕ) → place_of source (record_in memory) ≡ place → place < length (record_in memory) → Some place ≡ sought
+  found_here place is h = rw (is, lt-ltb place (length (record_in memory)) h)
+
+  pub stands : (place : ℕ) → Some place ≡ sought → (place ≡ place_of source (record_in memory)) × (place < length (record_in memory))
+  stands place = go (is_held source (record_in memory)) refl
+    where
+      go : (held : Bool) → is_held source (record_in memory) ≡ held → Some place ≡ cond held (Some (place_of source (record_in memory))) None
+          → (place ≡ place_of source (record_in memory)) × (place < length (record_in memory))
+      go true is e =
+          let same : place ≡ place_of source (record_in memory) = cc in
+          (same, omega (arith, same, ltb-true (place_of source (record_in memory)) (length (record_in memory)) is))
+      go false is e = cc
+
+  pub is_new : None ≡ sought → length (record_in memory) ≤ place_of source (record_in memory)
+  is_new = go (is_held source (record_in memory)) refl
+    where
+      go : (held : Bool) → is_held source (record_in memory) ≡ held → None ≡ cond held (Some (place_of source (record_in memory))) None
+          → length (record_in memory) ≤ place_of source (record_in memory)
+      go true is e = cc
+      go false is e = ltb-false (place_of source (record_in memory)) (length (record_in memory)) is
+
+  module _ (answer : Option ℕ) (is : answer ≡ sought) where
+    held_so : is_some answer ≡ is_held source (record_in memory)
+    held_so = ap is_some is ∙ go (is_held source (record_in memory))
+      where
+        go : (held : Bool) → is_some (cond held (Some (place_of source (record_in memory))) None) ≡ held
+        go true = refl
+        go false = refl
+
+    pub inside : is_some answer ≡ true → place_of source (record_in memory) < length (record_in memory)
+    inside e = ltb-true (place_of source (record_in memory)) (length (record_in memory)) (sym held_so ∙ e)
+
+    pub outside : is_some answer ≡ false → length (record_in memory) ≤ place_of source (record_in memory)
+    outside e = ltb-false (place_of source (record_in memory)) (length (record_in memory)) (sym held_so ∙ e)
+
+    -- the place of a new source is behind the last
+    pub place_or : (end : ℕ) {place : ℕ} → end ≡ length (record_in memory) → place ≡ unwrap_or answer end → place ≡ place_of source (record_in memory)
+    place_or end {place} e p = go answer refl
+      where
+        go : (found : Option ℕ) → answer ≡ found → place ≡ place_of source (record_in memory)
+        go (Some n) f = p ∙ ap (λ (o : Option ℕ). unwrap_or o end) f ∙ (stands n (sym f ∙ is)).0
+        go None f =
+            let least = place_within source (record_in memory) in
+            let last = is_new (sym f ∙ is) in
+            omega (arith, p ∙ ap (λ (o : Option ℕ). unwrap_or o end) f)
 
 -- what the record answers, by the place that was found
 module _ (source : ℕ) (memory : List ℕ) (place : ℕ) (is : place ≡ place_of source (record_in memory)) where

@@ -112,24 +112,18 @@ module _ (source place : ℕ) (memory : List ℕ) where
   kept_none long = record { long = long; counted = refl; is = laid_none memory (omega arith) }
 
   module _ {count : ℕ} {after : List ℕ} (kept : Kept source place memory count after) where
-    few : (count ≤ place) × (count ≤ length (record_in memory))
+    few : count ≤ place
     few =
         let most = no_more source (take place (record_in memory)) in
         let looked = length-take place (record_in memory) in
-        (omega (arith, kept.counted), omega (arith, kept.counted))
-
-    pub kept_64 : count ≤ 64
-    kept_64 = omega (arith, few.1, length_record memory)
+        omega (arith, kept.counted)
 
   module _ {count : ℕ} {after : List ℕ} (kept : Kept source place memory count after) (inside : place < length (record_in memory)) where
     fewer : count ≤ place
-    fewer = (few kept).0
+    fewer = few kept
 
     word_at : (k : ℕ) → 2 * place < k → at after k ≡ at memory k
     word_at k l = ap (λ (m : List ℕ). at m k) kept.is ∙ laid_behind before memory place k (omega (arith, kept.counted, fewer)) l
-
-    pub kept_room : (count ≤ place) × (place < 64)
-    kept_room = (fewer, omega (arith, length_record memory))
 
     next_before : without_source source (take (place + 1) (record_in memory))
         ≡ before ++ cond (eqb (at after (2 * place + 1)) source) [] (get_or (record_in memory) place none ∷ [])

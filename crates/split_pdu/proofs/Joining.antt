@@ -1,17 +1,21 @@
 -- Header and payload joined, read without being put together: the header's fields stand in the first 10 bytes.
 use Prim.Native.Nat.{ℕ, ◌+◌, ◌/◌, ◌%◌, ◌<◌}
+use native.Mathlib.Omega.{arith}
 use mathlib.Core.Bool.{true, false, not}
 use mathlib.Core.List.{List, ◌++◌}
-use mathlib.Core.Path.{◌≡◌, sym, ◌∙◌}
+use mathlib.Core.Path.{◌≡◌, refl, sym, ◌∙◌}
 use lib.ListN.{length, length-append, get_or-append}
 use lib.Seq.{get_or-append-add}
 use borrow.Author.Tests.{eq-eqb, ne_eqb}
+use Rattle.std.specs.Prelude.{Ok, Err}
 use Rattle.octets.specs.Numbers.{◌gives◌}
 use Rattle.octets.specs.Octets.{at}
 use Rattle.octets.proofs.Numbering.{or_else_first, or_else_later, gives_last, gives_none}
 use Rattle.pdu.specs.Header.{path_bit, path_count_place, path_count_in, header_of}
 use Rattle.pdu.specs.Sizes.{header_length, pdu_length}
-use Rattle.pdu.specs.Reading.{read_of, reading_number}
+use Rattle.pdu.specs.declared.Refusal.{Refusal}
+use Rattle.pdu.specs.Reading.{read_of, refusal_number}
+use Rattle.pdu.proofs.Number.{refusal_within}
 use Rattle.split_pdu.specs.SplitPdu.{is_split, joined_number}
 
 module _ (header payload : List ℕ) where
@@ -33,15 +37,16 @@ module _ (bytes : List ℕ) (byte0 : ℕ) (b : byte0 ≡ at bytes 0) where
 
 -- then 63
 module _ (header payload : List ℕ) where
-  pub joined_refused : (number : ℕ) → number ≡ reading_number (read_of (header ++ payload)) → (number ≡ 0 → ⊥) → number ≡ joined_number header payload
+  pub joined_refused : (refusal : Refusal) → read_of (header ++ payload) ≡ Err refusal → refusal_number refusal ≡ joined_number header payload
   unfolding joined_number
-  joined_refused number e n = rw (← e) (sym (or_else_first number (not (is_split header payload) gives 63) n))
+  joined_refused refusal read =
+      rw read (sym (or_else_first (refusal_number refusal) (not (is_split header payload) gives 63) (λ none. omega (arith, (refusal_within refusal).0))))
 
-  module _ (number head all : ℕ) (e : number ≡ reading_number (read_of (header ++ payload))) (z : number ≡ 0)
+  module _ (head all : ℕ) (read : read_of (header ++ payload) ≡ Ok (header_of (header ++ payload)))
       (l : head ≡ header_length (header_of (header ++ payload))) (m : all ≡ pdu_length (header_of (header ++ payload))) where
     after_reading : joined_number header payload ≡ (not (is_split header payload) gives 63)
     unfolding joined_number
-    after_reading = rw (← e) (or_else_later number (not (is_split header payload) gives 63) z)
+    after_reading = rw read (or_else_later 0 (not (is_split header payload) gives 63) refl)
 
     pub split_elsewhere : (head ≡ length header → ⊥) → 63 ≡ joined_number header payload
     split_elsewhere n =

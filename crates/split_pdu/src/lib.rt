@@ -38,9 +38,8 @@ pub fn joined_number(header: &[u8], payload: &[u8]) -> u8
 {
     let total = header.len() + payload.len();
     let byte0 = joined_byte(header, payload, 0);
-    let start = fields::start_fault(total, byte0);
-    if start != 0 {
-        return start;
+    if let Err(refusal) = fields::start_fault(total, byte0) {
+        return refusal.number();
     }
     let path_count = joined_count(header, payload, byte0);
     let payload_length = fields::payload_length(
@@ -49,9 +48,8 @@ pub fn joined_number(header: &[u8], payload: &[u8]) -> u8
     );
     let header_length = fields::header_length_in(byte0, path_count);
     let pdu_length = header_length + octets::word_value(payload_length);
-    let end = fields::end_fault(total, header_length, pdu_length);
-    if end != 0 {
-        return end;
+    if let Err(refusal) = fields::end_fault(total, header_length, pdu_length) {
+        return refusal.number();
     }
     if header_length != header.len() {
         return 63;

@@ -1,13 +1,12 @@
 -- The place of an address, step by step.
 use Prim.Native.Nat.{ℕ, zero, suc, ◌+◌, ◌-◌, ◌*◌, ◌/◌, ◌^◌, ◌≤◌, ◌<◌}
-use native.Mathlib.Nat.{pow-suc}
 use native.Mathlib.Omega.{arith}
 use mathlib.Core.Bool.{Bool, true, false, cond, ◌&&◌}
-use mathlib.Core.List.{List}
-use mathlib.Core.Path.{◌≡◌, refl, ap, ◌∙◌}
+use mathlib.Core.List.{List, [], ◌∷◌}
+use mathlib.Core.Path.{◌≡◌, refl, ap, sym, ◌∙◌}
 use lib.Dec.{leb, ltb, eqb}
-use lib.ListN.{length}
-use lib.Pow.{pow_pos, pow_mono}
+use lib.ListN.{length, get_or}
+use lib.Pow.{pow_pos}
 use borrow.Author.Tests.{le-leb, lt-leb, lt-ltb, le-ltb, leb-true}
 use Rattle.octets.specs.Octets.{at}
 use Rattle.stations.specs.declared.Station.{Station}
@@ -15,38 +14,29 @@ use Rattle.stations.specs.Table.{table_in, addresses, next_place, searched, plac
 use Rattle.stations.proofs.Memory.{table_address, length_addresses}
 
 -- what is left of the steps, two by two
-pub step_size : (left step : ℕ) → 0 < left → left ≤ 3 → step ≡ 2 ^ (2 * left) → (1 < step) × (step ≤ 64) × (step / 4 ≡ 2 ^ (2 * (left - 1)))
-step_size zero step h l e = absurd (omega arith)
-step_size (suc left) step h l e =
-    let twice : 2 * suc left ≡ suc (suc (2 * left)) = omega arith in
-    let same : 2 * (suc left - 1) ≡ 2 * left = omega arith in
-    let first : 2 ^ suc (suc (2 * left)) ≡ 2 ^ suc (2 * left) * 2 = pow-suc 2 (suc (2 * left)) in
-    let second : 2 ^ suc (2 * left) ≡ 2 ^ (2 * left) * 2 = pow-suc 2 (2 * left) in
-    let size : step ≡ 2 ^ suc (suc (2 * left)) = e ∙ ap (λ (n : ℕ). 2 ^ n) twice in
-    let few = pow_mono {i = 2 * left} {j = 4} (omega arith) in (
-      omega (arith, size, first, second, pow_pos (2 * left)),
-      omega (arith, size, first, second, few),
-      rw same (omega (arith, size, first, second)),
-    )
+-- the three longer steps, each with its half
+abbrev pub steps : List ℕ
+steps = 64 ∷ 16 ∷ 4 ∷ []
 
-pub searched_two : (left address : ℕ) (known : List ℕ) (place step : ℕ) → 0 < left → step ≡ 2 ^ (2 * left)
-    → searched (2 * left + 1) address known place
-    ≡ searched (2 * (left - 1) + 1) address known (next_place address known (next_place address known place step) (step / 2))
-unfolding searched
-searched_two zero address known place step h e = absurd (omega arith)
-searched_two (suc left) address known place step h e =
-    let more : 2 * suc left + 1 ≡ suc (suc (2 * left + 1)) = omega arith in
-    let less : 2 * (suc left - 1) + 1 ≡ 2 * left + 1 = omega arith in
-    let twice : 2 * suc left ≡ suc (2 * left + 1) = omega arith in
-    let size : step ≡ 2 ^ suc (2 * left + 1) = e ∙ ap (λ (n : ℕ). 2 ^ n) twice in
-    let half : step / 2 ≡ 2 ^ (2 * left + 1) = omega (arith, size, pow-suc 2 (2 * left + 1)) in
-    rw (more, less, half, size) refl
+pub step_size : (i : ℕ) → i < 3 → (1 < get_or steps i 0) × (get_or steps i 0 ≤ 64)
+step_size zero h = (omega arith, omega arith)
+step_size (suc zero) h = (omega arith, omega arith)
+step_size (suc (suc zero)) h = (omega arith, omega arith)
+step_size (suc (suc (suc i))) h = absurd (omega arith)
 
-pub searched_last : (left address : ℕ) (known : List ℕ) (place : ℕ) → left ≡ 0
-    → searched (2 * left + 1) address known place ≡ next_place address known place 1
+pub searched_two : (i address : ℕ) (known : List ℕ) (place : ℕ) → i < 3
+    → searched (7 - 2 * i) address known place
+    ≡ searched (7 - 2 * (i + 1)) address known (next_place address known (next_place address known place (get_or steps i 0)) (get_or steps i 0 / 2))
 unfolding searched
-searched_last zero address known place e = refl
-searched_last (suc left) address known place e = absurd (omega arith)
+searched_two zero address known place h = refl
+searched_two (suc zero) address known place h = refl
+searched_two (suc (suc zero)) address known place h = refl
+searched_two (suc (suc (suc i))) address known place h = absurd (omega arith)
+
+pub searched_last : (i address : ℕ) (known : List ℕ) (place : ℕ) → i ≡ 3
+    → searched (7 - 2 * i) address known place ≡ next_place address known place 1
+unfolding searched
+searched_last i address known place e = rw e refl
 
 -- a place is one of the known addresses', or the one after the last
 pub next_inside : (address : ℕ) (known : List ℕ) (place step : ℕ) → place ≤ length known → next_place address known place step ≤ length known
@@ -129,28 +119,10 @@ module _ (memory : List ℕ) (address place step : ℕ) where
       let not_lower : address ≤ at (addresses (table_in memory)) (place + step - 1) = rw (looked_at p h) l in
       simp (le-leb _ _ fits, le-ltb _ _ not_lower)
 
-  pub next_so : 0 < step → place + step ≤ length (table_in memory)
-      → next_place address (addresses (table_in memory)) place step ≡ cond (ltb (at memory (4 * (place + step) - 3)) address) (place + step) place
-  unfolding next_place
-  next_so p h =
-      let fits : place + step ≤ length (addresses (table_in memory)) = omega (arith, length_addresses (table_in memory)) in
-      simp (le-leb _ _ fits, looked_at p h)
-
--- two steps, by the three words that are looked at
-module _ (memory : List ℕ) (address place step half near middle far : ℕ) (p : 0 < step) (q : 0 < half) (n : near ≡ place + half) (m : middle ≡ place + step)
-    (f : far ≡ middle + half) (h : far ≤ length (table_in memory)) where
-  first_so : next_place address (addresses (table_in memory)) place step ≡ cond (ltb (at memory (4 * middle - 3)) address) middle place
-  first_so = rw m (next_so memory address place step p (omega arith))
-
-  second_so : (over : Bool) → next_place address (addresses (table_in memory)) (cond over middle place) half
-      ≡ cond over (cond (ltb (at memory (4 * far - 3)) address) far middle) (cond (ltb (at memory (4 * near - 3)) address) near place)
-  second_so true = rw f (next_so memory address middle half q (omega arith))
-  second_so false = rw n (next_so memory address place half q (omega arith))
-
-  pub two_so : next_place address (addresses (table_in memory)) (next_place address (addresses (table_in memory)) place step) half
-      ≡ cond (ltb (at memory (4 * middle - 3)) address) (cond (ltb (at memory (4 * far - 3)) address) far middle)
-      (cond (ltb (at memory (4 * near - 3)) address) near place)
-  two_so = rw first_so (second_so (ltb (at memory (4 * middle - 3)) address))
+-- two steps, each by what it comes to
+pub two_so : (address : ℕ) (known : List ℕ) (place step half middle last : ℕ) → next_place address known place step ≡ middle
+    → next_place address known middle half ≡ last → last ≡ next_place address known (next_place address known place step) half
+two_so address known place step half middle last first second = rw first (sym second)
 
 -- whether an address stands at a place, by the word that is looked at
 module _ (memory : List ℕ) (address place : ℕ) where

@@ -1,13 +1,12 @@
 -- Document 02, W-201: asking for a station by its address, and by its place in the rising order; number 56.
-use Rattle.std.specs.Prelude.{ℕ, Bool, cond, List, ltb, length}
+use Rattle.std.specs.Prelude.{ℕ, Bool, cond, List, ltb, length, Result, Ok, Err}
 use Rattle.stations.specs.declared.Station.{Station}
 use Rattle.stations.specs.declared.Found.{Found}
-use Rattle.stations.specs.declared.FoundPlace.{FoundPlace}
 use Rattle.stations.specs.Table.{addresses, new_station, station_at, place_of, is_held}
 
--- where an address stands, and whether it is held
-abbrev pub found_place : ℕ → List ℕ → FoundPlace
-found_place address known = record { place = place_of address known; is_held = is_held address known }
+-- where an address stands, or where it would stand
+abbrev pub found_place : ℕ → List ℕ → Result ℕ ℕ
+found_place address known = cond (is_held address known) (Ok (place_of address known)) (Err (place_of address known))
 
 -- the station at a place, if it is to be shown; else 56
 abbrev pub found_if : Bool → List Station → ℕ → Found

@@ -1,8 +1,7 @@
 // The stations that a box has heard: a table in memory that the caller lends, asked by address and by place.
 #![tactic(auto)]
 
-ghost use Rattle.std.specs.Prelude.{◌≡◌, false, cond, [], ◌+◌, ◌-◌, ◌*◌, ◌/◌, ◌<◌, ◌≤◌, length, drop};
-ghost use Rattle.octets.specs.Octets.{at};
+ghost use Rattle.std.specs.Prelude.{◌≡◌, false, [], ◌+◌, ◌*◌, ◌/◌, ◌<◌, ◌≤◌, length, drop};
 ghost use Rattle.stations.specs.Table.{memory_length, table_in, station_from, addresses, next_place, place_of, is_at};
 ghost use Rattle.stations.specs.Asking.{found_place, found_if, station_of, found_at};
 
@@ -16,8 +15,9 @@ impl Station {
 
 // A source address that was heard: how many PDUs were read from it, how many of those were dropped by echo, and the least path count of those that
 // have the path bit. `has_path` is false, and the path count 0, while there was none.
+// Kept: C's struct, so the flag stands beside its value.
 #[repr(C)]
-#[derive(Clone, Copy)]
+#[derive(Clone, Copy, Default)]
 pub struct Station {
     pub address: u16,
     pub reads: u16,
@@ -27,6 +27,7 @@ pub struct Station {
 }
 
 // The number 0 and a station, or 56 and a station that is all 0.
+// Kept: C gets this struct by value, and `found_if` of specs/Asking.antt makes it.
 #[repr(C)]
 #[derive(Clone, Copy)]
 pub struct Found {
@@ -34,30 +35,11 @@ pub struct Found {
     pub station: Station,
 }
 
-// Where an address stands in the rising order, or would stand, and whether it is held.
-#[derive(Clone, Copy)]
-pub struct FoundPlace {
-    pub place: usize,
-    pub is_held: bool,
-}
-
-fn first_word(table: &[u16]) -> u16
-    requires { 0 < length table.now }
-    ensures { result ≡ at table.now 0 }
-{
-    table[0]
-}
-
 // How many stations are held; a memory that says more than 128 is a full table, and it is as long as is said of one. Document 02, W-201.
 pub fn held(table: &[u16; Station::MEMORY]) -> usize
     ensures { (result ≡ length (table_in table.now)) × (result ≤ 128) × (length table.now ≡ memory_length) }
 {
-    let first = octets::word_value(first_word(table));
-    if first < Station::LIMIT {
-        first
-    } else {
-        Station::LIMIT
-    }
+    usize::from(table[0]).min(Station::LIMIT)
 }
 
 fn next_place(
@@ -71,21 +53,15 @@ fn next_place(
     ensures { (result ≡ next_place address (addresses (table_in table.now)) place step) × (result ≤ end) }
 {
     let next = place + step;
-    if next <= end {
-        if table[4 * next - 3] < address {
-            return next;
-        }
+    if next <= end && table[4 * next - 3] < address {
+        next
+    } else {
+        place
     }
-    place
-}
-
-fn either(test: bool, first: usize, second: usize) -> usize
-    ensures { result ≡ cond test first second }
-{
-    if test { first } else { second }
 }
 
 // Two steps, the second half as long. Both addresses that the second may look at are read with the first's, so that it does not wait for the first.
+// Each choice is a value of its own, and so a move: as `if` in `if` they would be branches, and a search would take nearly twice as long.
 fn next_two(
     table: &[u16; Station::MEMORY],
     address: u16,
@@ -105,16 +81,15 @@ fn next_two(
         let over_near = table[4 * near - 3] < address;
         let over_middle = table[4 * middle - 3] < address;
         let over_far = table[4 * far - 3] < address;
-        return either(
-            over_middle,
-            either(over_far, far, middle),
-            either(over_near, near, place),
-        );
+        let behind = if over_far { far } else { middle };
+        let before = if over_near { near } else { place };
+        return if over_middle { behind } else { before };
     }
     let next = next_place(table, address, end, place, step);
     next_place(table, address, end, next, half)
 }
 
+// Kept: std's `binary_search` promises nothing where the addresses do not rise, and `place_of` of specs/Table.antt says what the steps find there too.
 fn place_of(table: &[u16; Station::MEMORY], address: u16) -> usize
     ensures { result ≡ place_of address (addresses (table_in table.now)) }
 {
@@ -123,12 +98,8 @@ fn place_of(table: &[u16; Station::MEMORY], address: u16) -> usize
         return 128;
     }
     let mut place: usize = 0;
-    let mut step: usize = 64;
-    let mut left: usize = 3;
-    while left > 0 {
+    for step in [64, 16, 4] {
         place = next_two(table, address, end, place, step);
-        step /= 4;
-        left -= 1;
     }
     next_place(table, address, end, place, 1)
 }
@@ -136,21 +107,18 @@ fn place_of(table: &[u16; Station::MEMORY], address: u16) -> usize
 fn is_at(table: &[u16; Station::MEMORY], address: u16, place: usize) -> bool
     ensures { result ≡ is_at address (addresses (table_in table.now)) place }
 {
-    if place < held(table) {
-        table[4 * place + 1] == address
-    } else {
-        false
-    }
+    place < held(table) && table[4 * place + 1] == address
 }
 
-// The place of an address, found in eight halved steps. Document 02, W-201: listing by rising address.
-pub fn find_place(table: &[u16; Station::MEMORY], address: u16) -> FoundPlace
+// The place of an address, or the place where it would stand, found in eight halved steps. Document 02, W-201: listing by rising address.
+pub fn find_place(table: &[u16; Station::MEMORY], address: u16) -> Result<usize, usize>
     ensures { result ≡ found_place address (addresses (table_in table.now)) }
 {
     let place = place_of(table, address);
-    FoundPlace {
-        place,
-        is_held: is_at(table, address, place),
+    if is_at(table, address, place) {
+        Ok(place)
+    } else {
+        Err(place)
     }
 }
 
@@ -165,29 +133,16 @@ fn station_from(table: &[u16; Station::MEMORY], place: usize) -> Station
         reads: table[first + 1],
         echoes: table[first + 2],
         has_path: path != 0,
-        shortest_path: one_less(path),
+        shortest_path: path.saturating_sub(1),
     }
-}
-
-fn one_less(word: u16) -> u16
-    ensures { (result ≡ word - 1) × (result < 65535) }
-{
-    if word == 0 { 0 } else { word - 1 }
 }
 
 fn refused() -> Found
     ensures { result ≡ found_if false [] 0 }
 {
-    let station = Station {
-        address: 0,
-        reads: 0,
-        echoes: 0,
-        has_path: false,
-        shortest_path: 0,
-    };
     Found {
         number: 56,
-        station,
+        station: Station::default(),
     }
 }
 
@@ -195,22 +150,21 @@ fn refused() -> Found
 pub fn station_at(table: &[u16; Station::MEMORY], place: usize) -> Found
     ensures { (result ≡ found_at place (table_in table.now)) × (result.station.shortest_path < 65535) }
 {
-    if place < held(table) {
-        return Found {
-            number: 0,
-            station: station_from(table, place),
-        };
+    if held(table) <= place {
+        return refused();
     }
-    refused()
+    Found {
+        number: 0,
+        station: station_from(table, place),
+    }
 }
 
 // The station of an address, or 56 where it is not held. Document 02, W-201.
 pub fn station_of(table: &[u16; Station::MEMORY], address: u16) -> Found
     ensures { result ≡ station_of address (table_in table.now) }
 {
-    let place = place_of(table, address);
-    if is_at(table, address, place) {
-        return station_at(table, place);
+    match find_place(table, address) {
+        Ok(place) => station_at(table, place),
+        Err(_) => refused(),
     }
-    refused()
 }

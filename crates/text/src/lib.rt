@@ -26,10 +26,11 @@ pub fn put_decimal(output: &mut [u8], place: usize, n: u64) -> usize
     let mut digits = [0u8; 20];
     let mut first: usize = 20;
     let mut rest = n;
+    // Kept: the loop ends with the number's first digit; a `for` over the array would need an end for a number of more than 20 digits.
     while 9 < rest {
         first -= 1;
         digits[first] = digit((rest % 10) as u8);
-        rest = rest / 10;
+        rest /= 10;
     }
     first -= 1;
     digits[first] = digit(rest as u8);
@@ -42,19 +43,14 @@ pub fn put_decimal(output: &mut [u8], place: usize, n: u64) -> usize
 pub fn put_hex(output: &mut [u8], place: usize, bytes: &[u8]) -> usize
     ensures { Puts output.old place (hex bytes.now) result output.new }
 {
-    if output.len() < place {
+    if output.len() < place || (output.len() - place) / 2 < bytes.len() {
         return place;
     }
-    if (output.len() - place) / 2 < bytes.len() {
-        return place;
-    }
-    let mut i: usize = 0;
     let mut next = place;
-    while i < bytes.len() {
-        output[next] = digit(bytes[i] / 16);
-        output[next + 1] = digit(bytes[i] % 16);
+    for &byte in bytes {
+        output[next] = digit(byte / 16);
+        output[next + 1] = digit(byte % 16);
         next += 2;
-        i += 1;
     }
     next
 }

@@ -11,6 +11,7 @@ ghost use Rattle.transmit.specs.Taking.{released, Takes};
 
 use queue::Level;
 
+// Kept as numbers: C gets them from `add` and in `Batch`, and `add_number` of specs/ gives them.
 const FULL: u8 = 60;
 
 const NOT_ONE_PDU: u8 = 61;
@@ -19,7 +20,7 @@ const OLDEST_DOES_NOT_FIT: u8 = 62;
 
 // What taking answers: 0, how many PDUs were written and released, and how many bytes they have; or 62 with zeros.
 #[repr(C)]
-#[derive(Clone, Copy)]
+#[derive(Clone, Copy, Default)]
 pub struct Batch {
     pub number: u8,
     pub pdus: usize,
@@ -29,18 +30,10 @@ pub struct Batch {
 fn is_one(bytes: &[u8]) -> bool
     ensures { result ≡ exactly_one bytes.now }
 {
-    let extent = pdu::extent_of(bytes);
-    if extent.number != 0 {
+    let Ok(extent) = pdu::extent_of(bytes) else {
         return false;
-    }
+    };
     extent.pdu_length == bytes.len()
-}
-
-fn narrow(count: usize) -> u16
-    requires { count ≤ 2560 }
-    ensures { result ≡ count }
-{
-    count as u16
 }
 
 // Adds a PDU behind those held: 0; or 61 where the bytes are not exactly one PDU, then 60 where 32 are held or the bytes held and its own exceed 2,048,
@@ -53,31 +46,27 @@ pub fn add(memory: &mut [u8; Level::MEMORY], pdu: &[u8]) -> u8
         return NOT_ONE_PDU;
     }
     let held = queue::numbers_in(memory);
-    if Level::PDUS_LIMIT <= held.pdus {
-        return FULL;
-    }
-    if Level::BYTES_LIMIT - held.bytes < pdu.len() {
+    if Level::PDUS_LIMIT <= held.pdus || Level::BYTES_LIMIT - held.bytes < pdu.len() {
         return FULL;
     }
     octets::put(memory, 6 + held.place + held.bytes, pdu);
     queue::keep(
         memory,
-        narrow(held.pdus + 1),
-        narrow(held.bytes + pdu.len()),
-        narrow(held.place),
+        (held.pdus + 1) as u16,
+        (held.bytes + pdu.len()) as u16,
+        held.place as u16,
     );
     0
 }
 
 // Moves so many bytes from a place behind the numbers to the front.
+// Kept a loop: `copy_within` would call `memmove`, and the library for C needs `memcpy` and `memset` alone.
 fn to_front(memory: &mut [u8], place: usize, size: usize)
     requires { 6 + place + size ≤ length memory.old }
     ensures { memory.new ≡ placed memory.old 6 (take size (drop (6 + place) memory.old)) }
 {
-    let mut i: usize = 0;
-    while i < size {
+    for i in 0..size {
         memory[6 + i] = memory[6 + place + i];
-        i += 1;
     }
 }
 
@@ -87,11 +76,11 @@ fn release(memory: &mut [u8; Level::MEMORY], pdus: usize, bytes: usize, place: u
     ensures { memory.new ≡ released pdus bytes place memory.old }
 {
     if place <= Level::SPARE {
-        queue::keep(memory, narrow(pdus), narrow(bytes), narrow(place));
+        queue::keep(memory, pdus as u16, bytes as u16, place as u16);
         return;
     }
     to_front(memory, place, bytes);
-    queue::keep(memory, narrow(pdus), narrow(bytes), 0);
+    queue::keep(memory, pdus as u16, bytes as u16, 0);
 }
 
 fn nothing(number: u8) -> Batch
@@ -99,8 +88,7 @@ fn nothing(number: u8) -> Batch
 {
     Batch {
         number,
-        pdus: 0,
-        bytes: 0,
+        ..Batch::default()
     }
 }
 

@@ -20,16 +20,8 @@ fn show_cipher(rt: &impl Print, key: [u8; 16], block: [u8; 16]) -> io::Result<()
 
 // A digest: the five words of a hash value.
 fn show_hash(rt: &impl Print, hash: Five) -> io::Result<()> {
-    show_word(rt, hash.a)?;
-    show_word(rt, hash.b)?;
-    show_word(rt, hash.c)?;
-    show_word(rt, hash.d)?;
-    show_word(rt, hash.e)?;
-    println!(rt; "")
-}
-
-fn show_word(rt: &impl Print, word: u32) -> io::Result<()> {
-    print!(rt; "{word:08x}")
+    let Five { a, b, c, d, e } = hash;
+    println!(rt; "{a:08x}{b:08x}{c:08x}{d:08x}{e:08x}")
 }
 
 fn show_digest(rt: &impl Print, message: &[u8]) -> io::Result<()> {
@@ -78,47 +70,42 @@ fn show_counted(rt: &impl Print) -> io::Result<()> {
 // to 7 of ours are 0.
 fn show_output_blocks(rt: &impl Print) -> io::Result<()> {
     let key = *b"\x2b\x7e\x15\x16\x28\xae\xd2\xa6\xab\xf7\x15\x88\x09\xcf\x4f\x3c";
-    show_cipher(
-        rt,
-        key,
+    let counters = [
         *b"\xf0\xf1\xf2\xf3\xf4\xf5\xf6\xf7\xf8\xf9\xfa\xfb\xfc\xfd\xfe\xff",
-    )?;
-    show_cipher(
-        rt,
-        key,
         *b"\xf0\xf1\xf2\xf3\xf4\xf5\xf6\xf7\xf8\xf9\xfa\xfb\xfc\xfd\xff\x00",
-    )?;
-    show_cipher(
-        rt,
-        key,
         *b"\xf0\xf1\xf2\xf3\xf4\xf5\xf6\xf7\xf8\xf9\xfa\xfb\xfc\xfd\xff\x01",
-    )?;
-    show_cipher(
-        rt,
-        key,
         *b"\xf0\xf1\xf2\xf3\xf4\xf5\xf6\xf7\xf8\xf9\xfa\xfb\xfc\xfd\xff\x02",
-    )
+    ];
+    for counter in counters {
+        show_cipher(rt, key, counter)?;
+    }
+    Ok(())
 }
 
 fn main(rt: HostRuntime) -> io::Result<()> {
     // FIPS 197, appendix B, and appendix C.1.
-    show_cipher(
-        &rt,
-        *b"\x2b\x7e\x15\x16\x28\xae\xd2\xa6\xab\xf7\x15\x88\x09\xcf\x4f\x3c",
-        *b"\x32\x43\xf6\xa8\x88\x5a\x30\x8d\x31\x31\x98\xa2\xe0\x37\x07\x34",
-    )?;
-    show_cipher(
-        &rt,
-        *b"\x00\x01\x02\x03\x04\x05\x06\x07\x08\x09\x0a\x0b\x0c\x0d\x0e\x0f",
-        *b"\x00\x11\x22\x33\x44\x55\x66\x77\x88\x99\xaa\xbb\xcc\xdd\xee\xff",
-    )?;
+    let ciphers = [
+        (
+            *b"\x2b\x7e\x15\x16\x28\xae\xd2\xa6\xab\xf7\x15\x88\x09\xcf\x4f\x3c",
+            *b"\x32\x43\xf6\xa8\x88\x5a\x30\x8d\x31\x31\x98\xa2\xe0\x37\x07\x34",
+        ),
+        (
+            *b"\x00\x01\x02\x03\x04\x05\x06\x07\x08\x09\x0a\x0b\x0c\x0d\x0e\x0f",
+            *b"\x00\x11\x22\x33\x44\x55\x66\x77\x88\x99\xaa\xbb\xcc\xdd\xee\xff",
+        ),
+    ];
+    for (key, block) in ciphers {
+        show_cipher(&rt, key, block)?;
+    }
     // FIPS 180: the empty message, "abc", the message of 448 bits, and a million times the letter a.
-    show_digest(&rt, b"")?;
-    show_digest(&rt, b"abc")?;
-    show_digest(
-        &rt,
+    let messages: [&[u8]; 3] = [
+        b"",
+        b"abc",
         b"abcdbcdecdefdefgefghfghighijhijkijkljklmklmnlmnomnopnopq",
-    )?;
+    ];
+    for message in messages {
+        show_digest(&rt, message)?;
+    }
     show_million(&rt)?;
     show_stream(&rt)?;
     show_counted(&rt)?;

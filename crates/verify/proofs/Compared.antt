@@ -15,13 +15,12 @@ use Rattle.octets.specs.Octets.{at, over}
 use Rattle.ctr.specs.Ctr.{stream, added}
 use Rattle.sha1_block.specs.declared.Five.{Five}
 use Rattle.sha1_digest.specs.declared.Running.{Running}
-use Rattle.sha1_digest.specs.Sha1.{four_bytes, hash_begun, fed, final_hash, sha1}
+use Rattle.sha1_digest.specs.Sha1.{four_bytes, hash_begun, fed, final_hash, finished, sha1}
 use Rattle.sha1_digest.proofs.Feeding.{fed_append, finished_fed}
 use Rattle.pdu.specs.declared.Header.{Header}
 use Rattle.pdu.specs.Header.{header_of, source_of}
 use Rattle.pdu.specs.Parts.{payload_in}
 use Rattle.message.specs.Protection.{number_in, message_number_bytes, added_length, hashed_header, hash_bytes, nonce_of}
-use Rattle.message.proofs.Hashing.{first_word}
 use Rattle.verify.specs.Verify.{message_number, plain_length, deciphered_under, plain_under, same_four, genuine_under}
 use Rattle.verify.proofs.Deciphering.{take_added, drop_added}
 
@@ -65,10 +64,10 @@ module _ (word a b c d : ℕ) (small : word < 2 ^ 32) (sa : a < 256) (sb : b < 2
       ne_eqb word sum n
       ∙ sym (all_false _ _ _ _ (λ ea eb ec ed. n (joined (eqb-true _ _ ea) (eqb-true _ _ eb) (eqb-true _ _ ec) (eqb-true _ _ ed)))))
 
-pub word_compared : (word : ℕ) (block : List ℕ) (a b c d : ℕ) → word < 2 ^ 32 → (a ≡ at block 0) × (a < 256) → (b ≡ at block 1) × (b < 256)
-    → (c ≡ at block 2) × (c < 256) → (d ≡ at block 3) × (d < 256) → eqb word (a * 16777216 + b * 65536 + c * 256 + d) ≡ same_four (four_bytes word) block
-word_compared word block a b c d small ea eb ec ed =
-    compared word a b c d small ea.1 eb.1 ec.1 ed.1 ∙ rw (← ea.0, ← eb.0, ← ec.0, ← ed.0) refl
+pub word_compared : (word : ℕ) (block : List ℕ) → word < 2 ^ 32 → ((i : ℕ) → at block i < 256)
+    → eqb word (at block 0 * 16777216 + at block 1 * 65536 + at block 2 * 256 + at block 3) ≡ same_four (four_bytes word) block
+word_compared word block small bytes =
+    compared word (at block 0) (at block 1) (at block 2) (at block 3) small (bytes 0) (bytes 1) (bytes 2) (bytes 3)
 
 -- the first word of the hash value of header, number and plain payload
 pub expected_is : (bytes plain : List ℕ) (number : ℕ) (r0 r1 : Running) (hash : Five) → r0 ≡ fed hash_begun (hashed_header bytes ++ message_number_bytes number)
@@ -126,10 +125,10 @@ module _ (w bytes : List ℕ) (header : Header) (sealed nonce : List ℕ) (numbe
   hash_is : (part : List ℕ) (hash : ℕ) → part ≡ take size behind
       → hash ≡ (final_hash (fed hash_begun (hashed_header bytes ++ message_number_bytes number ++ added s 0 part))).a
       → four_bytes hash ≡ hash_bytes bytes (message_number bytes) (plain_under w bytes)
-  unfolding hash_bytes
+  unfolding hash_bytes finished
   hash_is part hash e eh =
       let message = hashed_header bytes ++ message_number_bytes number ++ added s 0 part in
-      ap four_bytes eh ∙ first_word (fed hash_begun message) (final_hash (fed hash_begun message)) refl ∙ ap (take 4) (finished_fed message)
+      ap four_bytes eh ∙ ap (take 4) (finished_fed message)
       ∙ ap₂ (λ (n : ℕ) (l : List ℕ). take 4 (sha1 (hashed_header bytes ++ message_number_bytes n ++ l))) number_is (plain_is part e)
 
   pub genuine_is : (first last sent : List ℕ) (hash : ℕ) (g : Bool) → first ≡ take size behind

@@ -48,39 +48,21 @@ module _ (s : ℕ → ℕ) where
         let same : length part ≡ length (added s place part) = sym (length_added s place part) in
         ap₂ (λ (l m : List ℕ). l ++ m) plain (behind ∙ ap (λ (j : ℕ). drop j zeros) same)
 
-  -- the hash fed with one part more
-  pub fed_none : (r : Running) (bytes : List ℕ) → r ≡ fed r (added s 0 (take 0 bytes))
-  unfolding fed added
-  fed_none r bytes = refl
-
-  pub fed_all : (r0 r1 : Running) (bytes : List ℕ) (place : ℕ) → length bytes ≤ place → r1 ≡ fed r0 (added s 0 (take place bytes))
-      → r1 ≡ fed r0 (added s 0 bytes)
-  fed_all r0 r1 bytes place h e = e ∙ ap (λ (l : List ℕ). fed r0 (added s 0 l)) (take_all place bytes h)
-
-  pub part_size : (bytes part : List ℕ) (place : ℕ) → place < length bytes → part ≡ take 16 (drop place bytes)
-      → (0 < length part) × (length part ≤ 16) × (place + length part ≤ length bytes)
-  part_size bytes part place h e =
-      let n = ap length e ∙ length-take 16 (drop place bytes) in
-      let m = length-drop place bytes in
-      (omega (arith, n, m), omega (arith, n, m), omega (arith, n, m))
-
-  pub fed_more : (r0 r1 r2 : Running) (bytes part block zeros : List ℕ) (place k : ℕ) → place < length bytes
-      → r1 ≡ fed r0 (added s 0 (take place bytes)) → part ≡ take 16 (drop place bytes) → block ≡ over (added s place part) zeros
-      → k ≡ length part → r2 ≡ fed r1 (take k (drop 0 block)) → r2 ≡ fed r0 (added s 0 (take (place + length part) bytes))
+  -- what is fed is what the part left has yet to add
+  pub fed_more : (r r1 all : Running) (part rest left block zeros : List ℕ) (place k : ℕ) → fed r (added s place left) ≡ all → left ≡ part ++ rest
+      → block ≡ over (added s place part) zeros → k ≡ length part → r1 ≡ fed r (take k (drop 0 block)) → fed r1 (added s (place + length part) rest) ≡ all
   unfolding over
-  fed_more r0 r1 r2 bytes part block zeros place k h e1 ep eb ek e2 =
-      let front = take place bytes in
-      let rest = drop place bytes in
-      let here : take (length part) rest ≡ part =
-      ap (take (length part)) (sym (take-append-drop 16 rest) ∙ ap (λ (l : List ℕ). l ++ drop 16 rest) (sym ep))
-      ∙ take_at part (drop 16 rest) (length part) refl in
-      let size : length front ≡ place = length-take-le place bytes (omega arith) in
-      let both : added s 0 (take (place + length part) bytes) ≡ added s 0 front ++ added s place part =
-      ap (added s 0) (take-add place (length part) bytes ∙ ap (λ (l : List ℕ). front ++ l) here) ∙ added_append s 0 front part
-      ∙ ap (λ (n : ℕ). added s 0 front ++ added s n part) (zero-add (length front) ∙ size) in
+  fed_more r r1 all part rest left block zeros place k e parts eb ek e1 =
       let long : length (added s place part) ≡ k = length_added s place part ∙ sym ek in
       let plain : take k (drop 0 block) ≡ added s place part = ap (take k) eb ∙ take_at (added s place part) _ k long in
-      e2 ∙ ap₂ fed e1 plain ∙ fed_append r0 (added s 0 front) (added s place part) ∙ ap (fed r0) (sym both)
+      let both : added s place left ≡ added s place part ++ added s (place + length part) rest = ap (added s place) parts ∙ added_append s place part rest in
+      ap (λ (x : Running). fed x (added s (place + length part) rest)) (e1 ∙ ap (fed r) plain)
+      ∙ fed_append r (added s place part) (added s (place + length part) rest) ∙ ap (fed r) (sym both) ∙ e
+
+  pub fed_all : (r all : Running) (place : ℕ) (left : List ℕ) → length left ≡ 0 → fed r (added s place left) ≡ all → r ≡ all
+  unfolding fed added
+  fed_all r all place [] h e = e
+  fed_all r all place (b ∷ left) h e = absurd (omega arith)
 
 pub part_short : (part bytes : List ℕ) (place size : ℕ) → part ≡ take size (drop place bytes) → length part ≤ size
 part_short part bytes place size e = omega (arith, ap length e ∙ length-take size (drop place bytes))

@@ -10,12 +10,6 @@ ghost use Rattle.verify.specs.Verify.{same_four, genuine_under};
 
 use sha1_digest::Running;
 
-fn wide(byte: u8) -> u32
-    ensures { (result ≡ byte) × (result < 256) }
-{
-    byte as u32
-}
-
 // Up to 16 bytes deciphered, the first of which stands at a place of the key stream; zeros behind them. SP 800-38A, 6.5.
 fn opened_block(keys: &[u8; 176], nonce: [u8; 5], place: usize, part: &[u8]) -> [u8; 16]
     requires { (length part.now ≤ 16) × (place ≤ 65535) }
@@ -34,8 +28,7 @@ fn feed_opened(running: Running, keys: &[u8; 176], nonce: [u8; 5], enciphered: &
 {
     let mut hash = running;
     let mut place: usize = 0;
-    while place < enciphered.len() {
-        let part = octets::part(enciphered, place, 16);
+    for part in enciphered.chunks(16) {
         let block = opened_block(keys, nonce, place, part);
         let next = sha1_digest::feed(hash, &block[0..part.len()]);
         hash = next;
@@ -58,10 +51,7 @@ fn expected(keys: &[u8; 176], nonce: [u8; 5], number: u32, pdu: &[u8], enciphere
 fn begins_with(word: u32, block: [u8; 16]) -> bool
     ensures { result ≡ same_four (four_bytes word) block }
 {
-    word == wide(block[0]) * 16777216
-        + wide(block[1]) * 65536
-        + wide(block[2]) * 256
-        + wide(block[3])
+    word == u32::from_be_bytes([block[0], block[1], block[2], block[3]])
 }
 
 // Whether the hash that the sealed PDU at the start of `pdu` ends with is that of its header, its number and its plain payload, under an expanded key.

@@ -1,47 +1,56 @@
 // A received PDU held as one thing: the caller's bytes, and how far the PDU reaches in them.
-// A function over the view only takes it apart. The work is done in `fields`, by a function on slice and numbers.
+// A function over the view only takes it apart. The work is done in `fields`, by a function on slice and span.
 #![tactic(auto)]
 
 mod fields;
 
 ghost use Rattle.std.specs.Prelude.{◌≡◌};
-ghost use Rattle.pdu.specs.Reading.{read_of, extent_of};
+ghost use Rattle.pdu.specs.Reading.{read_of};
 ghost use Rattle.pdu.specs.Parts.{path_in, path_address, in_path};
 ghost use Rattle.editions.specs.Editions.{read_under};
-ghost use Rattle.view.specs.View.{summary_of, path_address_in, path_has, header_in, summary_at};
+ghost use Rattle.view.specs.View.{summary_of, path_address_in, path_has, span_of, header_in, summary_at};
 
 use editions::Shown;
-use pdu::{Extent, Sender};
 
-// A received PDU, or bytes that are none: then `at` has the number of the refusal. Any bytes and extent make a view that is defined.
+// A received PDU, or bytes that are none: then `at` has the number of the refusal. Any bytes and span make a view that is defined.
 #[derive(Clone, Copy)]
 pub struct Pdu<'a> {
     pub bytes: &'a [u8],
-    pub at: Extent,
+    pub at: Span,
 }
 
-// What an edition shows of a PDU: 0, its header, who it was heard from, and the lengths of header and PDU.
-// Of a refusal its number, a header with no field set, an unknown sender and lengths 0.
+// How far a view's PDU reaches in its bytes: its path's addresses and its payload's bytes, and where header and PDU end, counted from its first byte. Of
+// bytes that are no PDU the number of the refusal, and 0 in every other field.
+// Kept: the number stands beside the fields, since `summarize` promises its answer for every number and span (`view_refused` of base_demands).
+#[derive(Clone, Copy, Default)]
+pub struct Span {
+    pub number: u8,
+    pub path_count: u8,
+    pub payload_length: u16,
+    pub header_length: usize,
+    pub pdu_length: usize,
+}
+
+// What an edition shows of a PDU: its header, who it was heard from, and the lengths of header and PDU.
 #[derive(Clone, Copy)]
 pub struct Summary {
-    pub number: u8,
     pub header: Shown,
-    pub last_sender: Sender,
+    pub last_sender: Option<u16>,
     pub header_length: usize,
     pub pdu_length: usize,
 }
 
 // The view of the PDU at the start of `bytes`. Any bytes have one. Document 01, "Numbers answered", the PDU held as one thing.
 pub fn open<'a>(bytes: &'a [u8]) -> Pdu<'a>
-    ensures { (result.bytes ≡ bytes.entry) × (result.at ≡ extent_of (read_of bytes.now)) }
+    ensures { (result.bytes ≡ bytes.entry) × (result.at ≡ span_of (read_of bytes.now)) }
 {
-    let at = pdu::extent_of(bytes);
+    let at = fields::span_of(bytes);
     Pdu { bytes, at }
 }
 
 // What an edition shows of a view: 17 for an edition other than 11 and 12, then the view's number, then its fields.
 // Document 01, "Header, byte by byte"; document 02, W-205 and W-209.
-pub fn summarize<'a>(pdu: Pdu<'a>, edition: u64) -> Summary
+pub fn summarize<'a>(pdu: Pdu<'a>, edition: u64) -> Result<Summary, u8>
     ensures { result ≡ summary_at pdu.entry.bytes.now pdu.entry.at edition }
 {
     fields::summary_at(pdu.bytes, pdu.at, edition)
@@ -64,7 +73,7 @@ pub fn path_has<'a>(pdu: Pdu<'a>, address: u16) -> bool
 
 // What an edition shows of the PDU at the start of `bytes`: 17 for an edition other than 11 and 12, or 1 to 6 where there is no PDU, or its fields.
 // Bytes after the PDU are not looked at. Document 01, "Header, byte by byte", and "Numbers answered", 1 to 6; document 02, W-205 and W-209.
-pub fn summary_of(bytes: &[u8], edition: u64) -> Summary
+pub fn summary_of(bytes: &[u8], edition: u64) -> Result<Summary, u8>
     ensures { result ≡ summary_of (read_under edition bytes.now) bytes.now }
 {
     summarize(open(bytes), edition)

@@ -8,11 +8,11 @@ use lib.Dec.{eqb, ltb}
 use lib.ListN.{length, take, length-append}
 use lib.Seq.{take-length}
 use borrow.Author.Tests.{lt-ltb, le-ltb, ltb-true, ltb-false, eq-eqb, eqb-true}
+use Rattle.std.specs.Prelude.{Ok}
 use Rattle.octets.specs.Numbers.{◌gives◌, ◌or_else◌}
 use Rattle.octets.specs.Octets.{at, AllBytes, word_bytes}
 use Rattle.octets.proofs.Tests.{both}
 use Rattle.pdu.specs.declared.Header.{Header}
-use Rattle.pdu.specs.declared.Reading.TheVariants.{Pdu}
 use Rattle.pdu.specs.Header.{header_of}
 use Rattle.pdu.specs.Sizes.{header_length, pdu_length}
 use Rattle.pdu.specs.Reading.{read_of}
@@ -107,12 +107,12 @@ module _ (bytes : List ℕ) where
           rw (whole_there bytes place whole) (end_after bytes place, whole)
 
 -- two parts of one PDU
-one_pdu : (front payload : List ℕ) (header : Header) → read_of (front ++ payload) ≡ Pdu header → header_length header ≡ length front
+one_pdu : (front payload : List ℕ) (header : Header) → read_of (front ++ payload) ≡ Ok header → header_length header ≡ length front
     → pdu_length header ≡ length (front ++ payload) → joined_number front payload ≡ 0
 one_pdu front payload header read split all =
     let is = (shown (front ++ payload) header read).is in
     sym
-    (is_joined front payload 0 (header_length header) (pdu_length header) (rw read) refl (ap (λ (h : Header). header_length h) is)
+    (is_joined front payload (header_length header) (pdu_length header) (read ∙ ap Ok is) (ap (λ (h : Header). header_length h) is)
     (ap (λ (h : Header). pdu_length h) is) split (all ∙ length-append front payload))
 
 formed_read : (bytes : List ℕ) (formed : Formed bytes)

@@ -1,11 +1,10 @@
 -- Document 02, W-202, as one record; `proofs/SerialExchange.antt` gives it from its parts. Reading never looks at what lies outside the input: the
 -- promise of `read_exchange` is `exchange_of` of the input's bytes and of nothing else, and here `first_fault_lem` has every element that it comes to begin
 -- within them, and `parts` what it shows lie within them.
-use Rattle.std.specs.Prelude.{ℕ, ◌+◌, ◌-◌, ◌≤◌, ◌<◌, Bool, true, not, List, [], ◌∷◌, ◌++◌, ◌≡◌, ltb, length, take, drop}
+use Rattle.std.specs.Prelude.{ℕ, ◌+◌, ◌-◌, ◌≤◌, ◌<◌, Bool, true, not, List, [], ◌∷◌, ◌++◌, ◌≡◌, ltb, length, take, drop, Ok}
 use Rattle.octets.specs.Numbers.{◌gives◌, ◌or_else◌}
 use Rattle.octets.specs.Octets.{AllBytes, word_bytes, over}
 use Rattle.pdu.specs.declared.Header.{Header}
-use Rattle.pdu.specs.declared.Reading.TheVariants.{Pdu}
 use Rattle.pdu.specs.Header.{header_of}
 use Rattle.pdu.specs.Sizes.{header_length, pdu_length}
 use Rattle.pdu.specs.Reading.{read_of, reading_number}
@@ -75,7 +74,7 @@ pub record SerialExchange : Type 0 where
   -- and nothing else is read
   pub no_other : (bytes : List ℕ) → AllBytes bytes → (exchange_of bytes).number ≡ 0 → Formed bytes
   -- 0 if they are one PDU, split at its header's end
-  pub one_pdu : (front payload : List ℕ) (header : Header) → read_of (front ++ payload) ≡ Pdu header → header_length header ≡ length front
+  pub one_pdu : (front payload : List ℕ) (header : Header) → read_of (front ++ payload) ≡ Ok header → header_length header ≡ length front
       → pdu_length header ≡ length (front ++ payload) → joined_number front payload ≡ 0
   -- the numbers in their order, when reading and when writing
   pub reading_order : (bytes : List ℕ) → (exchange_of bytes).number
@@ -90,7 +89,7 @@ pub record SerialExchange : Type 0 where
       → (run_fault level_limit bytes 0 (length bytes) ≡ first_own bytes (reached level_limit bytes 0 (length bytes)))
       × Ordered 0 (length bytes) (reached level_limit bytes 0 (length bytes))
   -- what is written reads back: number 0, and header and payload are the PDU's
-  pub reads_back : (bytes : List ℕ) (header : Header) → AllBytes bytes → read_of bytes ≡ Pdu header
+  pub reads_back : (bytes : List ℕ) (header : Header) → AllBytes bytes → read_of bytes ≡ Ok header
       → ((exchange_of (encoding bytes)).number ≡ 0)
       × (header_part (encoding bytes) ≡ take (header_length header) bytes)
       × (payload_part (encoding bytes) ≡ payload_in header bytes)
@@ -102,9 +101,9 @@ pub record SerialExchange : Type 0 where
       × ((exchange_of exchange).payload_place + (exchange_of exchange).payload_length ≤ length exchange)
   -- joined they are a PDU with nothing after it, split at its header's end
   pub holds_a_pdu : (exchange : List ℕ) → (exchange_of exchange).number ≡ 0 → let pdu = header_part exchange ++ payload_part exchange in
-      (read_of pdu ≡ Pdu (header_of pdu)) × (header_length (header_of pdu) ≡ length (header_part exchange)) × (pdu_length (header_of pdu) ≡ length pdu)
+      (read_of pdu ≡ Ok (header_of pdu)) × (header_length (header_of pdu) ≡ length (header_part exchange)) × (pdu_length (header_of pdu) ≡ length pdu)
   -- what was read and is written again is the one encoding of that PDU, whatever the order, the forms and the elements beside it were
-  pub one_encoding : (exchange bytes : List ℕ) (header : Header) → AllBytes bytes → read_of bytes ≡ Pdu header → (exchange_of exchange).number ≡ 0
+  pub one_encoding : (exchange bytes : List ℕ) (header : Header) → AllBytes bytes → read_of bytes ≡ Ok header → (exchange_of exchange).number ≡ 0
       → header_part exchange ++ payload_part exchange ≡ take (pdu_length header) bytes → encoding (header_part exchange ++ payload_part exchange) ≡ encoding bytes
   -- header first
   pub header_first_lem : (exchange : List ℕ) → (exchange_of exchange).number ≡ 0
@@ -119,7 +118,7 @@ pub record SerialExchange : Type 0 where
   pub untouched : (bytes output : List ℕ) → ((written_exchange bytes (length output)).number ≡ 0 → ⊥)
       → ((written_exchange bytes (length output)).length ≡ 0) × (exchange_output bytes output ≡ output)
   -- no exchange that is written is longer than 4,626 bytes, and one of a header of 520 bytes and a payload of 4,095 is as long
-  pub longest : (bytes : List ℕ) (header : Header) → AllBytes bytes → read_of bytes ≡ Pdu header → length (encoding bytes) ≤ exchange_limit
+  pub longest : (bytes : List ℕ) (header : Header) → AllBytes bytes → read_of bytes ≡ Ok header → length (encoding bytes) ≤ exchange_limit
   pub as_long : (header payload : List ℕ) → length header ≡ 520 → length payload ≡ 4095 → length (exchange_bytes header payload) ≡ exchange_limit
   -- III. BESIDE OTHER REQUESTS, AND IN C
   -- the element at a place: shown where it ends within the bytes, else 57 and zeros

@@ -1,10 +1,9 @@
 -- Document 02, W-203, as one record; `proofs/OwnReport.antt` gives it from its parts. Demand 3 as it reads since then is `Demand3`, and what a table of
 -- stations counts as an echo is `read` of `StationsHeard`.
-use Rattle.std.specs.Prelude.{ℕ, suc, ◌≤◌, Bool, true, false, ◌⊎◌, ◌≡◌, length, drop}
+use Rattle.std.specs.Prelude.{ℕ, suc, ◌≤◌, Bool, true, false, ◌⊎◌, ◌≡◌, length, drop, None, Some}
 use mathlib.Core.List.{List, [], ◌∷◌, Memᴰ, Nodup}
 use Rattle.std.proofs.Math.Option.{none}
 use Rattle.octets.specs.Numbers.{◌gives◌, ◌or_else◌}
-use Rattle.pdu.specs.declared.Sender.TheVariants.{Unknown, Known}
 use Rattle.pdu.specs.Header.{header_of, source_of}
 use Rattle.pdu.specs.Sizes.{pdu_length}
 use Rattle.pdu.specs.Parts.{last_sender}
@@ -109,13 +108,13 @@ pub record OwnReport : Type 0 where
   pub never_three : (receptions : List Reception) → Nodup receptions → length (on_the_air (network true) report receptions) ≤ 2
   pub three_with_echo_off : length (on_the_air (network false) report heard_back) ≡ 3
   -- at node 2000, without the path bit and with it; with its own address in the path too; before the lists, and with echo off not; cut to 5 bytes
-  pub without_path : answer_of (node_at 2000 true false) 100 own_report ≡ given_twice 42 6 Unknown
-  pub with_path_lem : answer_of (node_at 2000 true false) 100 (own_report_by 0 5) ≡ given_twice 42 9 (Known 5)
-  pub with_both : answer_of (node_at 2000 true false) 100 (own_report_by 0x07 0xD0) ≡ given_twice 30 9 (Known 2000)
-  pub before_lists : (answer_of (strict true) 100 own_report_to5 ≡ given_twice 42 8 Unknown) × (answer_of (strict false) 100 own_report_to5 ≡ given_twice 31 8 Unknown)
-  pub cut_short : answer_of (node_at 2000 true false) 100 (drop 1 own_report) ≡ given_twice 1 0 Unknown
+  pub without_path : answer_of (node_at 2000 true false) 100 own_report ≡ given_twice 42 6 None
+  pub with_path_lem : answer_of (node_at 2000 true false) 100 (own_report_by 0 5) ≡ given_twice 42 9 (Some 5)
+  pub with_both : answer_of (node_at 2000 true false) 100 (own_report_by 0x07 0xD0) ≡ given_twice 30 9 (Some 2000)
+  pub before_lists : (answer_of (strict true) 100 own_report_to5 ≡ given_twice 42 8 None) × (answer_of (strict false) 100 own_report_to5 ≡ given_twice 31 8 None)
+  pub cut_short : answer_of (node_at 2000 true false) 100 (drop 1 own_report) ≡ given_twice 1 0 None
   -- echo off: delivered and repeated; for the own address and of another source: 41
   pub off : answer_of (node_at 2000 false false) 100 own_report
-      ≡ record { delivery = 0; repeat = 0; delivered_place = 6; delivered_length = 0; repeated_length = 6; taken = 6; last_sender = Unknown }
+      ≡ record { delivery = 0; repeat = 0; delivered_place = 6; delivered_length = 0; repeated_length = 6; taken = 6; last_sender = None }
   pub for_own_lem : answer_of (node_at 2000 true false) 100 for_own
-      ≡ record { delivery = 0; repeat = 41; delivered_place = 8; delivered_length = 0; repeated_length = 0; taken = 8; last_sender = Unknown }
+      ≡ record { delivery = 0; repeat = 41; delivered_place = 8; delivered_length = 0; repeated_length = 0; taken = 8; last_sender = None }

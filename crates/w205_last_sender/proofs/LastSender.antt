@@ -8,13 +8,11 @@ use mathlib.Core.Path.{◌≡◌, refl, ap, sym, ◌∙◌}
 use lib.Dec.{eqb, ltb}
 use lib.ListN.{length, take, drop, get_or}
 use borrow.Author.Tests.{eqb-true, eqb-false, ne_eqb, lt-ltb, le-ltb, ltb-true, ltb-false}
+use Rattle.std.specs.Prelude.{Ok, Option, None, Some}
 use Rattle.octets.specs.Numbers.{◌gives◌, ◌or_else◌}
 use Rattle.octets.specs.Octets.{over}
 use Rattle.octets.proofs.Tests.{both}
 use Rattle.pdu.specs.declared.Header.{Header}
-use Rattle.pdu.specs.declared.Reading.TheVariants.{Pdu}
-use Rattle.pdu.specs.declared.Sender.{Sender}
-use Rattle.pdu.specs.declared.Sender.TheVariants.{Unknown, Known}
 use Rattle.pdu.specs.Header.{header_of}
 use Rattle.pdu.specs.Sizes.{path_entries, pdu_length}
 use Rattle.pdu.specs.Reading.{read_of}
@@ -38,18 +36,18 @@ use Rattle.boundary.specs.declared.a_node.MantNode.{MantNode}
 use Rattle.boundary.specs.Boundary.{has_sender, sender_address, sender_from_c, node_from_c, HearsInC}
 use Rattle.w205_last_sender.specs.LastSender.{LastSender}
 
-not_unknown : (address : ℕ) → Known address ≡ Unknown → ⊥
+not_unknown : (address : ℕ) → Some address ≡ None → ⊥
 not_unknown address e = let z : ◌≡◌ {A = ℕ} 0 1 = cc in omega arith
 
-same_address : (a b : ℕ) → Known a ≡ Known b → a ≡ b
+same_address : (a b : ℕ) → Some a ≡ Some b → a ≡ b
 same_address a b e = cc
 
 -- which case it was
 module _ (header : Header) (bytes : List ℕ) where
-  unknown_only : last_sender header bytes ≡ Unknown → header.path_bit ≡ false
+  unknown_only : last_sender header bytes ≡ None → header.path_bit ≡ false
   unknown_only e = go header.path_bit e
     where
-      go : (bit : Bool) → cond bit (Known (last_or header.source (path_in header bytes))) Unknown ≡ Unknown → bit ≡ false
+      go : (bit : Bool) → cond bit (Some (last_or header.source (path_in header bytes))) None ≡ None → bit ≡ false
       go true f = absurd (not_unknown _ f)
       go false f = refl
 
@@ -58,7 +56,7 @@ module _ (header : Header) (bytes : List ℕ) where
       ((path_entries header ≡ 0) × (address ≡ header.source))
       ⊎ ((0 < path_entries header) × (address ≡ path_address header bytes (path_entries header - 1)))
 
-  known_only : (address : ℕ) → last_sender header bytes ≡ Known address → (header.path_bit ≡ true) × Cases address
+  known_only : (address : ℕ) → last_sender header bytes ≡ Some address → (header.path_bit ≡ true) × Cases address
   known_only address e = bits header.path_bit refl
     where
       entries : header.path_bit ≡ true → (none : Bool) → eqb (path_entries header) 0 ≡ none → Cases address
@@ -73,10 +71,10 @@ module _ (header : Header) (bytes : List ℕ) where
       bits true b = (b, entries b (eqb (path_entries header) 0) refl)
       bits false b = absurd (not_unknown address (sym e ∙ sender_unknown header bytes b))
 
-of_the_pdu : (bytes rest : List ℕ) (header : Header) → read_of bytes ≡ Pdu header
+of_the_pdu : (bytes rest : List ℕ) (header : Header) → read_of bytes ≡ Ok header
     → last_sender header (take (pdu_length header) bytes ++ rest) ≡ last_sender header bytes
 of_the_pdu bytes rest header read =
-    ap (λ (path : List ℕ). cond header.path_bit (Known (last_or header.source path)) Unknown) (front_path bytes header read rest)
+    ap (λ (path : List ℕ). cond header.path_bit (Some (last_or header.source path)) None) (front_path bytes header read rest)
 
 written : (settings : FreshSettings) (payload output : List ℕ) → origination_number settings payload (length output) ≡ 0
     → originated_output settings payload output ≡ fresh settings payload ++ drop (length (fresh settings payload)) output
@@ -85,7 +83,7 @@ written settings payload output done = rw done
 
 of_a_fresh : (settings : FreshSettings) (payload output : List ℕ) (installer : Node) (room : ℕ)
     → origination_number settings payload (length output) ≡ 0 → settings.with_path ≡ true → node_fault installer ≡ 0
-    → (answer_of installer room (originated_output settings payload output)).last_sender ≡ Known settings.source
+    → (answer_of installer room (originated_output settings payload output)).last_sender ≡ Some settings.source
 of_a_fresh settings payload output installer room done bit clean =
     let rest = drop (length (fresh settings payload)) output in
     ap (λ (bytes : List ℕ). (answer_of installer room bytes).last_sender) (written settings payload output done)
@@ -93,7 +91,7 @@ of_a_fresh settings payload output installer room done bit clean =
     (fresh_back settings payload (length output) done rest).reads
     ∙ fresh_sender settings payload (length output) done bit rest
 
-flag_is_bit : (bit : Bool) (address : ℕ) → has_sender (cond bit (Known address) Unknown) ≡ bit
+flag_is_bit : (bit : Bool) (address : ℕ) → has_sender (cond bit (Some address) None) ≡ bit
 flag_is_bit true address = refl
 flag_is_bit false address = refl
 
@@ -101,9 +99,9 @@ header_flag : (bytes : List ℕ) (shown : Shown) → has_sender (last_sender (wi
 unfolding wire_of
 header_flag bytes shown = flag_is_bit shown.path_bit _
 
-given_back : (sender : Sender) → sender_from_c (has_sender sender) (sender_address sender) ≡ sender
-given_back Unknown = refl
-given_back (Known address) = refl
+given_back : (sender : Option ℕ) → sender_from_c (has_sender sender) (sender_address sender) ≡ sender
+given_back None = refl
+given_back (Some address) = refl
 
 heard_in_c : (node : MantNode) (lists received output left : List ℕ) (answer : MantAnswer)
     → HearsInC (node_of (node_from_c node) (lists_in lists)) received output answer left
@@ -157,30 +155,30 @@ no_dash : (address : ℕ) → decimal address ≡ text "-" → ⊥
 unfolding decimal
 no_dash address e = false≢true (sym (ap above e) ∙ above_within (suc address) address)
 
-dash_only : (sender : Sender) → sender_shown sender ≡ text "-" → sender ≡ Unknown
-dash_only Unknown e = refl
-dash_only (Known address) e = absurd (no_dash address e)
+dash_only : (sender : Option ℕ) → sender_shown sender ≡ text "-" → sender ≡ None
+dash_only None e = refl
+dash_only (Some address) e = absurd (no_dash address e)
 
 -- and of what a node heard
 module _ (node : Node) (received : List ℕ) where
   abbrev NotTold : Type 0
   NotTold = (node_or_reading_fault node received ≡ 0 → ⊥) ⊎ ((header_of received).path_bit ≡ false)
 
-  unknown_heard : heard_from node received ≡ Unknown → NotTold
+  unknown_heard : heard_from node received ≡ None → NotTold
   unfolding heard_from
   unknown_heard e = go (eqb (node_or_reading_fault node received) 0) refl e
     where
-      go : (read : Bool) → eqb (node_or_reading_fault node received) 0 ≡ read → cond read (last_sender (header_of received) received) Unknown ≡ Unknown
+      go : (read : Bool) → eqb (node_or_reading_fault node received) 0 ≡ read → cond read (last_sender (header_of received) received) None ≡ None
           → NotTold
       go true r f = inr (unknown_only (header_of received) received f)
       go false r f = inl (eqb-false (node_or_reading_fault node received) 0 r)
 
-  heard_unknown : NotTold → heard_from node received ≡ Unknown
+  heard_unknown : NotTold → heard_from node received ≡ None
   unfolding heard_from
   heard_unknown (inl unread) = rw (ne_eqb (node_or_reading_fault node received) 0 unread)
   heard_unknown (inr none) = go (eqb (node_or_reading_fault node received) 0)
     where
-      go : (read : Bool) → cond read (last_sender (header_of received) received) Unknown ≡ Unknown
+      go : (read : Bool) → cond read (last_sender (header_of received) received) None ≡ None
       go true = sender_unknown (header_of received) received none
       go false = refl
 
@@ -206,7 +204,7 @@ last_sender_lem =
           sent_shown node room received small again rest ∙ sent_unknown node room received small again rest none;
       neighbour = neighbour;
       of_a_fresh = of_a_fresh;
-      summary_tells = λ bytes shown. refl;
+      summary_tells = λ bytes shown. (_, refl, refl);
       header_tells = λ bytes shown. (header_flag bytes shown, given_back (last_sender (wire_of shown) bytes));
       answer_tells = λ answer. given_back answer.last_sender;
       sixth_field = λ number offset delivery repeat repeated sender. refl;

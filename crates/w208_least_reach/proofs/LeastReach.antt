@@ -19,8 +19,7 @@ use Rattle.node.specs.Answers.{answer_of, Hears}
 use Rattle.flood.specs.Air.{Repeater, address, sends, Originated}
 use Rattle.flood.proofs.Exact.{longest}
 use Rattle.flood.proofs.Others.{are_others, others_are}
-use Rattle.chains.specs.declared.Least.{Least}
-use Rattle.chains.specs.declared.Least.TheVariants.{HopLimit, Unreachable}
+use Rattle.std.specs.Prelude.{Option, Some, None}
 use Rattle.chains.specs.Lengths.{is_heard}
 use Rattle.chains.specs.Reach.{least_hop}
 use Rattle.boundary.specs.Boundary.{least_in_c}
@@ -59,9 +58,9 @@ unfolding sends answer_of
 sent n received = refl
 
 -- 8 is told of no hop limit
-told_eight : (lengths : List ℕ) (told : Least) → least_hop lengths ≡ told → least_in_c told ≡ 8 → told ≡ Unreachable
-told_eight lengths (HopLimit h) is e = let low : h ≤ 7 = (least lengths h is).0 in absurd (omega (arith, low, e))
-told_eight lengths Unreachable is e = refl
+told_eight : (lengths : List ℕ) (told : Option ℕ) → least_hop lengths ≡ told → least_in_c told ≡ 8 → told ≡ None
+told_eight lengths (Some h) is e = let low : h ≤ 7 = (least lengths h is).0 in absurd (omega (arith, low, e))
+told_eight lengths None is e = refl
 
 room_enough : (settings : FreshSettings) (payload : List ℕ) (room : ℕ) → Originated settings payload room → settings.hop_limit ≤ 6
     → length (fresh settings payload) + 2 * settings.hop_limit ≤ pdu_limit
@@ -96,9 +95,9 @@ least_reach =
       least_only = least_only;
       unreachable = unreachable;
       unreachable_only = unreachable_only;
-      in_c = λ lengths is. ap (λ (told : Least). least_in_c told) is;
+      in_c = λ lengths is. ap (λ (told : Option ℕ). least_in_c told) is;
       in_c_only = λ lengths e. told_eight lengths (least_hop lengths) refl e;
-      in_c_least = λ lengths h is. ap (λ (told : Least). least_in_c told) is;
+      in_c_least = λ lengths h is. ap (λ (told : Option ℕ). least_in_c told) is;
       pair = (refl, refl);
       answered = answered;
       answered_only = answered_only;

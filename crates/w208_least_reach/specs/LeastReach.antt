@@ -10,7 +10,7 @@ use Rattle.editions.specs.Editions.{known}
 use Rattle.chains.specs.Chains.{ends}
 use Rattle.chains.specs.Lengths.{is_heard, is_unmarked, no_node, LengthsFound}
 use Rattle.chains.specs.Reach.{is_delivered, missed, least_hop, AllDelivered, OutOfReach}
-use Rattle.chains.specs.declared.Least.TheVariants.{HopLimit, Unreachable}
+use Rattle.std.specs.Prelude.{Some, None}
 use Rattle.origin.specs.declared.FreshSettings.{FreshSettings}
 use Rattle.origin.specs.Origination.{fresh}
 use Rattle.node.specs.declared.Answer.{Answer}
@@ -75,16 +75,16 @@ pub record LeastReach : Type 0 where
   -- the number missed at a hop limit from 0 to 7 is that of the nodes out of reach; the least hop limit is the one at which all are delivered it and at
   -- every smaller one some are not; and none is given exactly where at none of 0 to 7 all are
   pub missed_counts : (h : ℕ) (lengths : List ℕ) → h ≤ 7 → (places : List ℕ) × OutOfReach h lengths places × (missed h lengths ≡ length places)
-  pub least : (lengths : List ℕ) (h : ℕ) → least_hop lengths ≡ HopLimit h
+  pub least : (lengths : List ℕ) (h : ℕ) → least_hop lengths ≡ Some h
       → (h ≤ 7) × AllDelivered h lengths × ((less : ℕ) → less < h → ¬ AllDelivered less lengths)
   pub least_only : (lengths : List ℕ) (h : ℕ) → h ≤ 7 → AllDelivered h lengths → ((less : ℕ) → less < h → ¬ AllDelivered less lengths)
-      → least_hop lengths ≡ HopLimit h
-  pub unreachable : (lengths : List ℕ) → least_hop lengths ≡ Unreachable → (h : ℕ) → h ≤ 7 → ¬ AllDelivered h lengths
-  pub unreachable_only : (lengths : List ℕ) → ((h : ℕ) → h ≤ 7 → ¬ AllDelivered h lengths) → least_hop lengths ≡ Unreachable
+      → least_hop lengths ≡ Some h
+  pub unreachable : (lengths : List ℕ) → least_hop lengths ≡ None → (h : ℕ) → h ≤ 7 → ¬ AllDelivered h lengths
+  pub unreachable_only : (lengths : List ℕ) → ((h : ℕ) → h ≤ 7 → ¬ AllDelivered h lengths) → least_hop lengths ≡ None
   -- what C gets: 8 exactly if none reaches all, and else the least hop limit
-  pub in_c : (lengths : List ℕ) → least_hop lengths ≡ Unreachable → least_in_c (least_hop lengths) ≡ 8
-  pub in_c_only : (lengths : List ℕ) → least_in_c (least_hop lengths) ≡ 8 → least_hop lengths ≡ Unreachable
-  pub in_c_least : (lengths : List ℕ) (h : ℕ) → least_hop lengths ≡ HopLimit h → least_in_c (least_hop lengths) ≡ h
+  pub in_c : (lengths : List ℕ) → least_hop lengths ≡ None → least_in_c (least_hop lengths) ≡ 8
+  pub in_c_only : (lengths : List ℕ) → least_in_c (least_hop lengths) ≡ 8 → least_hop lengths ≡ None
+  pub in_c_least : (lengths : List ℕ) (h : ℕ) → least_hop lengths ≡ Some h → least_in_c (least_hop lengths) ≡ h
   -- a pair is a sender's place, and then the place of a node that hears it
   pub pair : (is_heard (1 ∷ 2 ∷ []) 1 2 ≡ true) × (is_heard (1 ∷ 2 ∷ []) 2 1 ≡ false)
   -- a node of the model delivers what its function `hear` returns: number 0, and the payload at the place that the answer names, and no other; and it sends

@@ -5,16 +5,15 @@ use mathlib.Core.Bool.{Bool, true, false}
 use mathlib.Core.List.{List, [], ◌∷◌, ◌++◌}
 use mathlib.Core.Logic.{◌⊎◌, inl, inr}
 use mathlib.Core.Path.{◌≡◌, refl, ap, sym, ◌∙◌}
+use Rattle.std.specs.Prelude.{None, Ok}
 use Rattle.octets.specs.Numbers.{◌gives◌, ◌or_else◌}
 use Rattle.octets.specs.Octets.{AllBytes, at}
 use Rattle.pdu.specs.declared.Header.{Header}
-use Rattle.pdu.specs.declared.Sender.TheVariants.{Unknown}
 use Rattle.pdu.specs.Header.{header_of}
 use Rattle.pdu.specs.Reading.{read_of, reading_number}
 use Rattle.pdu.proofs.Inversion.{shown}
 use Rattle.pdu.proofs.Number.{reading_within}
 use Rattle.editions.specs.declared.Shown.{Shown}
-use Rattle.editions.specs.declared.EditionReading.TheVariants.{Pdu}
 use Rattle.editions.specs.Editions.{known, bits_under, shown_with, showing, read_under}
 use Rattle.editions.proofs.Showing.{known_shows, bits_of, bits_of_wire, seen_by}
 use Rattle.lists.specs.Lists.{fault_of, first_fault}
@@ -35,12 +34,12 @@ module _ (node : Node) (unnamed : known node.settings.edition ≡ false) where
   some : ◌≡◌ {A = ℕ} 17 0 → ⊥
   some e = omega arith
 
-  pub hears_17 : (room : ℕ) (received output : List ℕ) → (answer_of node room received ≡ given_twice 17 0 Unknown) × (output_after node received output ≡ output)
+  pub hears_17 : (room : ℕ) (received output : List ℕ) → (answer_of node room received ≡ given_twice 17 0 None) × (output_after node received output ≡ output)
   hears_17 room received output =
       let fault = unknown_fault node unnamed in (fault_answer node 17 some fault received room, fault_output node 17 some fault received output)
 
   pub steps_17 : (room : ℕ) (batch output : List ℕ) (cursor : Cursor) → is_done batch cursor ≡ false
-      → (step_of node room batch cursor ≡ Answered (given_twice 17 0 Unknown) (record { place = cursor.place; ended = true }))
+      → (step_of node room batch cursor ≡ Answered (given_twice 17 0 None) (record { place = cursor.place; ended = true }))
       × (step_output node batch cursor output ≡ output)
   steps_17 room batch output cursor more =
       let fault = unknown_fault node unnamed in let short = unknown_not_long node batch unnamed in
@@ -51,7 +50,7 @@ module _ (node : Node) (unnamed : known node.settings.edition ≡ false) where
   steps_done room batch output cursor = done_step node room batch cursor output (unknown_not_long node batch unnamed)
 
   pub walks_17 : (room byte : ℕ) (bytes : List ℕ)
-      → walk node room (byte ∷ bytes) ≡ record { number = 0; offsets = 0 ∷ []; answers = given_twice 17 0 Unknown ∷ []; end = 0 }
+      → walk node room (byte ∷ bytes) ≡ record { number = 0; offsets = 0 ∷ []; answers = given_twice 17 0 None ∷ []; end = 0 }
   walks_17 room byte bytes =
       fault_walk node 17 some (unknown_fault node unnamed) room byte bytes (unknown_not_long node (byte ∷ bytes) unnamed)
 
@@ -112,8 +111,8 @@ unfolding repeated_header
 same_bits edition header = refl
 
 pub bits_kept : (edition : ℕ) (node : Node) (room : ℕ) (received rest : List ℕ) (seen : Shown) → AllBytes received
-    → read_under edition received ≡ Pdu seen → repeat_number node room received ≡ 0
-    → (again : Shown) × (read_under edition (repeated node.settings.own received ++ rest) ≡ Pdu again) × (again.bits ≡ seen.bits)
+    → read_under edition received ≡ Ok seen → repeat_number node room received ≡ 0
+    → (again : Shown) × (read_under edition (repeated node.settings.own received ++ rest) ≡ Ok again) × (again.bits ≡ seen.bits)
 unfolding shown_with
 bits_kept edition node room received rest seen small is goes =
     let s = seen_by edition received seen is in

@@ -7,6 +7,7 @@ use mathlib.Core.Path.{◌≡◌, refl, ap, sym, ◌∙◌}
 use lib.Dec.{eqb, ltb}
 use lib.ListN.{length, take, drop}
 use borrow.Author.Tests.{ltb-false, eqb-true, not-true}
+use Rattle.std.specs.Prelude.{Ok}
 use Rattle.octets.specs.Numbers.{◌gives◌, ◌or_else◌}
 use Rattle.octets.specs.Octets.{at}
 use Rattle.octets.proofs.Tests.{both}
@@ -15,7 +16,6 @@ use Rattle.pdu.proofs.Inversion.{shown}
 use Rattle.writing.specs.Writing.{header_bytes, encode}
 use Rattle.editions.specs.declared.Bits.{Bits}
 use Rattle.editions.specs.declared.Bits.TheVariants.{Reserved, Flagged}
-use Rattle.editions.specs.declared.EditionReading.TheVariants.{Pdu}
 use Rattle.editions.specs.Editions.{known, shown_with, showing, read_under}
 use Rattle.editions.proofs.Showing.{known_shows, bits_of, bits_of_wire}
 use Rattle.origin.specs.declared.FreshSettings.{FreshSettings}
@@ -81,18 +81,18 @@ module _ (settings : FreshSettings) (payload : List ℕ) (room : ℕ) where
       go false e = refl
 
   pub fresh_12 : (rest : List ℕ) → origination_number settings payload room ≡ 0
-      → read_under 12 (fresh settings payload ++ rest) ≡ Pdu (shown_with (Flagged settings.encrypted 0) (fresh_header settings (length payload)))
+      → read_under 12 (fresh settings payload ++ rest) ≡ Ok (shown_with (Flagged settings.encrypted 0) (fresh_header settings (length payload)))
   unfolding fresh_header
   fresh_12 rest done = read_12 (fresh settings payload ++ rest) (fresh_header settings (length payload)) (fresh_back settings payload room done rest).reads
 
   pub fresh_11 : (rest : List ℕ) → origination_number settings payload room ≡ 0 → settings.edition ≡ 11
-      → read_under 11 (fresh settings payload ++ rest) ≡ Pdu (shown_with (Reserved 0) (fresh_header settings (length payload)))
+      → read_under 11 (fresh settings payload ++ rest) ≡ Ok (shown_with (Reserved 0) (fresh_header settings (length payload)))
   fresh_11 rest done first =
       let bytes = fresh settings payload ++ rest in
       let header = fresh_header settings (length payload) in
       let reads = (fresh_back settings payload room done rest).reads in
       known_shows 11 bytes refl ∙ ap (showing 11 bytes) reads
-      ∙ ap (λ (bits : Bits). Pdu (shown_with bits header))
+      ∙ ap (λ (bits : Bits). Ok (shown_with bits header))
       (bits_of_wire 11 bytes ∙ ap (bits_of 11) (sym (shown bytes header reads).is) ∙ no_bits settings (length payload) (unmarked_11 done first))
 
 module _ (settings : FreshSettings) (payload output : List ℕ) where

@@ -3,8 +3,8 @@ use mathlib.Core.Bool.{true, false}
 use mathlib.Core.List.{[], ◌∷◌}
 use mathlib.Core.Path.{◌≡◌, refl, ap}
 use lib.ListN.{replicate}
+use Rattle.std.specs.Prelude.{None}
 use Rattle.octets.specs.Numbers.{◌gives◌, ◌or_else◌}
-use Rattle.pdu.specs.declared.Sender.TheVariants.{Unknown}
 use Rattle.pdu.specs.Header.{header_of}
 use Rattle.pdu.specs.Reading.{read_of}
 use Rattle.writing.specs.Writing.{header_bytes, path_bytes, encode}
@@ -33,12 +33,12 @@ use Rattle.w209_two_editions.proofs.Relaying.{relays_same}
 
 -- the cases that compute, each by itself
 module _ where
-  fault_after : (answer_of (with_edition 13 at_fault) 100 all_set ≡ given_twice 17 0 Unknown)
-      × (answer_of (with_edition 11 at_fault) 100 all_set ≡ given_twice 21 0 Unknown)
+  fault_after : (answer_of (with_edition 13 at_fault) 100 all_set ≡ given_twice 17 0 None)
+      × (answer_of (with_edition 11 at_fault) 100 all_set ≡ given_twice 21 0 None)
   unfolding answer_of delivery_number repeat_number stop_fault node_or_reading_fault node_fault first_fault fault_of taken heard_from ◌gives◌ ◌or_else◌
   fault_after = (refl, refl)
 
-  limit_after : ((walk (with_edition 13 at2000) 100 too_long).answers ≡ given_twice 17 0 Unknown ∷ []) × ((walk (with_edition 11 at2000) 100 too_long).number ≡ 54)
+  limit_after : ((walk (with_edition 13 at2000) 100 too_long).answers ≡ given_twice 17 0 None ∷ []) × ((walk (with_edition 11 at2000) 100 too_long).number ≡ 54)
   unfolding walk
   limit_after = (ap (λ (w : Walk). w.answers) (walks_17 (with_edition 13 at2000) refl 100 0 (replicate 16384 0)), refl)
 
@@ -108,7 +108,7 @@ two_editions =
       in_c_whole = refl;
       numbers = λ seen number. (refl, refl);
       path_of = (refl, refl, refl, refl);
-      view_invented = (refl, refl, refl, refl, refl, refl, refl);
+      view_invented = (_, refl, refl, refl, refl, refl, refl, refl);
       node_in_c = λ node. refl;
       fresh_in_c = λ settings. (refl, refl, refl, refl, refl, refl, refl, refl, refl, refl);
       in_c_11 = (refl, refl, refl);

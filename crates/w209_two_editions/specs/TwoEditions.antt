@@ -1,21 +1,20 @@
 -- Document 02, W-209, as one record; `proofs/TwoEditions.antt` gives it from its parts. `edition` is any number that a caller gives for one. What holds under
 -- both editions is stated once, with that number as a variable.
+use Rattle.std.specs.Prelude.{Ok, Err, None, Some}
 use Rattle.std.specs.Prelude.{ℕ, ◌+◌, ◌/◌, ◌%◌, ◌<◌, ◌≤◌, Bool, true, false, cond, ◌&&◌, List, [], ◌∷◌, ◌++◌, map, ◌⊎◌, ◌≡◌, eqb, length, take, drop, replicate}
 use Rattle.octets.specs.Octets.{AllBytes, at, over}
 use Rattle.pdu.specs.declared.Destination.TheVariants.{Everyone, Address}
-use Rattle.pdu.specs.declared.Extent.{Extent}
 use Rattle.pdu.specs.declared.Header.{Header}
-use Rattle.pdu.specs.declared.Reading.TheVariants as wire
 use Rattle.pdu.specs.declared.Refusal.{Refusal}
-use Rattle.pdu.specs.declared.Sender.TheVariants.{Unknown, Known}
 use Rattle.pdu.specs.Sizes.{destination_flag, pdu_length}
 use Rattle.pdu.specs.Reading.{read_of, refusal_number}
 use Rattle.editions.specs.declared.Bits.{Bits}
 use Rattle.editions.specs.declared.Bits.TheVariants.{Reserved, Flagged}
 use Rattle.editions.specs.declared.Shown.{Shown}
-use Rattle.editions.specs.declared.EditionReading.TheVariants.{Pdu, Refused}
 use Rattle.editions.specs.Editions.{known, bits_under, shown_with, read_under, shown_number, wire_of, write_again_under, written_again_under}
-use Rattle.view.specs.View.{no_summary, path_address_in, path_has, summary_at}
+use Rattle.view.specs.declared.Span.{Span}
+use Rattle.view.specs.declared.Summary.{Summary}
+use Rattle.view.specs.View.{path_address_in, path_has, summary_at}
 use Rattle.origin.specs.declared.FreshSettings.{FreshSettings}
 use Rattle.origin.specs.Origination.{fresh_header, fresh, origination_number, originated, originated_output}
 use Rattle.list_block.specs.Laying.{eight}
@@ -59,9 +58,9 @@ every_field =
 abbrev pub all_set : List ℕ
 all_set = 0x00 ∷ 0x0E ∷ 0x00 ∷ 0x00 ∷ 0x00 ∷ 0x05 ∷ []
 
--- an extent that no PDU of theirs has, with that number
-abbrev pub extent_with : ℕ → Extent
-extent_with number = record { number = number; path_count = 2; payload_length = 3; header_length = 1; pdu_length = 9 }
+-- a span that no PDU of theirs has, with that number
+abbrev pub span_with : ℕ → Span
+span_with number = record { number = number; path_count = 2; payload_length = 3; header_length = 1; pdu_length = 9 }
 
 -- a batch one byte longer than a batch may be; a node with no list chosen, and one whose first source pass list has one value, which is fault 21
 abbrev pub too_long : List ℕ
@@ -95,45 +94,45 @@ pub record TwoEditions : Type 0 where
   pub two : (known 11 ≡ true) × (known 12 ≡ true)
   pub only_two : (edition : ℕ) → known edition ≡ true → (edition ≡ 11) ⊎ (edition ≡ 12)
   -- reading: 17 for exactly those, before 1 to 6
-  pub read_17 : (edition : ℕ) (bytes : List ℕ) → known edition ≡ false → read_under edition bytes ≡ Refused 17
-  pub read_17_only : (edition : ℕ) (bytes : List ℕ) → read_under edition bytes ≡ Refused 17 → known edition ≡ false
-  pub read_refused : (edition : ℕ) (bytes : List ℕ) (refusal : Refusal) → known edition ≡ true → read_of bytes ≡ wire.Refused refusal
-      → read_under edition bytes ≡ Refused (refusal_number refusal)
+  pub read_17 : (edition : ℕ) (bytes : List ℕ) → known edition ≡ false → read_under edition bytes ≡ Err 17
+  pub read_17_only : (edition : ℕ) (bytes : List ℕ) → read_under edition bytes ≡ Err 17 → known edition ≡ false
+  pub read_refused : (edition : ℕ) (bytes : List ℕ) (refusal : Refusal) → known edition ≡ true → read_of bytes ≡ Err refusal
+      → read_under edition bytes ≡ Err (refusal_number refusal)
   -- 1.1 shows one reserved number, 0 to 7, and no flag; 1.2 the flag and a reserved number, 0 to 3; the other fields are the wire's in both
-  pub read_11 : (bytes : List ℕ) (header : Header) → read_of bytes ≡ wire.Pdu header
-      → read_under 11 bytes ≡ Pdu (shown_with (Reserved (at bytes 1 / 2 % 8)) header)
-  pub read_12 : (bytes : List ℕ) (header : Header) → read_of bytes ≡ wire.Pdu header
-      → read_under 12 bytes ≡ Pdu (shown_with (Flagged header.encrypted header.reserved) header)
-  pub shown_as_11 : (bytes : List ℕ) (shown : Shown) → read_under 11 bytes ≡ Pdu shown → (number : ℕ) × (shown.bits ≡ Reserved number) × (number ≤ 7)
-  pub shown_as_12 : (bytes : List ℕ) (shown : Shown) → read_under 12 bytes ≡ Pdu shown
+  pub read_11 : (bytes : List ℕ) (header : Header) → read_of bytes ≡ Ok header
+      → read_under 11 bytes ≡ Ok (shown_with (Reserved (at bytes 1 / 2 % 8)) header)
+  pub read_12 : (bytes : List ℕ) (header : Header) → read_of bytes ≡ Ok header
+      → read_under 12 bytes ≡ Ok (shown_with (Flagged header.encrypted header.reserved) header)
+  pub shown_as_11 : (bytes : List ℕ) (shown : Shown) → read_under 11 bytes ≡ Ok shown → (number : ℕ) × (shown.bits ≡ Reserved number) × (number ≤ 7)
+  pub shown_as_12 : (bytes : List ℕ) (shown : Shown) → read_under 12 bytes ≡ Ok shown
       → (encrypted : Bool) × (number : ℕ) × (shown.bits ≡ Flagged encrypted number) × (number ≤ 3)
   -- what is shown under an edition is all that the wire says
-  pub shows_the_wire : (edition : ℕ) (bytes : List ℕ) (shown : Shown) → read_under edition bytes ≡ Pdu shown → read_of bytes ≡ wire.Pdu (wire_of shown)
+  pub shows_the_wire : (edition : ℕ) (bytes : List ℕ) (shown : Shown) → read_under edition bytes ≡ Ok shown → read_of bytes ≡ Ok (wire_of shown)
   -- so what is read under an edition and written again under it is the same bytes; with a refusal of reading, and then with 14, nothing is written
-  pub same_bytes : (edition : ℕ) (bytes output : List ℕ) (shown : Shown) → AllBytes bytes → read_under edition bytes ≡ Pdu shown
+  pub same_bytes : (edition : ℕ) (bytes output : List ℕ) (shown : Shown) → AllBytes bytes → read_under edition bytes ≡ Ok shown
       → pdu_length (wire_of shown) ≤ length output
       → (write_again_under edition bytes (length output) ≡ record { number = 0; length = pdu_length (wire_of shown) })
       × (written_again_under edition bytes output ≡ over (take (pdu_length (wire_of shown)) bytes) output)
-  pub not_read : (edition : ℕ) (bytes output : List ℕ) (number : ℕ) → read_under edition bytes ≡ Refused number
+  pub not_read : (edition : ℕ) (bytes output : List ℕ) (number : ℕ) → read_under edition bytes ≡ Err number
       → (write_again_under edition bytes (length output) ≡ record { number = number; length = 0 }) × (written_again_under edition bytes output ≡ output)
-  pub no_room : (edition : ℕ) (bytes output : List ℕ) (shown : Shown) → read_under edition bytes ≡ Pdu shown
+  pub no_room : (edition : ℕ) (bytes output : List ℕ) (shown : Shown) → read_under edition bytes ≡ Ok shown
       → length output < pdu_length (wire_of shown)
       → (write_again_under edition bytes (length output) ≡ record { number = 14; length = 0 }) × (written_again_under edition bytes output ≡ output)
   -- a node: 17 twice for exactly those editions, whatever its lists and the bytes are; nothing is taken and the output stays as it was
   pub hears_17 : (node : Node) (room : ℕ) (received output : List ℕ) → known node.settings.edition ≡ false
-      → (answer_of node room received ≡ given_twice 17 0 Unknown) × (output_after node received output ≡ output)
+      → (answer_of node room received ≡ given_twice 17 0 None) × (output_after node received output ≡ output)
   pub hears_17_only : (node : Node) (room : ℕ) (received : List ℕ)
       → ((answer_of node room received).delivery ≡ 17) ⊎ ((answer_of node room received).repeat ≡ 17) → known node.settings.edition ≡ false
   -- a step: 17 ends the walk at the same place, also where the batch is too long; a cursor that is done has no answer
   pub steps_17 : (node : Node) (room : ℕ) (batch output : List ℕ) (cursor : Cursor) → known node.settings.edition ≡ false
       → is_done batch cursor ≡ false
-      → (step_of node room batch cursor ≡ Answered (given_twice 17 0 Unknown) (record { place = cursor.place; ended = true }))
+      → (step_of node room batch cursor ≡ Answered (given_twice 17 0 None) (record { place = cursor.place; ended = true }))
       × (step_output node batch cursor output ≡ output)
   pub steps_done : (node : Node) (room : ℕ) (batch output : List ℕ) (cursor : Cursor) → known node.settings.edition ≡ false
       → is_done batch cursor ≡ true → (step_of node room batch cursor ≡ Ended) × (step_output node batch cursor output ≡ output)
   -- the whole walk: 17 is its only answer; an empty batch has none, whatever the edition
   pub walks_17 : (node : Node) (room byte : ℕ) (bytes : List ℕ) → known node.settings.edition ≡ false
-      → walk node room (byte ∷ bytes) ≡ record { number = 0; offsets = 0 ∷ []; answers = given_twice 17 0 Unknown ∷ []; end = 0 }
+      → walk node room (byte ∷ bytes) ≡ record { number = 0; offsets = 0 ∷ []; answers = given_twice 17 0 None ∷ []; end = 0 }
   pub walks_empty : (node : Node) (room : ℕ) → walk node room [] ≡ record { number = 0; offsets = []; answers = []; end = 0 }
   -- repeating is byte for byte the same under both: only that check, and 54 after it, read the edition, and under two that are known a node has the same
   -- answer, output, step and walk
@@ -144,8 +143,8 @@ pub record TwoEditions : Type 0 where
       × (walk a room batch ≡ walk b room batch)
   -- and the three bits of a repeat show as those received, whatever follows it and whichever edition the reader has
   pub bits_kept : (edition : ℕ) (node : Node) (room : ℕ) (received rest : List ℕ) (shown : Shown) → AllBytes received
-      → read_under edition received ≡ Pdu shown → repeat_number node room received ≡ 0
-      → (again : Shown) × (read_under edition (repeated node.settings.own received ++ rest) ≡ Pdu again) × (again.bits ≡ shown.bits)
+      → read_under edition received ≡ Ok shown → repeat_number node room received ≡ 0
+      → (again : Shown) × (read_under edition (repeated node.settings.own received ++ rest) ≡ Ok again) × (again.bits ≡ shown.bits)
   -- origination: 17 for exactly those editions, before 10 to 13; 16 where 1.1 is asked for the flag, after 13 and before 14, and nowhere else
   pub originated_17 : (settings : FreshSettings) (payload output : List ℕ) → known settings.edition ≡ false
       → (originated settings payload (length output) ≡ record { number = 17; length = 0 }) × (originated_output settings payload output ≡ output)
@@ -167,9 +166,9 @@ pub record TwoEditions : Type 0 where
       × (fresh (set_to 12 true settings) payload ≡ take 1 plain ++ (at plain 1 + 8) ∷ drop 2 plain)
   -- what was originated shows the flag as it was set under 1.2, and no reserved bit under 1.1
   pub fresh_12 : (settings : FreshSettings) (payload rest : List ℕ) (room : ℕ) → origination_number settings payload room ≡ 0
-      → read_under 12 (fresh settings payload ++ rest) ≡ Pdu (shown_with (Flagged settings.encrypted 0) (fresh_header settings (length payload)))
+      → read_under 12 (fresh settings payload ++ rest) ≡ Ok (shown_with (Flagged settings.encrypted 0) (fresh_header settings (length payload)))
   pub fresh_11 : (settings : FreshSettings) (payload rest : List ℕ) (room : ℕ) → origination_number settings payload room ≡ 0 → settings.edition ≡ 11
-      → read_under 11 (fresh settings payload ++ rest) ≡ Pdu (shown_with (Reserved 0) (fresh_header settings (length payload)))
+      → read_under 11 (fresh settings payload ++ rest) ≡ Ok (shown_with (Reserved 0) (fresh_header settings (length payload)))
   -- II. CASE BY CASE, what the definitions say
   -- a header as it is shown: the three bits, and the other fields as the wire has them
   pub fields : (bits : Bits) (header : Header) → let shown = shown_with bits header in
@@ -179,7 +178,7 @@ pub record TwoEditions : Type 0 where
       × (shown.payload_length ≡ header.payload_length) × (shown.source ≡ header.source) × (shown.destination ≡ header.destination)
       × (shown.pdu_id ≡ header.pdu_id) × (shown.path_count ≡ header.path_count)
   -- the number of what reading under an edition shows
-  pub numbers : (shown : Shown) (number : ℕ) → (shown_number (Pdu shown) ≡ 0) × (shown_number (Refused number) ≡ number)
+  pub numbers : (shown : Shown) (number : ℕ) → (shown_number (Ok shown) ≡ 0) × (shown_number (Err number) ≡ number)
   -- III. BESIDE OTHER REQUESTS, AND IN C
   -- `relay`, whose edition is 1.2, prints the same under both
   pub relay_edition : (bytes : List ℕ) (job : Job) → (node_in bytes job).settings.edition ≡ 12
@@ -187,15 +186,15 @@ pub record TwoEditions : Type 0 where
       → batch_lines (with_edition edition node) batch ≡ batch_lines (with_edition other node) batch
   -- W-201: with 17 nothing is counted
   pub counts_nothing : (received memory : List ℕ)
-      → (answer_number (given_twice 17 0 Unknown) received memory ≡ 0) × (memory_after_answer (given_twice 17 0 Unknown) received memory ≡ memory)
+      → (answer_number (given_twice 17 0 None) received memory ≡ 0) × (memory_after_answer (given_twice 17 0 None) received memory ≡ memory)
   -- C's header has the flag only where the edition shows one, and a reserved number as it shows it; with a refusal, neither and no length; a node's
   -- edition, and every setting of a fresh PDU, are those that C gives; a destination only with its flag
-  pub in_c_reserved : (shown : Shown) (bytes : List ℕ) (number : ℕ) → shown.bits ≡ Reserved number → let header = header_in_c (Pdu shown) bytes in
+  pub in_c_reserved : (shown : Shown) (bytes : List ℕ) (number : ℕ) → shown.bits ≡ Reserved number → let header = header_in_c (Ok shown) bytes in
       (header.number ≡ 0) × (header.has_encrypted ≡ false) × (header.encrypted ≡ false) × (header.reserved ≡ number)
   pub in_c_flagged : (shown : Shown) (bytes : List ℕ) (encrypted : Bool) (number : ℕ) → shown.bits ≡ Flagged encrypted number
-      → let header = header_in_c (Pdu shown) bytes in
+      → let header = header_in_c (Ok shown) bytes in
       (header.number ≡ 0) × (header.has_encrypted ≡ true) × (header.encrypted ≡ encrypted) × (header.reserved ≡ number)
-  pub in_c_refused : (number : ℕ) (bytes : List ℕ) → header_in_c (Refused number) bytes
+  pub in_c_refused : (number : ℕ) (bytes : List ℕ) → header_in_c (Err number) bytes
       ≡ record {
         number = number;
         protocol = 0;
@@ -237,9 +236,9 @@ pub record TwoEditions : Type 0 where
       ≡ Flagged false 0 ∷ Flagged false 1 ∷ Flagged false 2 ∷ Flagged false 3 ∷ Flagged true 0 ∷ Flagged true 1 ∷ Flagged true 2 ∷ Flagged true 3 ∷ [])
   pub neighbours_not_shown : (bits_under 11 0xF1 ≡ Reserved 0) × (bits_under 12 0xF1 ≡ Flagged false 0)
   -- 17 before the lists, and before 54
-  pub before_lists : (answer_of (with_edition 13 at_fault) 100 all_set ≡ given_twice 17 0 Unknown)
-      × (answer_of (with_edition 11 at_fault) 100 all_set ≡ given_twice 21 0 Unknown)
-  pub before_54 : ((walk (with_edition 13 at2000) 100 too_long).answers ≡ given_twice 17 0 Unknown ∷ []) × ((walk (with_edition 11 at2000) 100 too_long).number ≡ 54)
+  pub before_lists : (answer_of (with_edition 13 at_fault) 100 all_set ≡ given_twice 17 0 None)
+      × (answer_of (with_edition 11 at_fault) 100 all_set ≡ given_twice 21 0 None)
+  pub before_54 : ((walk (with_edition 13 at2000) 100 too_long).answers ≡ given_twice 17 0 None ∷ []) × ((walk (with_edition 11 at2000) 100 too_long).number ≡ 54)
   -- the order of origination's numbers; the flag as it is written; what C sees of three bits that are all set
   pub order : (origination_number (settings_for 13 true 8 true) [] 0 ≡ 17) × (origination_number (settings_for 11 true 8 true) [] 0 ≡ 10)
       × (origination_number (settings_for 11 true 7 true) [] 0 ≡ 13) × (origination_number (settings_for 11 true 7 false) [] 0 ≡ 16)
@@ -273,11 +272,11 @@ pub record TwoEditions : Type 0 where
         header_length = 12;
         pdu_length = 14;
       }
-  -- its path; and a view of it with an extent that is not its own, and no number, then one with a number
+  -- its path; and a view of it with a span that is not its own, and no number, then one with a number
   pub path_of : (path_address_in (read_of every_field) every_field 0 ≡ 2000) × (path_address_in (read_of every_field) every_field 1 ≡ 0)
       × (path_has (read_of every_field) every_field 2000 ≡ true) × (path_has (read_of every_field) every_field 1000 ≡ false)
-  pub view_invented : let summary = summary_at every_field (extent_with 0) 12 in
-      (summary.number ≡ 0) × (summary.header.path_count ≡ 2) × (summary.header.payload_length ≡ 2) × (summary.last_sender ≡ Known 0xAABB)
-      × (summary.header_length ≡ 1) × (summary.pdu_length ≡ 9) × (summary_at every_field (extent_with 77) 12 ≡ no_summary 77)
+  pub view_invented : (summary : Summary) × (summary_at every_field (span_with 0) 12 ≡ Ok summary)
+      × (summary.header.path_count ≡ 2) × (summary.header.payload_length ≡ 2) × (summary.last_sender ≡ Some 0xAABB)
+      × (summary.header_length ≡ 1) × (summary.pdu_length ≡ 9) × (summary_at every_field (span_with 77) 12 ≡ Err 77)
   pub in_c_12 : let header = header_in_c (read_under 12 all_set) all_set in
       (header.has_encrypted ≡ true) × (header.encrypted ≡ true) × (header.reserved ≡ 3)

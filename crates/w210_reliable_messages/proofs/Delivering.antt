@@ -7,6 +7,7 @@ use mathlib.Core.Path.{◌≡◌, refl, sym, ◌∙◌, ap}
 use lib.Dec.{eqb}
 use lib.ListN.{length, set}
 use borrow.Author.Tests.{eqb-true, eq-eqb, ne_eqb, not-true, not-false}
+use Rattle.std.specs.Prelude.{Ok}
 use Rattle.octets.specs.Numbers.{◌gives◌, ◌or_else◌}
 use Rattle.octets.specs.Octets.{at, word_at, over}
 use Rattle.octets.proofs.Numbering.{or_else_zero, gives_zero, gives_here, or_else_later}
@@ -14,7 +15,6 @@ use Rattle.octets.proofs.Tests.{both}
 use Rattle.pdu.specs.declared.Destination.{Destination}
 use Rattle.pdu.specs.declared.Destination.TheVariants.{Everyone, Address}
 use Rattle.pdu.specs.declared.Header.{Header}
-use Rattle.pdu.specs.declared.Reading.TheVariants.{Pdu}
 use Rattle.pdu.specs.Header.{is_set, protocol, destination_bit, destination_place, header_of}
 use Rattle.pdu.specs.Sizes.{pdu_length}
 use Rattle.pdu.specs.Reading.{read_of, reading_number}
@@ -111,7 +111,7 @@ refusal table last own delivery sending received output =
     by false d c f = (refl, refl, refl)
 
 -- a PDU of protocol 1 that reads has a destination
-destined : (received : List ℕ) → read_of received ≡ Pdu (header_of received) → (header_of received).protocol ≡ 1
+destined : (received : List ℕ) → read_of received ≡ Ok (header_of received) → (header_of received).protocol ≡ 1
     → (header_of received).destination ≡ Address (word_at received destination_place)
 unfolding header_of
 destined received r p = by (is_set (destination_bit (at received 0)))
@@ -137,7 +137,7 @@ module _ (node : Node) (room : ℕ) (received : List ℕ) where
     unfolding delivery_number
     passed = (or_else_zero (stop_fault node room received) _ e).0
 
-    pub reads : read_of received ≡ Pdu (header_of received)
+    pub reads : read_of received ≡ Ok (header_of received)
     unfolding stop_fault node_or_reading_fault
     reads = read_0 received (or_else_zero (node_fault node) _ (or_else_zero (node_fault node or_else reading_number (read_of received)) _ passed).0).1
 

@@ -1,9 +1,8 @@
 -- Document 02, W-210, as one record; `proofs/ReliableMessages.antt` gives it from its parts. "Any table" is any records, put together by hand or not.
-use Rattle.std.specs.Prelude.{ℕ, ◌+◌, ◌*◌, ◌<◌, ◌≤◌, Bool, true, false, ◌⊎◌, ◌≡◌, length, set}
+use Rattle.std.specs.Prelude.{ℕ, ◌+◌, ◌*◌, ◌<◌, ◌≤◌, Bool, true, false, ◌⊎◌, ◌≡◌, length, set, Ok}
 use mathlib.Core.List.{List, [], ◌∷◌, ◌++◌, Nodup}
 use Rattle.octets.specs.Octets.{AllBytes, over}
 use Rattle.pdu.specs.declared.Destination.TheVariants.{Address}
-use Rattle.pdu.specs.declared.Reading.TheVariants.{Pdu}
 use Rattle.pdu.specs.Header.{header_of, source_of}
 use Rattle.pdu.specs.Sizes.{path_entries, pdu_length}
 use Rattle.pdu.specs.Reading.{read_of, exactly_one}
@@ -57,7 +56,7 @@ Receives node table last sending received output outcome after left =
 -- what is asked of bytes and of the number for delivery that come with them
 abbrev pub DeliveredHere : ℕ → ℕ → List ℕ → Bool → Type 0
 DeliveredHere own delivery received ack =
-    (delivery ≡ 0) × (read_of received ≡ Pdu (header_of received)) × ((header_of received).protocol ≡ 1) × ((header_of received).destination ≡ Address own)
+    (delivery ≡ 0) × (read_of received ≡ Ok (header_of received)) × ((header_of received).protocol ≡ 1) × ((header_of received).destination ≡ Address own)
     × ((header_of received).added_header ≡ false) × ((header_of received).ack ≡ ack)
 
 -- a node delivers a PDU of protocol 1, with ACK set or clear
@@ -142,7 +141,7 @@ pub record ReliableMessages : Type 0 where
       → SamePdu (repeated node.settings.own received ++ rest) received
   -- an acknowledgement reads back as it was made, whatever bytes follow
   pub reads_back : (sending : Sending) (names : Names) → sending.hop_limit ≤ 7 → sending.port ≤ 15 → (rest : List ℕ)
-      → (read_of (acknowledgement sending names ++ rest) ≡ Pdu (ack_header sending names))
+      → (read_of (acknowledgement sending names ++ rest) ≡ Ok (ack_header sending names))
       × (names_of (acknowledgement sending names ++ rest) ≡ exchanged names)
   -- its bytes: those of a fresh reliable PDU, empty, not encrypted, back to the source with the same ID, but for ACK, the lowest bit of byte 1
   pub reply_is : (s : FreshSettings) (names : Names) → s.reliable ≡ true → s.encrypted ≡ false → s.source ≡ names.destination

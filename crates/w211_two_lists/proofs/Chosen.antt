@@ -10,7 +10,6 @@ use lib.ListN.{get_or, length, take, drop}
 use lib.Seq.{take_at, drop_at}
 use borrow.Author.Tests.{eqb-true, eqb-false}
 use Rattle.octets.specs.Octets.{over}
-use Rattle.pdu.specs.declared.Sender.TheVariants.{Unknown}
 use Rattle.editions.specs.Editions.{known}
 use Rattle.lists.specs.declared.ListFault.{ListFault}
 use Rattle.lists.specs.Lists.{Lists, list_fault, fault_and_list, lists_in, laid}

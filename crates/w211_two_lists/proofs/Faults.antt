@@ -8,9 +8,9 @@ use mathlib.Core.Path.{◌≡◌, refl, ap, sym, ◌∙◌}
 use lib.Dec.{eqb}
 use lib.ListN.{length}
 use borrow.Author.Tests.{eqb-true, eqb-false, lt-ltb, le-leb, lt-leb}
+use Rattle.std.specs.Prelude.{None}
 use Rattle.octets.specs.Numbers.{◌gives◌, ◌or_else◌}
 use Rattle.octets.proofs.Numbering.{or_else_later}
-use Rattle.pdu.specs.declared.Sender.TheVariants.{Unknown}
 use Rattle.pdu.specs.Header.{header_of}
 use Rattle.pdu.specs.Reading.{read_of, reading_number}
 use Rattle.pdu.proofs.Number.{reading_within}
@@ -65,7 +65,7 @@ module _ (node : Node) (room : ℕ) (received : List ℕ) where
         holds_repeat Other (λ a b. omega arith) node room received stop_other (λ a b. omega arith) (λ a b. omega arith) (λ a b. omega arith)
         (λ a b. omega arith) (omega arith) (omega arith)
 
-  twice_given : (n number : ℕ) → answer_of node room received ≡ given_twice n 0 Unknown → Gives node room received number → n ≡ number
+  twice_given : (n number : ℕ) → answer_of node room received ≡ given_twice n 0 None → Gives node room received number → n ≡ number
   twice_given n number is (inl d) = sym (ap (λ (a : Answer). a.delivery) is) ∙ d
   twice_given n number is (inr r) = sym (ap (λ (a : Answer). a.repeat) is) ∙ r
 
@@ -89,13 +89,13 @@ module _ (node : Node) (named : known node.settings.edition ≡ true) (some : li
   n = list_fault node.lists
 
   pub at_fault : (room : ℕ) (received output : List ℕ)
-      → (answer_of node room received ≡ given_twice (list_fault node.lists) 0 Unknown) × (output_after node received output ≡ output)
+      → (answer_of node room received ≡ given_twice (list_fault node.lists) 0 None) × (output_after node received output ≡ output)
   at_fault room received output =
       (fault_answer node n some (known_fault node named) received room, fault_output node n some (known_fault node named) received output)
 
   pub step_at_fault : (room : ℕ) (batch output : List ℕ) (place : ℕ) → length batch ≤ batch_limit → place < length batch
       → (step_of node room batch (record { place = place; ended = false })
-      ≡ Answered (given_twice (list_fault node.lists) 0 Unknown) (record { place = place; ended = true }))
+      ≡ Answered (given_twice (list_fault node.lists) 0 None) (record { place = place; ended = true }))
       × (step_output node batch (record { place = place; ended = false }) output ≡ output)
   step_at_fault room batch output place short within =
       let cursor : Cursor = record { place = place; ended = false } in
@@ -105,7 +105,7 @@ module _ (node : Node) (named : known node.settings.edition ≡ true) (some : li
       )
 
   pub walk_at_fault : (room byte : ℕ) (bytes : List ℕ) → length (byte ∷ bytes) ≤ batch_limit
-      → walk node room (byte ∷ bytes) ≡ record { number = 0; offsets = 0 ∷ []; answers = given_twice (list_fault node.lists) 0 Unknown ∷ []; end = 0 }
+      → walk node room (byte ∷ bytes) ≡ record { number = 0; offsets = 0 ∷ []; answers = given_twice (list_fault node.lists) 0 None ∷ []; end = 0 }
   walk_at_fault room byte bytes short = fault_walk node n some (known_fault node named) room byte bytes (not_too_long node (byte ∷ bytes) short)
 
 -- before it

@@ -1,11 +1,10 @@
 -- Document 02, W-211, as one record; `proofs/TwoLists.antt` gives it from its parts. Demands 1 to 3 are about the node that is meant here.
-use Rattle.std.specs.Prelude.{ℕ, ◌/◌, ◌%◌, ◌<◌, ◌≤◌, true, false, not, cond, List, [], ◌∷◌, ◌⊎◌, ◌≡◌, eqb, length, take, drop, replicate}
+use Rattle.std.specs.Prelude.{ℕ, ◌/◌, ◌%◌, ◌<◌, ◌≤◌, true, false, not, cond, List, [], ◌∷◌, ◌⊎◌, ◌≡◌, eqb, length, take, drop, replicate, None}
 use Rattle.std.proofs.Math.Option.{Option, none, some}
 use Rattle.octets.specs.Numbers.{◌gives◌, ◌or_else◌}
 use Rattle.octets.specs.Octets.{over}
 use Rattle.pdu.specs.declared.Destination.TheVariants.{Everyone, Address}
 use Rattle.pdu.specs.declared.Header.{Header}
-use Rattle.pdu.specs.declared.Sender.TheVariants.{Unknown}
 use Rattle.editions.specs.Editions.{known}
 use Rattle.lists.specs.declared.ListFault.{ListFault}
 use Rattle.lists.specs.Lists.{fault_of, holds, two, Lists, in_order, list_fault, fault_and_list, lists_in, laid}
@@ -59,7 +58,7 @@ pub record TwoLists : Type 0 where
       (lists.source_pass ≡ two a b) × (lists.source_reject ≡ two c d) × (lists.destination_pass ≡ two e f) × (lists.destination_reject ≡ two g h)
   -- a fault is given whatever is chosen, as both numbers, with nothing taken and the output as it was; 20 to 22 are given for that alone
   pub at_fault : (settings : Settings) (lists : Lists) (room : ℕ) (received output : List ℕ) → known settings.edition ≡ true → (list_fault lists ≡ 0 → ⊥)
-      → (answer_of (node_of settings lists) room received ≡ given_twice (list_fault lists) 0 Unknown)
+      → (answer_of (node_of settings lists) room received ≡ given_twice (list_fault lists) 0 None)
       × (output_after (node_of settings lists) received output ≡ output)
   pub at_fault_only : (node : Node) (room : ℕ) (received : List ℕ) (number : ℕ) → 20 ≤ number → number ≤ 22
       → ((answer_of node room received).delivery ≡ number) ⊎ ((answer_of node room received).repeat ≡ number)
@@ -106,12 +105,12 @@ pub record TwoLists : Type 0 where
   pub step_at_fault : (settings : Settings) (lists : Lists) (room : ℕ) (batch output : List ℕ) (place : ℕ) → known settings.edition ≡ true
       → (list_fault lists ≡ 0 → ⊥) → length batch ≤ batch_limit → place < length batch
       → (step_of (node_of settings lists) room batch (record { place = place; ended = false })
-      ≡ Answered (given_twice (list_fault lists) 0 Unknown) (record { place = place; ended = true }))
+      ≡ Answered (given_twice (list_fault lists) 0 None) (record { place = place; ended = true }))
       × (step_output (node_of settings lists) batch (record { place = place; ended = false }) output ≡ output)
   pub walk_at_fault : (settings : Settings) (lists : Lists) (room byte : ℕ) (bytes : List ℕ) → known settings.edition ≡ true
       → (list_fault lists ≡ 0 → ⊥) → length (byte ∷ bytes) ≤ batch_limit
       → walk (node_of settings lists) room (byte ∷ bytes)
-      ≡ record { number = 0; offsets = 0 ∷ []; answers = given_twice (list_fault lists) 0 Unknown ∷ []; end = 0 }
+      ≡ record { number = 0; offsets = 0 ∷ []; answers = given_twice (list_fault lists) 0 None ∷ []; end = 0 }
   pub after_54 : (node : Node) (room : ℕ) (batch output : List ℕ) (cursor : Cursor) → known node.settings.edition ≡ true → batch_limit < length batch
       → (step_of node room batch cursor ≡ TooLong) × (step_output node batch cursor output ≡ output) × (walk node room batch ≡ ending_at 54 0)
   pub after_the_end : (node : Node) (room : ℕ) (batch output : List ℕ) (cursor : Cursor) → length batch ≤ batch_limit
@@ -149,9 +148,9 @@ pub record TwoLists : Type 0 where
   pub step_in_c_lem : (cursor next : Cursor) (answer : Answer)
       → (step_in_c cursor (Answered answer next) ≡ record { kind = 0; answer = answer_in_c answer; next = next })
       × (step_in_c cursor Ended
-      ≡ record { kind = 1; answer = answer_in_c (given_twice (alone_in_c NoAnswer) 0 Unknown); next = record { place = cursor.place; ended = true } })
+      ≡ record { kind = 1; answer = answer_in_c (given_twice (alone_in_c NoAnswer) 0 None); next = record { place = cursor.place; ended = true } })
       × (step_in_c cursor TooLong
-      ≡ record { kind = 2; answer = answer_in_c (given_twice 54 0 Unknown); next = record { place = cursor.place; ended = true } })
+      ≡ record { kind = 2; answer = answer_in_c (given_twice 54 0 None); next = record { place = cursor.place; ended = true } })
       × (alone_in_c NoAnswer ≡ 255)
   pub heard_in_c : (node : Node) (received output left : List ℕ) (returned : MantAnswer) → HearsInC node received output returned left
       → (returned ≡ answer_in_c (answer_of node (length output) received)) × (left ≡ output_after node received output)
@@ -175,8 +174,8 @@ pub record TwoLists : Type 0 where
       × (number_by seconds_pass Neither Neither First Neither ≡ 33) × (number_by seconds_pass Neither Neither Neither First ≡ 34)
   -- chosen and empty is on and empty; the fault of a list that is not chosen is found
   pub empty_chosen : (by_empty First ≡ 31) × (by_empty Second ≡ 31) × (by_empty Neither ≡ 39)
-  pub not_chosen_found : (beside_odd First ≡ given_twice 21 0 Unknown) × (beside_odd Second ≡ given_twice 21 0 Unknown)
-      × (beside_odd Neither ≡ given_twice 21 0 Unknown)
+  pub not_chosen_found : (beside_odd First ≡ given_twice 21 0 None) × (beside_odd Second ≡ given_twice 21 0 None)
+      × (beside_odd Neither ≡ given_twice 21 0 None)
   -- one node changed over to the first lists, to the second, and by a number that 8 bits would cut to 1
   pub changed_over_lem : (example_number_at (node_from_c (changed_over node_in_c 1)) firsts_pass ≡ 39)
       × (example_number_at (node_from_c (changed_over node_in_c 2)) firsts_pass ≡ 31)

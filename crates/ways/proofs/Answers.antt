@@ -1,24 +1,24 @@
 -- The answers. Assumes nothing.
 use mathlib.Core.Path.{◌≡◌, refl, sym, ap, subst, ◌∙◌}
 use mathlib.Core.Logic.{◌≢◌}
-use mathlib.Core.Bool.{Bool, true, false, not, cond, ◌&&◌, and-false}
+use mathlib.Core.Bool.{Bool, true, false, not, cond}
 use mathlib.Core.List.{List, [], ◌∷◌, ◌++◌}
-use Prim.Native.Nat.{ℕ, zero, suc, ◌+◌, ◌*◌, ◌≤◌, ◌<◌, min}
+use Prim.Native.Nat.{ℕ, zero, suc, ◌*◌, ◌≤◌, ◌<◌, min}
 use native.Mathlib.Decide.{dec_lt}
 use native.Mathlib.Omega.{arith}
 use mathlib.Core.Logic.{by_cases}
-use borrow.Author.Tests.{eq-eqb, ne_eqb, lt-ltb, le-ltb, le-leb, lt-leb, not-true, not-false, eqb-true, leb-true, ltb-true}
+use borrow.Author.Tests.{eq-eqb, ne_eqb, lt-ltb, le-ltb, le-leb, not-true, not-false, eqb-true, leb-true, ltb-true}
 use lib.Dec.{eqb, ltb, leb}
 use lib.ListN.{length, set, replicate, length-set, length-replicate, length-append, get_or-replicate}
 use lib.Seq.{ext_get_or}
-use Rattle.octets.specs.Octets.{at, AllBytes}
+use Rattle.octets.specs.Octets.{at}
 use Rattle.octets.proofs.Tests.{both}
 use Rattle.chains.specs.Lengths.{is_heard, node_limit, served}
 use Rattle.ways.specs.declared.Airtime.{Airtime}
 use Rattle.ways.specs.declared.Airtime.TheVariants.{Exactly, Enough, HopRefused, NotServed}
 use Rattle.ways.specs.Ways.{ways_from, of_all, of_one}
 use Rattle.ways.specs.Answer.{up_to, hops_of, is_served, whether, each_below, ways, ways_answer, counts_after, Counts}
-use Rattle.ways.specs.Table.{is_heard_in, Rows, Filled}
+use Rattle.ways.specs.Table.{is_heard_in, Filled}
 use Rattle.ways.specs.Tally.{count_limit, Counted}
 use Rattle.ways.proofs.Sums.{ways_same, ways_no_more}
 
@@ -29,19 +29,6 @@ hops_seven n h is = rw (eq-eqb h 7 is)
 pub hops_below : (n h : ℕ) → h ≢ 7 → h ≡ hops_of n h
 unfolding hops_of
 hops_below n h not-seven = rw (ne_eqb h 7 not-seven)
-
--- which networks are served
-pub too_many : (n from places room : ℕ) → node_limit < n → false ≡ is_served n from places room
-unfolding is_served
-too_many n from places room many = rw (lt-leb n node_limit many)
-
-pub not_a_node : (n from places room : ℕ) → n ≤ from → false ≡ is_served n from places room
-unfolding is_served
-not_a_node n from places room past = rw (le-ltb from n past, and-false (leb n node_limit))
-
-pub no_counts : (n from places room : ℕ) → places ≢ n → false ≡ is_served n from places room
-unfolding is_served
-no_counts n from places room other = rw (ne_eqb places n other, and-false (served n from))
 
 pub a_table : (n from places room : ℕ) → n ≤ node_limit → from < n → places ≡ n → leb (n * 256) room ≡ is_served n from places room
 unfolding is_served

@@ -1,39 +1,34 @@
 -- The table of the hearers says what the pairs say. Assumes nothing.
 use mathlib.Core.Path.{◌≡◌, refl, sym, ap, subst, ◌∙◌}
 use mathlib.Core.Logic.{◌≢◌, by_cases}
-use mathlib.Core.Bool.{Bool, true, false, not, cond, ◌&&◌, ◌||◌}
-use mathlib.Core.List.{List, [], ◌∷◌}
+use mathlib.Core.Bool.{Bool, true, false, ◌&&◌, ◌||◌}
+use mathlib.Core.List.{List, [], ◌∷◌, ◌++◌}
 use Prim.Native.Nat.{ℕ, zero, suc, ◌+◌, ◌*◌, ◌-◌, ◌%◌, ◌≤◌, ◌<◌}
 use native.Mathlib.Decide.{ℕ_discrete, dec_lt}
 use native.Mathlib.Omega.{arith}
 use borrow.Author.Tests.{eq-eqb, ne_eqb, lt-ltb, le-ltb}
 use lib.Dec.{eqb, ltb}
-use lib.ListN.{length, drop, set, replicate, length-set, length-replicate, drop_of_length-le}
+use lib.ListN.{length, set, replicate, length-set, length-replicate}
 use lib.Seq.{get_or-set_same, get_or-set_other}
 use Rattle.octets.specs.Octets.{at, AllBytes}
 use Rattle.chains.specs.Lengths.{is_heard}
-use Rattle.chains.proofs.Bytes.{two}
-use Rattle.ways.specs.Table.{marked, link_of, Linked, is_heard_in, Rows, Filled}
+use Rattle.ways.specs.Table.{marked, link_of, Linked, is_heard_in, Filled}
 
 -- marked pair by pair
-pub mark_next : (pairs table next : List ℕ) (i j m sender node place : ℕ) → j ≡ suc i → m ≡ suc j → j < length pairs
-    → sender ≡ at pairs i → node ≡ at pairs j → place ≡ sender * 256 + node → next ≡ set table place 1
-    → marked (drop i pairs) table ≡ marked (drop m pairs) next
+pub mark_next : (pair more rest table next : List ℕ) (sender node : ℕ) → rest ≡ pair ++ more → length pair ≡ 2
+    → sender ≡ at pair 0 → node ≡ at pair 1 → next ≡ set table (sender * 256 + node) 1 → marked rest table ≡ marked more next
 unfolding marked
-mark_next pairs table next i j m sender node place j-is m-is below s-is n-is p-is is =
-    let after : m ≡ suc (suc i) = m-is ∙ ap suc j-is in
-    let n-there : node ≡ at pairs (suc i) = n-is ∙ ap (at pairs) j-is in
-    ap (λ (rest : List ℕ). marked rest table) (two pairs i (subst (λ (x : ℕ). x < length pairs) j-is below))
-    ∙ sym ((λ k. marked (drop (after k) pairs) (is k)) ∙ ap (λ (p : ℕ). marked (drop (suc (suc i)) pairs) (set table p 1)) p-is
-    ∙ (λ k. marked (drop (suc (suc i)) pairs) (set table (s-is k * 256 + n-there k) 1)))
+mark_next [] more rest table next sender node is two s-is n-is put-is = absurd (omega arith)
+mark_next (x ∷ []) more rest table next sender node is two s-is n-is put-is = absurd (omega arith)
+mark_next (x ∷ y ∷ []) more rest table next sender node is two s-is n-is put-is =
+    ap (λ (l : List ℕ). marked l table) is ∙ ap (marked more) (sym (put-is ∙ (λ i. set table (s-is i * 256 + n-is i) 1)))
+mark_next (x ∷ y ∷ z ∷ pair) more rest table next sender node is two s-is n-is put-is = absurd (omega arith)
 
-pub mark_over : (pairs table : List ℕ) (i : ℕ) → length pairs ≤ i + 1 → marked (drop i pairs) table ≡ table
+pub mark_over : (rest table : List ℕ) → length rest < 2 → marked rest table ≡ table
 unfolding marked
-mark_over [] table i few = ap (λ (rest : List ℕ). marked rest table) (drop_of_length-le [] {i = i} (omega arith))
-mark_over (x ∷ []) table zero few = refl
-mark_over (x ∷ []) table (suc i) few = ap (λ (rest : List ℕ). marked rest table) (drop_of_length-le (x ∷ []) {i = suc i} (omega arith))
-mark_over (x ∷ y ∷ pairs) table zero few = absurd (omega arith)
-mark_over (x ∷ y ∷ pairs) table (suc i) few = mark_over (y ∷ pairs) table i (omega arith)
+mark_over [] table few = refl
+mark_over (x ∷ []) table few = refl
+mark_over (x ∷ y ∷ rest) table few = absurd (omega arith)
 
 pub length_marked : (pairs table : List ℕ) → length (marked pairs table) ≡ length table
 unfolding marked

@@ -1,17 +1,18 @@
 // How often one report goes out on the air in a network of up to 255 nodes of which it is known who hears whom, and how often each node sends it.
 #![tactic(auto)]
 
-ghost use Rattle.std.specs.Prelude.{◌≡◌, ◌+◌, ◌*◌, ◌^◌, ◌%◌, ◌<◌, ◌≤◌, min, length, set, replicate};
+ghost use Rattle.std.specs.Prelude.{◌≡◌, ◌+◌, ◌*◌, ◌^◌, ◌%◌, ◌<◌, ◌≤◌, length, set};
 ghost use Rattle.octets.specs.Octets.{at};
 ghost use Rattle.ways.specs.Ways.{ways_from};
 ghost use Rattle.ways.specs.Answer.{is_served, hops_of, Counts};
 ghost use Rattle.ways.specs.Table.{marked, link_of, Linked, is_heard_in, Rows, Filled};
-ghost use Rattle.ways.specs.Tally.{count_limit, increased, ways_to, Counted};
+ghost use Rattle.ways.specs.Tally.{increased, ways_to, Counted};
 
-use octets::{byte, byte_value};
+use octets::byte;
 
 // An answer: how many, or that there are at least as many as the caller said is enough, or that the hop limit is above 7, or that the network is not
 // served.
+// Kept: no Result is plainer, since of the four outcomes `Enough` and `Exactly` are both answers, with a number and without.
 #[derive(Clone, Copy)]
 pub enum Airtime {
     Exactly(u64),
@@ -64,19 +65,13 @@ pub fn bytes(
         pairs,
         from,
         hop_limit,
-        wide(size),
+        u64::from(size),
         2,
         enough,
         marks,
         counts,
         table,
     )
-}
-
-fn wide(size: u16) -> u64
-    ensures { (result ≡ size) × (result < 65536) }
-{
-    size as u64
 }
 
 fn answer(
@@ -101,42 +96,31 @@ fn answer(
     if !is_served(nodes, from, counts.len(), table.len()) {
         return Airtime::NotServed;
     }
-    fill(pairs, nodes, table);
-    clear_counts(counts);
-    let count = count_apart(
+    lay(pairs, nodes, table);
+    counts.fill(0);
+    let walk = Walk {
         table,
-        marks,
-        counts,
-        from,
-        hops_of(nodes, hop_limit),
-        price,
         growth,
         enough,
-    );
-    clear(table);
+    };
+    let count = count_apart(&walk, marks, counts, from, hops_of(nodes, hop_limit), price);
+    table.fill(0);
     if count < enough {
         return Airtime::Exactly(count);
     }
-    clear_counts(counts);
+    counts.fill(0);
     Airtime::Enough
 }
 
+#[tactic(auto, unfolding(crate::specs::Answer::is_served, chains::specs::Lengths::served))]
 fn is_served(nodes: usize, from: usize, places: usize, room: usize) -> bool
     ensures { result ≡ is_served nodes from places room }
 {
-    if nodes > NODE_LIMIT {
-        return false;
-    }
-    if from >= nodes {
-        return false;
-    }
-    if places != nodes {
-        return false;
-    }
-    nodes * ROW <= room
+    nodes <= NODE_LIMIT && from < nodes && places == nodes && nodes * ROW <= room
 }
 
 // 7 sets no limit to the hops, so that only the nodes do.
+#[tactic(auto, unfolding(crate::specs::Answer::hops_of))]
 fn hops_of(nodes: usize, hop_limit: u64) -> usize
     requires { (nodes < 256) × (hop_limit ≤ 7) }
     ensures { (result ≡ hops_of nodes hop_limit) × (result < 256) }
@@ -149,42 +133,20 @@ fn hops_of(nodes: usize, hop_limit: u64) -> usize
 }
 
 // The table of a network that is given by pairs: in the row of each sender, at each place, the next node from there on that hears it.
-fn fill(pairs: &[u8], nodes: usize, table: &mut [u8])
+fn lay(pairs: &[u8], nodes: usize, table: &mut [u8])
     requires { (nodes < 256) × (nodes * 256 ≤ length table.old) }
     ensures { Filled pairs.now nodes table.new }
 {
-    clear(table);
+    table.fill(0);
     mark(pairs, table);
     link(nodes, table);
-}
-
-fn clear(table: &mut [u8])
-    ensures { table.new ≡ replicate (length table.old) 0 }
-{
-    let mut i: usize = 0;
-    while i < table.len() {
-        table[i] = 0;
-        i += 1;
-    }
-}
-
-fn clear_counts(counts: &mut [u64])
-    ensures { counts.new ≡ replicate (length counts.old) 0 }
-{
-    let mut i: usize = 0;
-    while i < counts.len() {
-        counts[i] = 0;
-        i += 1;
-    }
 }
 
 fn mark(pairs: &[u8], table: &mut [u8])
     ensures { table.new ≡ marked pairs.now table.old }
 {
-    let mut i: usize = 0;
-    while pairs.len() - i > 1 {
-        mark_one(table, byte_value(pairs[i]) * ROW + byte_value(pairs[i + 1]));
-        i += 2;
+    for pair in pairs.chunks_exact(2) {
+        mark_one(table, usize::from(pair[0]) * ROW + usize::from(pair[1]));
     }
 }
 
@@ -200,10 +162,8 @@ fn link(nodes: usize, table: &mut [u8])
     requires { (nodes < 256) × (nodes * 256 ≤ length table.old) }
     ensures { Linked table.old table.new (nodes * 256) }
 {
-    let mut i: usize = nodes * ROW;
     let mut next: u8 = 255;
-    while i > 0 {
-        i -= 1;
+    for i in (0..nodes * ROW).rev() {
         next = link_of(table[i], column(i), next);
         table[i] = next;
     }
@@ -215,37 +175,42 @@ fn column(place: usize) -> u8
     (place % ROW) as u8
 }
 
+#[tactic(auto, unfolding(crate::specs::Table::link_of))]
 fn link_of(heard: u8, column: u8, next: u8) -> u8
     ensures { result ≡ link_of heard column next }
 {
-    if heard > 0 {
-        return column;
+    if heard > 0 || column == 255 {
+        column
+    } else {
+        next
     }
-    if column == 255 {
-        return 255;
-    }
-    next
+}
+
+// What stays the same as the count goes on: who hears whom, how much a price grows with each hop, and where the count stops.
+#[derive(Clone, Copy)]
+struct Walk<'a> {
+    table: &'a [u8],
+    growth: u64,
+    enough: u64,
 }
 
 // The count from the originator, which repeats nothing.
 fn count_apart(
-    table: &[u8],
+    walk: &Walk<'_>,
     marks: &mut [u8],
     counts: &mut [u64],
     from: usize,
     hops: usize,
     price: u64,
-    growth: u64,
-    enough: u64,
 ) -> u64
     requires { (from < length marks.old) × (length marks.old < 256) × (length counts.old ≡ length marks.old) × (hops < 256) × (price < 65536)
-        × (growth ≤ 2) × Rows table.now (length marks.old) }
-    ensures { Counted (λ weigh. ways_from (is_heard_in table.now) weigh growth hops (set marks.old from 1) from price)
-        marks.old counts.old 0 enough result marks.new counts.new }
+        × (walk.now.growth ≤ 2) × Rows walk.now.table.now (length marks.old) }
+    ensures { Counted (λ weigh. ways_from (is_heard_in walk.now.table.now) weigh walk.now.growth hops (set marks.old from 1) from price)
+        marks.old counts.old 0 walk.now.enough result marks.new counts.new }
 {
     let kept = marks[from];
     marks[from] = 1;
-    let count = count_from(table, marks, counts, from, hops, price, growth, 0, enough);
+    let count = count_from(walk, marks, counts, from, hops, price, 0);
     marks[from] = kept;
     count
 }
@@ -253,43 +218,40 @@ fn count_apart(
 // What a transmission of that price and all that it leads to add to a count, which stops at `enough`, and to the count of each node.
 #[cycle(count_by_count_from)]
 fn count_from(
-    table: &[u8],
+    walk: &Walk<'_>,
     marks: &mut [u8],
     counts: &mut [u64],
     sender: usize,
     hops: usize,
     price: u64,
-    growth: u64,
     counted: u64,
-    enough: u64,
 ) -> u64
     requires { (sender < length marks.old) × (length marks.old < 256) × (length counts.old ≡ length marks.old) × (price + 2 * hops < 2 ^ 64)
-        × (growth ≤ 2) × (counted ≤ enough) × Rows table.now (length marks.old) }
-    ensures { Counted (λ weigh. ways_from (is_heard_in table.now) weigh growth hops marks.old sender price)
-        marks.old counts.old counted enough result marks.new counts.new }
+        × (walk.now.growth ≤ 2) × (counted ≤ walk.now.enough) × Rows walk.now.table.now (length marks.old) }
+    ensures { Counted (λ weigh. ways_from (is_heard_in walk.now.table.now) weigh walk.now.growth hops marks.old sender price)
+        marks.old counts.old counted walk.now.enough result marks.new counts.new }
 {
-    if price >= enough - counted {
-        return enough;
+    if price >= walk.enough - counted {
+        return walk.enough;
     }
     add(counts, sender, price);
     let mut count = counted + price;
     if hops == 0 {
         return count;
     }
-    let mut next = hearer(table, sender, 0);
+    // Kept: the table names the next hearer at each turn, so that no range or slice is gone over.
+    let mut next = hearer(walk.table, sender, 0);
     while next < marks.len() {
         count = count_by(
-            table,
+            walk,
             marks,
             counts,
             next,
             hops - 1,
-            price + growth,
-            growth,
+            price + walk.growth,
             count,
-            enough,
         );
-        next = hearer(table, sender, next + 1);
+        next = hearer(walk.table, sender, next + 1);
     }
     count
 }
@@ -297,28 +259,24 @@ fn count_from(
 // The same of one node that hears it.
 #[cycle(count_by_count_from)]
 fn count_by(
-    table: &[u8],
+    walk: &Walk<'_>,
     marks: &mut [u8],
     counts: &mut [u64],
     next: usize,
     hops: usize,
     price: u64,
-    growth: u64,
     counted: u64,
-    enough: u64,
 ) -> u64
     requires { (next < length marks.old) × (length marks.old < 256) × (length counts.old ≡ length marks.old) × (price + 2 * hops < 2 ^ 64)
-        × (growth ≤ 2) × (counted ≤ enough) × Rows table.now (length marks.old) }
-    ensures { Counted (λ weigh. ways_to (is_heard_in table.now) weigh growth hops marks.old next price)
-        marks.old counts.old counted enough result marks.new counts.new }
+        × (walk.now.growth ≤ 2) × (counted ≤ walk.now.enough) × Rows walk.now.table.now (length marks.old) }
+    ensures { Counted (λ weigh. ways_to (is_heard_in walk.now.table.now) weigh walk.now.growth hops marks.old next price)
+        marks.old counts.old counted walk.now.enough result marks.new counts.new }
 {
     if marks[next] > 0 {
         return counted;
     }
     marks[next] = 1;
-    let count = count_from(
-        table, marks, counts, next, hops, price, growth, counted, enough,
-    );
+    let count = count_from(walk, marks, counts, next, hops, price, counted);
     marks[next] = 0;
     count
 }
@@ -328,22 +286,12 @@ fn hearer(table: &[u8], sender: usize, place: usize) -> usize
     requires { (sender < 256) × (place < 256) }
     ensures { (result ≡ at table.now (sender * 256 + place)) × (result < 256) }
 {
-    byte_value(byte(table, sender * ROW + place))
+    usize::from(byte(table, sender * ROW + place))
 }
 
 fn add(counts: &mut [u64], node: usize, amount: u64)
     requires { node < length counts.old }
     ensures { counts.new ≡ increased counts.old node amount }
 {
-    counts[node] = sum(counts[node], amount);
-}
-
-fn sum(count: u64, amount: u64) -> u64
-    ensures { result ≡ min count_limit (count + amount) }
-{
-    if amount > 18446744073709551615 - count {
-        18446744073709551615
-    } else {
-        count + amount
-    }
+    counts[node] = counts[node].saturating_add(amount);
 }

@@ -8,6 +8,7 @@ use lib.Dec.{eqb}
 use lib.ListN.{length, take, length-append}
 use lib.Seq.{take_at, drop_at, get_or-append_seam, get_or-append-add}
 use borrow.Author.Tests.{eqb-false}
+use Rattle.std.specs.Prelude.{Ok}
 use Rattle.octets.specs.Numbers.{flag}
 use Rattle.octets.specs.Octets.{at, word_at, word_bytes}
 use Rattle.octets.proofs.Words.{word_back}
@@ -15,7 +16,6 @@ use Rattle.octets.proofs.Tests.{flag_small}
 use Rattle.pdu.specs.declared.Destination.{Destination}
 use Rattle.pdu.specs.declared.Destination.TheVariants.{Everyone, Address}
 use Rattle.pdu.specs.declared.Header.{Header}
-use Rattle.pdu.specs.declared.Reading.TheVariants.{Pdu}
 use Rattle.pdu.specs.Header.{is_set, version, protocol, time_stamp_bit, path_bit, destination_bit, port, encrypted_bit, reserved, ack_bit, added_header_bit}
 use Rattle.pdu.specs.Header.{hop_limit, payload_length, destination_place, pdu_id_place, path_count_place, destination_in, pdu_id_in, header_of}
 use Rattle.pdu.specs.Sizes.{destination_flag, path_entries, path_start, header_length, pdu_length}
@@ -193,7 +193,7 @@ module _ {header : Header} {path payload : List ℕ} (ok : WellFormed header pat
         (byte_there (front ++ id) tail (path_count_place byte0) id-long (is_set (path_bit byte0)) header.path_bit header.path_count
         path-set ok.no_count)
 
-    read_back : pdu_length header ≤ length (header_bytes header ++ tail) → read_of (header_bytes header ++ tail) ≡ Pdu header
+    read_back : pdu_length header ≤ length (header_bytes header ++ tail) → read_of (header_bytes header ++ tail) ≡ Ok header
     read_back room =
         let bytes = header_bytes header ++ tail in
         let whole : Whole bytes =
@@ -206,7 +206,7 @@ module _ {header : Header} {path payload : List ℕ} (ok : WellFormed header pat
               (omega (arith, shows.protocol_is, shows.destination_is)) (omega arith);
           all = rw header_back room;
         } in
-        read_whole bytes whole ∙ ap Pdu header_back
+        read_whole bytes whole ∙ ap Ok header_back
 
   -- the whole PDU, and any bytes that come after it
   module _ (rest : List ℕ) where
@@ -214,7 +214,7 @@ module _ {header : Header} {path payload : List ℕ} (ok : WellFormed header pat
     unfolding encode
     behind_path = append_assoc (header_bytes header ++ path_bytes path) payload rest
 
-    pub read_encode : read_of (encode header path payload ++ rest) ≡ Pdu header
+    pub read_encode : read_of (encode header path payload ++ rest) ≡ Ok header
     read_encode =
         let tail = path_bytes path ++ (payload ++ rest) in
         let behind = behind_path ∙ append_assoc (header_bytes header) (path_bytes path) (payload ++ rest) in

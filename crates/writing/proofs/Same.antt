@@ -9,12 +9,12 @@ use mathlib.Core.Path.{◌≡◌, refl, ap, sym, ◌∙◌}
 use lib.Dec.{eqb}
 use lib.ListN.{length, take, drop, length-drop}
 use lib.Seq.{take-add, drop-cons, drop-drop, length-take-le}
+use Rattle.std.specs.Prelude.{Ok}
 use Rattle.octets.specs.Numbers.{flag}
 use Rattle.octets.specs.Octets.{at, AllBytes, word_at, word_bytes}
 use Rattle.octets.proofs.Words.{high_back, low_back}
 use Rattle.pdu.specs.declared.Destination.TheVariants.{Everyone, Address}
 use Rattle.pdu.specs.declared.Header.{Header}
-use Rattle.pdu.specs.declared.Reading.TheVariants.{Pdu}
 use Rattle.pdu.specs.Header.{is_set, version, protocol, time_stamp_bit, path_bit, destination_bit, port, encrypted_bit, reserved, ack_bit, added_header_bit}
 use Rattle.pdu.specs.Header.{hop_limit, payload_length, source_place, destination_place, pdu_id_place, path_count_place, destination_in, header_of}
 use Rattle.pdu.specs.Sizes.{fixed_length, destination_flag, path_entries, path_start, header_length, pdu_length}
@@ -127,7 +127,7 @@ module _ (bytes : List ℕ) where
           (byte_same reliable (pdu_id_place (at bytes 0)) (6 + 2 * destination) (omega (arith, bit)) (omega arith)))
           (byte_same path (path_count_place (at bytes 0)) (6 + 2 * destination + flag reliable) (omega (arith, bit)) (omega arith))
 
-pub written_same : (bytes : List ℕ) (header : Header) → AllBytes bytes → read_of bytes ≡ Pdu header
+pub written_same : (bytes : List ℕ) (header : Header) → AllBytes bytes → read_of bytes ≡ Ok header
     → encode header (path_in header bytes) (payload_in header bytes) ≡ take (pdu_length header) bytes
 unfolding encode
 written_same bytes header small e =
@@ -138,7 +138,7 @@ written_same bytes header small e =
     refl
 
 -- what was read is well-formed
-pub shown_well_formed : (bytes : List ℕ) (header : Header) → AllBytes bytes → read_of bytes ≡ Pdu header
+pub shown_well_formed : (bytes : List ℕ) (header : Header) → AllBytes bytes → read_of bytes ≡ Ok header
     → WellFormed header (path_in header bytes) (payload_in header bytes)
 unfolding header_of
 shown_well_formed bytes header small e =

@@ -1,13 +1,13 @@
--- A header that a PDU can have: the tests one by one, what follows where none fails, and that what was read is one.
-use Prim.Native.Nat.{ℕ, zero, suc, ◌≤◌, ◌<◌}
+-- A header that a PDU can have: what follows where no test fails, and that what was read is one.
+use Prim.Native.Nat.{ℕ, zero, suc, ◌≤◌}
 use native.Mathlib.Omega.{arith}
 use native.Mathlib.Nat.{le_trans}
 use mathlib.Core.Bool.{Bool, true, false, not, cond, ◌&&◌}
 use mathlib.Core.List.{List}
 use mathlib.Core.Path.{◌≡◌}
-use lib.Dec.{eqb, leb}
+use lib.Dec.{eqb}
 use lib.ListN.{length}
-use borrow.Author.Tests.{leb-true, le-leb, lt-leb}
+use borrow.Author.Tests.{leb-true, le-leb}
 use Rattle.octets.specs.Octets.{at, AllBytes, word_at}
 use Rattle.octets.proofs.Tests.{both}
 use Rattle.pdu.specs.declared.Destination.TheVariants.{Everyone, Address}
@@ -53,32 +53,6 @@ all_within header w =
       le-leb _ _ w.reserved,
       le-leb _ _ w.payload,
     )
-
--- each test that fails where those above it do not, and the last one
-module _ (header : Header) where
-  pub addressed_refused : destination_flag header.destination < header.protocol → false ≡ writable header
-  unfolding writable
-  addressed_refused h = simp (lt-leb _ _ h)
-
-  module _ (addressed : header.protocol ≤ destination_flag header.destination) where
-    pub hop_refused : 7 < header.hop_limit → false ≡ writable header
-    unfolding writable
-    hop_refused h = simp (le-leb _ _ addressed, lt-leb _ _ h)
-
-    module _ (hop : header.hop_limit ≤ 7) where
-      pub port_refused : 15 < header.port → false ≡ writable header
-      unfolding writable
-      port_refused h = simp (le-leb _ _ addressed, le-leb _ _ hop, lt-leb _ _ h)
-
-      module _ (port : header.port ≤ 15) where
-        pub reserved_refused : 3 < header.reserved → false ≡ writable header
-        unfolding writable
-        reserved_refused h = simp (le-leb _ _ addressed, le-leb _ _ hop, le-leb _ _ port, lt-leb _ _ h)
-
-        module _ (reserved : header.reserved ≤ 3) where
-          pub payload_decides : leb header.payload_length 4095 ≡ writable header
-          unfolding writable
-          payload_decides = simp (le-leb _ _ addressed, le-leb _ _ hop, le-leb _ _ port, le-leb _ _ reserved)
 
 -- with a path and a payload as long as it says, and a PDU ID and a path count only where called for, it can stand in one PDU
 pub well_formed : (header : Header) (path payload : List ℕ) → writable header ≡ true → (header.protocol ≡ 0 → header.pdu_id ≡ 0)

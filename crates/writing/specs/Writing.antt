@@ -1,13 +1,13 @@
 -- A PDU's bytes from its header, path and payload (document 01, "Header, byte by byte"), and a PDU written again ("Numbers answered", 1 to 6, then
 -- 14).
+use Rattle.std.specs.Prelude.{Result, Ok, Err}
 use Rattle.std.specs.Prelude.{ℕ, ◌+◌, ◌*◌, ◌/◌, ◌%◌, ◌≤◌, ◌<◌, Bool, false, cond, ◌&&◌, List, [], ◌∷◌, ◌++◌, ◌≡◌, eqb, ltb, leb, length}
 use Rattle.octets.specs.Numbers.{flag}
 use Rattle.octets.specs.Octets.{word_bytes, over}
+use Rattle.pdu.specs.declared.Refusal.{Refusal}
 use Rattle.pdu.specs.declared.Destination.{Destination}
 use Rattle.pdu.specs.declared.Destination.TheVariants.{Everyone, Address}
 use Rattle.pdu.specs.declared.Header.{Header}
-use Rattle.pdu.specs.declared.Reading.{Reading}
-use Rattle.pdu.specs.declared.Reading.TheVariants.{Pdu, Refused}
 use Rattle.pdu.specs.declared.Written.{Written}
 use Rattle.pdu.specs.Sizes.{payload_limit, destination_flag, path_start, pdu_length}
 use Rattle.pdu.specs.Reading.{refusal_number, read_of}
@@ -64,15 +64,15 @@ unfoldable pub header_output : Header → List ℕ → List ℕ
 header_output header output = cond (is_put header (length output)) (over (header_bytes header) output) output
 
 -- what writing again answers for what was read and an output of so many bytes: number and length
-abbrev pub written_of : Reading → ℕ → Written
-written_of (Refused refusal) room = record { number = refusal_number refusal; length = 0 }
-written_of (Pdu header) room =
+abbrev pub written_of : Result Header Refusal → ℕ → Written
+written_of (Err refusal) room = record { number = refusal_number refusal; length = 0 }
+written_of (Ok header) room =
     cond (ltb room (pdu_length header)) (record { number = 14; length = 0 }) (record { number = 0; length = pdu_length header })
 
 -- what writing again leaves in the output
-abbrev pub output_of : Reading → List ℕ → List ℕ → List ℕ
-output_of (Refused refusal) bytes output = output
-output_of (Pdu header) bytes output =
+abbrev pub output_of : Result Header Refusal → List ℕ → List ℕ → List ℕ
+output_of (Err refusal) bytes output = output
+output_of (Ok header) bytes output =
     cond (ltb (length output) (pdu_length header)) output (over (encode header (path_in header bytes) (payload_in header bytes)) output)
 
 unfoldable pub write_again : List ℕ → ℕ → Written

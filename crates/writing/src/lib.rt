@@ -1,10 +1,9 @@
 // Writing a PDU from its fields.
 #![tactic(auto)]
 
-ghost use Rattle.std.specs.Prelude.{◌≡◌, true, [], ◌∷◌, ◌+◌, ◌*◌, ◌/◌, ◌<◌, ◌≤◌, length};
+ghost use Rattle.std.specs.Prelude.{◌≡◌, true, [], ◌∷◌, ◌+◌, ◌*◌, ◌/◌, ◌<◌, ◌≤◌, length, Ok};
 ghost use Rattle.octets.specs.Numbers.{flag};
 ghost use Rattle.octets.specs.Octets.{word_bytes, over, Puts};
-ghost use Rattle.pdu.specs.declared.Reading.TheVariants.{Pdu};
 ghost use Rattle.pdu.specs.Sizes.{destination_flag, path_entries, path_start};
 ghost use Rattle.pdu.specs.Reading.{read_of};
 ghost use Rattle.pdu.specs.Parts.{path_in};
@@ -20,6 +19,7 @@ pub fn write_again(bytes: &[u8], output: &mut [u8]) -> Written
     ensures { (result ≡ write_again bytes.now (length output.old))
         × (output.new ≡ written_again bytes.now output.old) }
 {
+    // Kept: `Written` is C's, and carries the number as `fault` answers it.
     let number = pdu::fault(bytes);
     if number != 0 {
         return Written { number, length: 0 };
@@ -28,9 +28,9 @@ pub fn write_again(bytes: &[u8], output: &mut [u8]) -> Written
 }
 
 fn write_shown(bytes: &[u8], header: Header, output: &mut [u8]) -> Written
-    requires { read_of bytes.now ≡ Pdu header }
-    ensures { (result ≡ written_of (Pdu header) (length output.old))
-        × (output.new ≡ output_of (Pdu header) bytes.now output.old) }
+    requires { read_of bytes.now ≡ Ok header }
+    ensures { (result ≡ written_of (Ok header) (length output.old))
+        × (output.new ≡ output_of (Ok header) bytes.now output.old) }
 {
     let length = header.pdu_length();
     if output.len() < length {
@@ -61,23 +61,16 @@ pub fn put_header(output: &mut [u8], header: Header) -> usize
     put_fields(output, header)
 }
 
+#[tactic(auto, unfolding(crate::specs::Writing::writable))]
 fn is_writable(header: Header) -> bool
     ensures { result ≡ writable header }
 {
     let destination = header.destination;
-    if pdu::destination_flag(destination) < header.protocol {
-        return false;
-    }
-    if 7 < header.hop_limit {
-        return false;
-    }
-    if 15 < header.port {
-        return false;
-    }
-    if 3 < header.reserved {
-        return false;
-    }
-    header.payload_length as usize <= Header::PAYLOAD_LIMIT
+    header.protocol <= pdu::destination_flag(destination)
+        && header.hop_limit <= 7
+        && header.port <= 15
+        && header.reserved <= 3
+        && header.payload_length as usize <= Header::PAYLOAD_LIMIT
 }
 
 // Puts a header's fields one after the other, and answers the place after them.
@@ -181,10 +174,8 @@ fn put_path(output: &mut [u8], place: usize, bytes: &[u8], header: Header) -> us
 {
     let start = header.path_start();
     let entries = header.path_entries();
-    let mut i: usize = 0;
-    while i < entries {
+    for i in 0..entries {
         octets::put_word(output, place + 2 * i, octets::word(bytes, start + 2 * i));
-        i += 1;
     }
     place + 2 * entries
 }

@@ -7,12 +7,11 @@ use Rattle.aes.proofs.encipher.Goals as goal
 
 pub loop-n-init : goal.loop-n-init
 unfolding rounds
-loop-n-init c = (omega arith, omega arith, refl)
+loop-n-init c = refl
 
 pub loop-n-preserved : goal.loop-n-preserved
 loop-n-preserved c =
-    let i = c.loop-n.invariant in
-    (omega arith, omega arith, rounds_on _ _ c.loop-n.n i.0 i.2 c.round_key-in-loop-n.ensures c.one_round-next.ensures)
+    rounds_on _ _ c.loop-n.n (omega arith) c.loop-n.invariant c.round_key-in-loop-n.ensures c.one_round-next.ensures
 
 pub returns : goal.returns
 unfolding cipher
@@ -20,6 +19,6 @@ returns c =
     let a = c.args in
     c.last_round.ensures
     ∙ ap₂ last_round
-    (rounds_all a.keys.now _ c.loop-n.n c.loop-n.invariant.1 c.loop-n-test.false c.loop-n.invariant.2
+    (rounds_all a.keys.now _ c.loop-n.n (omega arith) (omega arith) c.loop-n.invariant
     ∙ ap (rounds a.keys.now 9) (c.add_round_key-s.ensures ∙ ap (add_round_key a.block) c.round_key.ensures))
     c.round_key-2.ensures

@@ -1,10 +1,7 @@
 use mathlib.Core.Path.{◌≡◌}
-use Prim.Native.Nat.{◌-◌, ◌≤◌}
+use Prim.Native.Nat.{◌-◌}
 use Rattle.aes.specs.Cipher.{rounds}
 use Rattle.aes.proofs.encipher.Given as goal
 
 abbrev pub invariant-loop-n : goal.invariant-loop-n
-invariant-loop-n l = (1 ≤ l.n) × (l.n ≤ 10) × (l.s ≡ rounds l.keys (l.n - 1) l.initial.s)
-
-abbrev pub decreases-loop-n : goal.decreases-loop-n
-decreases-loop-n l = 10 - l.n
+invariant-loop-n l = l.s ≡ rounds l.keys (l.n - 1) l.initial.s

@@ -1,12 +1,8 @@
 use mathlib.Core.Path.{◌≡◌}
-use Prim.Native.Nat.{◌-◌, ◌≤◌}
 use lib.ListN.{length, take}
 use Rattle.aes.specs.Cipher.{expansion}
 use Rattle.aes.proofs.expand.Given as goal
 
 abbrev pub invariant-loop-p : goal.invariant-loop-p
 invariant-loop-p l =
-    (16 ≤ l.p) × (l.p ≤ 176) × (length l.w ≡ 176) × (length (take 16 l.initial.w) ≡ 16) × (take l.p l.w ≡ take l.p (expansion (take 16 l.initial.w) 40))
-
-abbrev pub decreases-loop-p : goal.decreases-loop-p
-decreases-loop-p l = 176 - l.p
+    (length l.w ≡ 176) × (length (take 16 l.initial.w) ≡ 16) × (take l.p l.w ≡ take l.p (expansion (take 16 l.initial.w) 40))

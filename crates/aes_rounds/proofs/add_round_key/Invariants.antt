@@ -1,5 +1,4 @@
 use mathlib.Core.Path.{◌≡◌}
-use Prim.Native.Nat.{◌-◌, ◌≤◌}
 use lib.ListN.{length, take}
 use Rattle.octets.specs.Octets.{at}
 use Rattle.aes_field.specs.Field.{◌⊕◌}
@@ -7,7 +6,4 @@ use Rattle.aes_rounds.specs.Rounds.{listed}
 use Rattle.aes_rounds.proofs.add_round_key.Given as goal
 
 abbrev pub invariant-loop-i : goal.invariant-loop-i
-invariant-loop-i l = (l.i ≤ 16) × (length l.sum ≡ 16) × (take l.i l.sum ≡ listed l.i 0 (λ j. at l.s j ⊕ at l.k j))
-
-abbrev pub decreases-loop-i : goal.decreases-loop-i
-decreases-loop-i l = 16 - l.i
+invariant-loop-i l = (length l.sum ≡ 16) × (take l.i l.sum ≡ listed l.i 0 (λ j. at l.s j ⊕ at l.k j))

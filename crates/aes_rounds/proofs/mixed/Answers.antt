@@ -1,18 +1,22 @@
-use mathlib.Core.Path.{refl}
+use mathlib.Core.Path.{◌≡◌}
+use Prim.Native.Nat.{◌+◌, ◌*◌}
 use native.Mathlib.Omega.{arith}
 use lib.ListN.{length-set}
-use Rattle.aes_rounds.proofs.Columns.{column_written}
-use borrow.Author.Rules.{rules}
+use Rattle.aes_rounds.proofs.Columns.{blended, column_written}
+use Rattle.aes_rounds.proofs.Listed.{all_written}
 use Rattle.aes_rounds.proofs.mixed.Goals as goal
 
-pub loop-at-init : goal.loop-at-init
-loop-at-init c = (refl, omega arith, search rules, refl)
-
-pub loop-at-preserved : goal.loop-at-preserved
-loop-at-preserved c =
-    let v = c.loop-at.invariant in (
-      omega arith,
-      omega arith,
-      simp length-set v.2,
-      column_written c.args.s c.loop-at.columns c.mix-column.result c.loop-at.at v.0 (omega arith) c.mix-column.ensures v.3,
+pub loop-c-preserved : goal.loop-c-preserved
+loop-c-preserved c =
+    let v = c.loop-c.invariant in
+    let s = c.args.s in
+    let at = 4 * c.loop-c.c in
+    let next : 4 * (c.loop-c.c + 1) ≡ at + 4 = omega arith in (
+      simp length-set v.0,
+      rw next (column_written s c.loop-c.columns c.mix-column.result at (omega arith) (omega arith) c.mix-column.ensures v.1),
     )
+
+pub returns : goal.returns
+returns c =
+    let v = c.loop-c.invariant in
+    all_written (blended c.args.s) _ (4 * c.loop-c.c) v.1 v.0 (omega arith) (omega arith)

@@ -4,6 +4,7 @@ use Rattle.decision.specs.Decision.{node_of}
 use Rattle.batch.proofs.Stepping.{too_long, ended_before, no_bytes_left, within_batch, answered, rest}
 use native.Mathlib.Omega.{arith}
 use Rattle.batch.proofs.step.Goals as goal
+use Rattle.batch.proofs.step.Goals.{then-cursor-via-then-cursor, then-cursor-via-else-cursor+then-batch-place}
 
 pub returns-then-is_too_long : goal.returns-then-is_too_long
 returns-then-is_too_long c =
@@ -16,14 +17,11 @@ returns-then-cursor c =
     let a = c.args in
     let node = node_of a.settings (lists_in a.lists.now) in
     let short = sym c.is_too_long.ensures ∙ c.if-is_too_long.false in
-    ended_before node a.batch.now a.output.now a.cursor short c.if-cursor.true
-
-pub returns-then-batch-place : goal.returns-then-batch-place
-returns-then-batch-place c =
-    let a = c.args in
-    let node = node_of a.settings (lists_in a.lists.now) in
-    let short = sym c.is_too_long.ensures ∙ c.if-is_too_long.false in
-    no_bytes_left node a.batch.now a.output.now a.cursor short c.if-cursor.false c.if-batch-place.true
+    elim c.then-cursor.branch [
+      | then-cursor-via-then-cursor w ↦ ended_before node a.batch.now a.output.now a.cursor short w.if-cursor.true
+      | then-cursor-via-else-cursor+then-batch-place w ↦
+          no_bytes_left node a.batch.now a.output.now a.cursor short w.if-cursor.false w.if-batch-place.true
+    ]
 
 pub overflow_add-next : goal.overflow_add-next
 overflow_add-next c =

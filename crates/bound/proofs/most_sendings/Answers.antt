@@ -1,26 +1,21 @@
-use mathlib.Core.Path.{sym}
-use Rattle.bound.proofs.Answers.{exact, past, hop_refused}
-use Rattle.bound.proofs.Commands.{taken_past, taken_exact, each_past, tries_past, sendings_are}
-use native.Mathlib.Omega.{arith}
+use Rattle.bound.proofs.Answers.{fitted, exact, past, passed_on, passed_large}
+use Rattle.bound.proofs.Commands.{taken_exact, each_past, tries_past, sendings_are}
 use Rattle.bound.proofs.most_sendings.Goals as goal
 
-pub returns-then-hop_limit-gt7 : goal.returns-then-hop_limit-gt7
-returns-then-hop_limit-gt7 c = sym (hop_refused _ _ (omega arith))
+pub returns-in_err-each : goal.returns-in_err-each
+returns-in_err-each c =
+    passed_on _ c.from_residual.ensures.1 (each_past c.args.tries c.args.nodes c.args.hop_limit c.most_transmissions.ensures c.in_err-each.was)
 
-pub returns-in_default : goal.returns-in_default
-returns-in_default c =
+pub returns-in_err-sendings : goal.returns-in_err-sendings
+returns-in_err-sendings c =
     let s = c.args in
-    each_past s.tries s.nodes s.hop_limit (omega arith)
-    (taken_past c.most_transmissions.ensures (omega arith) c.in_default.not-Exactly)
-
-pub returns-in_default-plus : goal.returns-in_default-plus
-returns-in_default-plus c =
-    let s = c.args in
-    tries_past s.tries s.nodes s.hop_limit (omega arith) (past _ _ c.plus.ensures c.in_default-plus.not-Exactly)
+    let low = (taken_exact c.most_transmissions.ensures c.in_ok-each.was).0 in
+    let over = past _ _ (fitted _ _ c.checked_add.ensures c.ok_or.ensures.value) c.in_err-sendings.was in
+    passed_large _ c.from_residual-in_err-sendings.ensures.1 over.0 (tries_past s.tries s.nodes s.hop_limit low over.1)
 
 pub returns : goal.returns
 returns c =
     let s = c.args in
-    sendings_are s.tries s.nodes s.hop_limit (omega arith) c.times.ensures
-    (exact _ _ c.plus.ensures c.in-Exactly-plus.is).0
-    (taken_exact c.most_transmissions.ensures (omega arith) c.in-Exactly.is)
+    let each = taken_exact c.most_transmissions.ensures c.in_ok-each.was in
+    sendings_are s.tries s.nodes s.hop_limit each.0 (fitted _ _ c.checked_mul.ensures c.ok_or-2.ensures.value)
+    (exact _ _ (fitted _ _ c.checked_add.ensures c.ok_or.ensures.value) c.in_ok-sendings.was).0 each.1

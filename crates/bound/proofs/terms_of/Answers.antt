@@ -6,8 +6,5 @@ use Rattle.bound.proofs.terms_of.Goals as goal
 pub returns-then-hop_limit-eq7 : goal.returns-then-hop_limit-eq7
 returns-then-hop_limit-eq7 c = (sym (terms_seven c.args.nodes c.args.hop_limit (omega arith)), omega arith)
 
-pub returns-then-nodes-hop_limit : goal.returns-then-nodes-hop_limit
-returns-then-nodes-hop_limit c = (omega (arith, terms_below c.args.nodes c.args.hop_limit (omega arith)), omega arith)
-
-pub returns-else-nodes-hop_limit : goal.returns-else-nodes-hop_limit
-returns-else-nodes-hop_limit c = (omega (arith, terms_below c.args.nodes c.args.hop_limit (omega arith)), omega arith)
+pub returns : goal.returns
+returns c = (omega (arith, terms_below c.args.nodes c.args.hop_limit (omega arith)), omega arith)

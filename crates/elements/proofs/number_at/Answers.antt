@@ -5,7 +5,7 @@ use Rattle.elements.proofs.number_at.Goals as goal
 
 pub returns-then-first-lt128 : goal.returns-then-first-lt128
 returns-then-first-lt128 c = (
-  c.byte_value.ensures.0 ∙ number_short _ _ _ c.byte-first.ensures c.if-first-lt128.true,
+  c.from.ensures ∙ number_short _ _ _ c.byte-first.ensures c.if-first-lt128.true,
   size_short _ _ _ c.byte-first.ensures
       c.if-first-lt128.true,
   omega arith,
@@ -15,7 +15,7 @@ returns-then-first-lt128 c = (
 pub returns-else-first-lt128 : goal.returns-else-first-lt128
 returns-else-first-lt128 c = (
   number_long _ _ _ c.byte-first.ensures _ c.if-first-lt128.false
-      (c.word_value.ensures.0 ∙ c.word.ensures),
+      (c.from-else-first-lt128.ensures ∙ c.word.ensures),
   size_long _ _ _ c.byte-first.ensures c.if-first-lt128.false,
   omega arith,
   omega arith,

@@ -1,10 +1,10 @@
-use mathlib.Core.Path.{ap, ◌∙◌}
-use Rattle.job.specs.declared.JobReading.TheVariants.{Refused}
+use mathlib.Core.Path.{sym, ◌∙◌}
 use Rattle.job.proofs.Steps.{head_refused, only_sections}
+use Rattle.job.proofs.Results.{carried}
 use Rattle.job.proofs.read.Goals as goal
 
-pub returns : goal.returns
-returns c = c.sections.ensures ∙ only_sections _ c.head_of-head.ensures c.in-Found.is
+pub returns-in_err-own : goal.returns-in_err-own
+returns-in_err-own c = carried _ _ c.from_residual.ensures.1 ∙ head_refused _ (sym c.head_of.ensures ∙ c.in_err-own.was)
 
-pub returns-in_default : goal.returns-in_default
-returns-in_default c = ap Refused c.head_number.ensures ∙ head_refused _ c.head_of-head.ensures c.in_default.is
+pub returns : goal.returns
+returns c = c.sections.ensures ∙ only_sections _ (sym c.head_of.ensures ∙ c.in_ok-own.was)

@@ -1,11 +1,7 @@
-use Prim.Native.Nat.{◌-◌, ◌≤◌}
 use mathlib.Core.Path.{◌≡◌}
 use lib.ListN.{length, take}
 use Rattle.job.specs.Jobs.{values_in, padded_values}
 use Rattle.job.proofs.values.Given as goal
 
 abbrev pub invariant-loop-i : goal.invariant-loop-i
-invariant-loop-i l = (l.i ≤ 128) × (length l.values ≡ 128) × (take l.i l.values ≡ take l.i (padded_values (values_in l.bytes l.section)))
-
-abbrev pub decreases-loop-i : goal.decreases-loop-i
-decreases-loop-i l = 128 - l.i
+invariant-loop-i l = (length l.values ≡ 128) × (take l.i l.values ≡ take l.i (padded_values (values_in l.bytes l.section)))

@@ -1,5 +1,4 @@
 use mathlib.Core.Path.{refl}
-use lib.ListN.{length-take}
 use Rattle.lines.specs.Lines.{last_line}
 use Rattle.lines.proofs.Lines.{last_started}
 use Rattle.text.proofs.Parts.{stays, front}

@@ -2,8 +2,5 @@ use lib.ListN.{length-take}
 use native.Mathlib.Omega.{arith}
 use Rattle.list_block.proofs.laid_length.Goals as goal
 
-pub returns-then-list-lt-LAID_LIMIT : goal.returns-then-list-lt-LAID_LIMIT
-returns-then-list-lt-LAID_LIMIT c = omega (arith, length-take 129 c.args.list.now)
-
-pub returns-else-list-lt-LAID_LIMIT : goal.returns-else-list-lt-LAID_LIMIT
-returns-else-list-lt-LAID_LIMIT c = omega (arith, length-take 129 c.args.list.now)
+pub returns : goal.returns
+returns c = omega (arith, c.min.ensures, length-take 129 c.args.list.now)

@@ -18,7 +18,8 @@ lists-preserved-then-given-eq0 c =
     let k = c.lists.k in
     let list = list_at block k in
     let none : at block k ≡ 0 = sym c.word_value-given.ensures.0 ∙ c.if-given-eq0.true in
-    let long : length list ≡ 0 = list_length block k c.lists.start _ 0 c.lists.invariant.2 c.word_value-given.ensures.0 (omega (arith, c.if-given-eq0.true)) in (
+    let long : length list ≡ 0 =
+    list_length block k c.lists.start _ 0 c.lists.invariant.2 c.word_value-given.ensures.0 (omega (arith, c.if-given-eq0.true)) in (
       omega arith,
       c.lists.invariant.1,
       omega (arith, c.lists.invariant.2, none, start_next block k),
@@ -34,7 +35,7 @@ loop-i-init c =
     let block = c.args.block.now in
     let k = c.lists.k in
     let list = list_at block k in
-    let long = list_length block k c.lists.start _ _ c.lists.invariant.2 c.word_value-given.ensures.0 c.lesser-length.ensures in (
+    let long = list_length block k c.lists.start _ _ c.lists.invariant.2 c.word_value-given.ensures.0 c.min-length.ensures in (
       omega arith,
       c.lists.invariant.1,
       only_ranges list (omega (arith, long)) (λ e. omega (arith, long)),
@@ -45,11 +46,11 @@ loop-i-preserved c =
     let block = c.args.block.now in
     let k = c.lists.k in
     let list = list_at block k in
-    let long = list_length block k c.lists.start _ _ c.lists.invariant.2 c.word_value-given.ensures.0 c.lesser-length.ensures in (
+    let long = list_length block k c.lists.start _ _ c.lists.invariant.2 c.word_value-given.ensures.0 c.min-length.ensures in (
       omega arith,
       c.loop-i.invariant.1,
       c.loop-i.invariant.2
-          ∙ block_right block k c.lists.start _ _ c.lists.invariant.2 c.word_value-given.ensures.0 c.lesser-length.ensures _ (omega arith) (omega arith),
+          ∙ block_right block k c.lists.start _ _ c.lists.invariant.2 c.word_value-given.ensures.0 c.min-length.ensures _ (omega arith) (omega arith),
     )
 
 pub lists-preserved : goal.lists-preserved
@@ -57,7 +58,7 @@ lists-preserved c =
     let block = c.args.block.now in
     let k = c.lists.k in
     let list = list_at block k in
-    let long = list_length block k c.lists.start _ _ c.lists.invariant.2 c.word_value-given.ensures.0 c.lesser-length.ensures in (
+    let long = list_length block k c.lists.start _ _ c.lists.invariant.2 c.word_value-given.ensures.0 c.min-length.ensures in (
       omega arith,
       c.loop-i.invariant.1,
       ap₂ ◌+◌ c.lists.invariant.2 c.word_value-given.ensures.0 ∙ sym (start_next _ _),
@@ -79,7 +80,7 @@ returns-then-length-gt-VALUE_LIMIT c =
     let block = c.args.block.now in
     let k = c.lists.k in
     let list = list_at block k in
-    let long = list_length block k c.lists.start _ _ c.lists.invariant.2 c.word_value-given.ensures.0 c.lesser-length.ensures in
+    let long = list_length block k c.lists.start _ _ c.lists.invariant.2 c.word_value-given.ensures.0 c.min-length.ensures in
     sym (c.lists.invariant.4
     ∙ list_wrong _ k 22 list (omega arith) (sym (nth_list block k (omega arith))) (too_long list (omega (arith, long))) (omega arith))
 
@@ -88,7 +89,7 @@ returns-then-length-eq1 c =
     let block = c.args.block.now in
     let k = c.lists.k in
     let list = list_at block k in
-    let long = list_length block k c.lists.start _ _ c.lists.invariant.2 c.word_value-given.ensures.0 c.lesser-length.ensures in
+    let long = list_length block k c.lists.start _ _ c.lists.invariant.2 c.word_value-given.ensures.0 c.min-length.ensures in
     sym (c.lists.invariant.4
     ∙ list_wrong _ k 21 list (omega arith) (sym (nth_list block k (omega arith)))
     (odd_number list (omega (arith, long)) (omega (arith, long))) (omega arith))
@@ -98,9 +99,9 @@ returns-then-block-start c =
     let block = c.args.block.now in
     let k = c.lists.k in
     let list = list_at block k in
-    let long = list_length block k c.lists.start _ _ c.lists.invariant.2 c.word_value-given.ensures.0 c.lesser-length.ensures in
+    let long = list_length block k c.lists.start _ _ c.lists.invariant.2 c.word_value-given.ensures.0 c.min-length.ensures in
     sym (c.lists.invariant.4
     ∙ list_wrong _ k 20 list (omega arith) (sym (nth_list block k (omega arith)))
     (c.loop-i.invariant.2
-    ∙ block_wrong block k c.lists.start _ _ c.lists.invariant.2 c.word_value-given.ensures.0 c.lesser-length.ensures _ (omega arith)
+    ∙ block_wrong block k c.lists.start _ _ c.lists.invariant.2 c.word_value-given.ensures.0 c.min-length.ensures _ (omega arith)
     (omega arith)) (omega arith))

@@ -1,11 +1,8 @@
-use Prim.Native.Nat.{◌≤◌, ◌-◌, ◌%◌}
 use mathlib.Core.Path.{◌≡◌}
 use Rattle.lists.specs.Lists.{holds}
-use Rattle.lists.proofs.Laws.{holds_from}
 use Rattle.lists.proofs.holds.Given as goal
 
-abbrev pub invariant-loop-i : goal.invariant-loop-i
-invariant-loop-i l = (l.i ≤ l.end) × (l.i % 2 ≡ 0) × (holds l.list l.address ≡ holds_from l.list l.i l.address)
-
-abbrev pub decreases-loop-i : goal.decreases-loop-i
-decreases-loop-i l = l.end - l.i
+abbrev pub invariant-loop-range : goal.invariant-loop-range
+invariant-loop-range l =
+    (goal.iterator-loop-range).is_finite l.range-iterator
+    × (l.range-iterator.size ≡ 2) × (holds l.list l.address ≡ holds l.range-iterator.rest.now l.address)

@@ -15,7 +15,7 @@ returns-then-fault-ne0 c =
 
 pub decide-requires : goal.decide-requires
 decide-requires c =
-    (sym c.read-reading.ensures ∙ c.in-Pdu.is, c.last_sender-sender.ensures)
+    (sym c.read-reading.ensures ∙ c.in-Ok.is, c.last_sender-sender.ensures)
 
 pub returns-in_default : goal.returns-in_default
 returns-in_default c =
@@ -32,9 +32,9 @@ returns-then-number-ne0 c =
     let a = c.args in
     let node = node_of a.settings (lists_in a.lists.now) in
     let clean : node_fault node ≡ 0 = sym c.node_fault-fault.ensures ∙ c.if-fault-ne0.false in
-    let read = sym c.read-reading.ensures ∙ c.in-Pdu.is in
+    let read = sym c.read-reading.ensures ∙ c.in-Ok.is in
     let right =
-    stopped node a.received.now a.output.now clean c.in-Pdu.header read c.drop_fault-number.result
+    stopped node a.received.now a.output.now clean c.in-Ok.header read c.drop_fault-number.result
     c.pdu_length.result c.last_sender-sender.result c.if-number-ne0.true c.drop_fault-number.ensures
     c.pdu_length.ensures.0 c.last_sender-sender.ensures in
     (c.given_twice-then-number-ne0.ensures ∙ right.0, right.1)
@@ -44,6 +44,6 @@ returns c =
     let a = c.args in
     let node = node_of a.settings (lists_in a.lists.now) in
     let clean : node_fault node ≡ 0 = sym c.node_fault-fault.ensures ∙ c.if-fault-ne0.false in
-    let read = sym c.read-reading.ensures ∙ c.in-Pdu.is in
-    c.decide.ensures node.lists (is_readable node a.received.now a.output.now clean c.in-Pdu.header read)
+    let read = sym c.read-reading.ensures ∙ c.in-Ok.is in
+    c.decide.ensures node.lists (is_readable node a.received.now a.output.now clean c.in-Ok.header read)
     (sym c.drop_fault-number.ensures ∙ c.if-number-ne0.false)

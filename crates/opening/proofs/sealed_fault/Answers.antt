@@ -12,12 +12,12 @@ returns-then-not-header c =
     let read = sym c.fault-reading.ensures ∙ c.if-reading-ne0.false in
     plain_refused _ _ c.header_of-header.ensures read (not-true _ c.if-not-header.true)
 
-pub returns-then-word_value-lt-ADDED_LENGTH : goal.returns-then-word_value-lt-ADDED_LENGTH
-returns-then-word_value-lt-ADDED_LENGTH c =
+pub returns-then-from-lt-ADDED_LENGTH : goal.returns-then-from-lt-ADDED_LENGTH
+returns-then-from-lt-ADDED_LENGTH c =
     let read = sym c.fault-reading.ensures ∙ c.if-reading-ne0.false in
-    short_refused _ _ c.header_of-header.ensures read (not-false _ c.if-not-header.false) (omega (arith, c.word_value.ensures.0))
+    short_refused _ _ c.header_of-header.ensures read (not-false _ c.if-not-header.false) (omega (arith, c.from.ensures))
 
-pub returns-else-word_value-lt-ADDED_LENGTH : goal.returns-else-word_value-lt-ADDED_LENGTH
-returns-else-word_value-lt-ADDED_LENGTH c =
+pub returns-else-from-lt-ADDED_LENGTH : goal.returns-else-from-lt-ADDED_LENGTH
+returns-else-from-lt-ADDED_LENGTH c =
     let read = sym c.fault-reading.ensures ∙ c.if-reading-ne0.false in
-    none_refused _ _ c.header_of-header.ensures read (not-false _ c.if-not-header.false) (omega (arith, c.word_value.ensures.0))
+    none_refused _ _ c.header_of-header.ensures read (not-false _ c.if-not-header.false) (omega (arith, c.from.ensures))

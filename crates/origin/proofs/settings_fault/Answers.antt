@@ -1,7 +1,5 @@
-use Rattle.std.proofs.lemmas.Bool.{not_from_false, not_from_true}
 use native.Mathlib.Omega.{arith}
 use mathlib.Core.Path.{sym, ◌∙◌}
-use borrow.Author.Tests.{not-true, not-false}
 use Rattle.origin.proofs.Deciding.{edition_refused, hop_refused, port_refused, payload_refused, unaddressed_refused, unmarked_refused, none_refused}
 use Rattle.origin.proofs.settings_fault.Goals as goal
 

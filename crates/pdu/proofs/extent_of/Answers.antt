@@ -1,37 +1,35 @@
-use mathlib.Core.Path.{refl, sym, ◌∙◌}
-use Rattle.pdu.specs.Header.{header_of}
-use Rattle.pdu.specs.Reading.{read_of}
-use Rattle.pdu.proofs.Faults.{start_given, end_given}
-use Rattle.pdu.proofs.Number.{read_0}
-use Rattle.pdu.proofs.Showing.{header_told, length_told}
-use Rattle.pdu.proofs.Extents.{extent_refused, extent_is}
+use mathlib.Core.Path.{refl, ap, sym, ◌∙◌}
 use native.Mathlib.Omega.{arith}
+use Rattle.std.specs.Prelude.{Ok}
+use Rattle.std.proofs.lemmas.Result.{err_from_is_err_and}
+use Rattle.pdu.specs.Header.{header_of}
+use Rattle.pdu.specs.Reading.{extent_of}
+use Rattle.pdu.proofs.Faults.{start_given, end_given, none_given}
+use Rattle.pdu.proofs.Showing.{header_told, length_told}
+use Rattle.pdu.proofs.Extents.{extent_is}
 use Rattle.pdu.proofs.extent_of.Goals as goal
 
-pub returns-then-start-ne0 : goal.returns-then-start-ne0
-returns-then-start-ne0 c =
-    let bytes = c.args.bytes.now in
-    let given = start_given bytes refl c.byte-byte0.ensures c.start_fault-start.ensures c.if-start-ne0.true in
-    c.no_extent.ensures ∙ extent_refused (read_of bytes) _ given (omega (arith, c.if-start-ne0.true))
+pub returns-in_err-start_fault : goal.returns-in_err-start_fault
+returns-in_err-start_fault c =
+    let up = err_from_is_err_and c.from_residual.result c.from_residual.ensures.1 in
+    rw (up.1, up.2) (sym (ap extent_of (start_given c.args.bytes.now refl c.byte-byte0.ensures c.start_fault.ensures c.in_err-start_fault.was)))
 
-pub returns-then-end-ne0 : goal.returns-then-end-ne0
-returns-then-end-ne0 c =
+pub returns-in_err-end_fault : goal.returns-in_err-end_fault
+returns-in_err-end_fault c =
     let bytes = c.args.bytes.now in
-    let header = header_told bytes c.byte-byte0.ensures c.path_count_in-path_count.ensures c.header_length_in-header_length.ensures.0 in
-    let whole =
-    length_told bytes header c.byte.ensures c.byte-2.ensures (c.word_value.ensures.0 ∙ c.payload_length-payload_length.ensures) in
-    let given =
-    end_given bytes refl c.byte-byte0.ensures c.start_fault-start.ensures c.if-start-ne0.false c.end_fault-end.ensures header whole in
-    c.no_extent-then-end-ne0.ensures ∙ extent_refused (read_of bytes) _ given (omega (arith, c.if-end-ne0.true))
+    let up = err_from_is_err_and c.from_residual-in_err-end_fault.result c.from_residual-in_err-end_fault.ensures.1 in
+    let head = header_told bytes c.byte-byte0.ensures c.path_count_in-path_count.ensures c.header_length_in-header_length.ensures.0 in
+    let whole = length_told bytes head c.byte.ensures c.byte-2.ensures (c.word_value.ensures.0 ∙ c.payload_length-payload_length.ensures) in
+    rw (up.1, up.2)
+    (sym (ap extent_of (end_given bytes refl c.byte-byte0.ensures c.start_fault.ensures c.in_ok-start_fault.was c.end_fault.ensures head whole
+    c.in_err-end_fault.was)))
 
 pub returns : goal.returns
 unfolding header_of
 returns c =
     let bytes = c.args.bytes.now in
-    let header = header_told bytes c.byte-byte0.ensures c.path_count_in-path_count.ensures c.header_length_in-header_length.ensures.0 in
-    let whole =
-    length_told bytes header c.byte.ensures c.byte-2.ensures (c.word_value.ensures.0 ∙ c.payload_length-payload_length.ensures) in
-    let given =
-    end_given bytes refl c.byte-byte0.ensures c.start_fault-start.ensures c.if-start-ne0.false c.end_fault-end.ensures header whole in
-    rw (read_0 bytes (sym given ∙ c.if-end-ne0.false))
-    (extent_is c.path_count_in-path_count.ensures (omega (arith, c.payload_length-payload_length.ensures, c.byte.ensures, c.byte-2.ensures)) header whole)
+    let head = header_told bytes c.byte-byte0.ensures c.path_count_in-path_count.ensures c.header_length_in-header_length.ensures.0 in
+    let whole = length_told bytes head c.byte.ensures c.byte-2.ensures (c.word_value.ensures.0 ∙ c.payload_length-payload_length.ensures) in
+    rw (none_given bytes refl c.byte-byte0.ensures c.start_fault.ensures c.in_ok-start_fault.was c.end_fault.ensures head whole c.in_ok-end_fault.was)
+    (ap Ok
+    (extent_is c.path_count_in-path_count.ensures (omega (arith, c.payload_length-payload_length.ensures, c.byte.ensures, c.byte-2.ensures)) head whole))

@@ -1,15 +1,7 @@
-use Rattle.queue.specs.Queue.{numbered}
+use Rattle.queue.proofs.Memory.{numbers_put}
+use native.Mathlib.Omega.{arith}
 use Rattle.queue.proofs.keep.Goals as goal
 
 pub returns : goal.returns
-unfolding numbered
 returns c =
-    rw (
-      ← c.high.ensures,
-      ← c.low.ensures,
-      ← c.high-2.ensures,
-      ← c.low-2.ensures,
-      ← c.high-3.ensures,
-      ← c.low-3.ensures,
-    )
-    c.put.ensures.1
+    numbers_put _ _ _ _ _ _ _ (omega (arith, c.told-memory)) c.put_word.ensures.1 c.put_word-2.ensures.1 c.put_word-3.ensures.1

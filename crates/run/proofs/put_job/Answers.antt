@@ -1,8 +1,3 @@
-use mathlib.Core.List.{[]}
-use mathlib.Core.Path.{refl, ap, sym, ◌∙◌}
-use lib.ListN.{length}
-use Rattle.list_block.specs.Laying.{eight}
-use Rattle.list_block.proofs.Laws.{block_long}
 use Rattle.job.proofs.Inversion.{job_in}
 use Rattle.run.proofs.Jobs.{list_is, lists_are, batch_short, job_put}
 use Rattle.run.proofs.put_job.Goals as goal

@@ -11,7 +11,7 @@ pub loop-answer-init : goal.loop-answer-init
 loop-answer-init c =
     let a = c.args in
     let node = node_of a.settings (lists_in a.lists.now) in
-    going_start node a.batch.now a.text.now _ a.place refl
+    going_start node a.batch.now a.text.now _ a.place _ refl c.start-cursor.ensures
 
 pub overflow_add-lines : goal.overflow_add-lines
 overflow_add-lines c =
@@ -23,51 +23,51 @@ slice_bounds-repeated-end c =
     let a = c.args in
     let node = node_of a.settings (lists_in a.lists.now) in
     let l = c.loop-answer in
-    let w = went_step node a.batch.now c.requires l.repeated l.offset l.ended _ c.in-Answered.answer c.in-Answered.next l.invariant.room
-    c.step-stepped.ensures.0 c.in-Answered.is in
-    let p = printed_step node a.batch.now c.requires l.repeated _ l.offset l.ended c.in-Answered.answer c.in-Answered.next l.invariant.room w
-    c.step-stepped.ensures.1 in
-    omega (arith, p.fits, c.step-stepped.auto.output, l.invariant.room)
+    let w = went_step node a.batch.now c.requires l.repeated l.cursor.place l.cursor.ended _ c.in-Answered.answer c.in-Answered.next l.invariant.room
+    c.step.ensures.0 c.in-Answered.is in
+    let p = printed_step node a.batch.now c.requires l.repeated _ l.cursor.place l.cursor.ended c.in-Answered.answer c.in-Answered.next l.invariant.room w
+    c.step.ensures.1 in
+    omega (arith, p.fits, c.step.auto.output, l.invariant.room)
 
 pub slice_bounds-put_pdu_line-end : goal.slice_bounds-put_pdu_line-end
 slice_bounds-put_pdu_line-end c =
     let a = c.args in
     let node = node_of a.settings (lists_in a.lists.now) in
     let l = c.loop-answer in
-    let w = went_step node a.batch.now c.requires l.repeated l.offset l.ended _ c.in-Answered.answer c.in-Answered.next l.invariant.room
-    c.step-stepped.ensures.0 c.in-Answered.is in
-    let p = printed_step node a.batch.now c.requires l.repeated _ l.offset l.ended c.in-Answered.answer c.in-Answered.next l.invariant.room w
-    c.step-stepped.ensures.1 in
-    sym (length-take-le _ _ (omega (arith, p.fits, c.step-stepped.auto.output, l.invariant.room)))
+    let w = went_step node a.batch.now c.requires l.repeated l.cursor.place l.cursor.ended _ c.in-Answered.answer c.in-Answered.next l.invariant.room
+    c.step.ensures.0 c.in-Answered.is in
+    let p = printed_step node a.batch.now c.requires l.repeated _ l.cursor.place l.cursor.ended c.in-Answered.answer c.in-Answered.next l.invariant.room w
+    c.step.ensures.1 in
+    sym (length-take-le _ _ (omega (arith, p.fits, c.step.auto.output, l.invariant.room)))
 
 pub loop-answer-smaller : goal.loop-answer-smaller
 loop-answer-smaller c =
     let a = c.args in
     let node = node_of a.settings (lists_in a.lists.now) in
     let l = c.loop-answer in
-    let w = went_step node a.batch.now c.requires l.repeated l.offset l.ended _ c.in-Answered.answer c.in-Answered.next l.invariant.room
-    c.step-stepped.ensures.0 c.in-Answered.is in
-    less_to_do node a.batch.now l.offset l.ended c.in-Answered.answer c.in-Answered.next w
+    let w = went_step node a.batch.now c.requires l.repeated l.cursor.place l.cursor.ended _ c.in-Answered.answer c.in-Answered.next l.invariant.room
+    c.step.ensures.0 c.in-Answered.is in
+    less_to_do node a.batch.now l.cursor.place l.cursor.ended c.in-Answered.answer c.in-Answered.next w
 
 pub loop-answer-preserved : goal.loop-answer-preserved
 loop-answer-preserved c =
     let a = c.args in
     let node = node_of a.settings (lists_in a.lists.now) in
     let l = c.loop-answer in
-    let w = went_step node a.batch.now c.requires l.repeated l.offset l.ended _ c.in-Answered.answer c.in-Answered.next l.invariant.room
-    c.step-stepped.ensures.0 c.in-Answered.is in
-    let p = printed_step node a.batch.now c.requires l.repeated _ l.offset l.ended c.in-Answered.answer c.in-Answered.next l.invariant.room w
-    c.step-stepped.ensures.1 in
-    going_next node a.batch.now l.offset l.ended c.in-Answered.answer c.in-Answered.next w _ _ _ _ _ _ _ _ _ _ l.invariant p
-    (c.step-stepped.auto.output ∙ l.invariant.room) refl c.put_pdu_line-next_place.ensures
+    let w = went_step node a.batch.now c.requires l.repeated l.cursor.place l.cursor.ended _ c.in-Answered.answer c.in-Answered.next l.invariant.room
+    c.step.ensures.0 c.in-Answered.is in
+    let p = printed_step node a.batch.now c.requires l.repeated _ l.cursor.place l.cursor.ended c.in-Answered.answer c.in-Answered.next l.invariant.room w
+    c.step.ensures.1 in
+    going_next node a.batch.now l.cursor.place l.cursor.ended c.in-Answered.answer c.in-Answered.next w _ _ _ _ _ _ _ _ _ _ l.invariant p
+    (c.step.auto.output ∙ l.invariant.room) refl c.put_pdu_line-next_place.ensures
 
 pub returns : goal.returns
 returns c =
     let a = c.args in
     let node = node_of a.settings (lists_in a.lists.now) in
     let l = c.loop-answer in
-    finished node a.batch.now c.requires a.text.now l.text l.repeated _ a.place l.next_place _ l.lines l.offset l.ended _
+    finished node a.batch.now c.requires a.text.now l.text l.repeated _ a.place l.next_place _ l.lines l.cursor.place l.cursor.ended _
     l.invariant
-    (with_room node a.batch.now c.requires l.repeated l.offset l.ended _ l.invariant.room
-    c.step-stepped.ensures.0)
+    (with_room node a.batch.now c.requires l.repeated l.cursor.place l.cursor.ended _ l.invariant.room
+    c.step.ensures.0)
     c.in_default.not-Answered c.put_last_line.ensures

@@ -6,8 +6,8 @@ use Rattle.run.proofs.put_walk.Given as goal
 abbrev pub invariant-loop-answer : goal.invariant-loop-answer
 invariant-loop-answer l =
     Going (node_of l.settings (lists_in l.lists)) l.batch l.initial.text l.place l.text l.repeated
-    l.next_place l.lines l.offset l.ended
+    l.next_place l.lines l.cursor.place l.cursor.ended
 
 abbrev pub decreases-loop-answer : goal.decreases-loop-answer
 decreases-loop-answer l =
-    to_do (node_of l.settings (lists_in l.lists)) l.batch l.offset l.ended
+    to_do (node_of l.settings (lists_in l.lists)) l.batch l.cursor.place l.cursor.ended

@@ -1,5 +1,5 @@
 use Rattle.sealing.proofs.Deciding.{with_header}
-use Rattle.sealing.proofs.Laying.{Laid, laid}
+use Rattle.sealing.proofs.Laying.{laid}
 use lib.ListN.{length}
 use Rattle.sealing.proofs.put_sealed.Goals as goal
 

@@ -1,9 +1,5 @@
-use Rattle.std.proofs.Common.{◌-◌}
 use Rattle.sha1_block.proofs.Words.{Ran}
 use Rattle.sha1_block.proofs.compress.Given as goal
 
 abbrev pub invariant-loop-t : goal.invariant-loop-t
 invariant-loop-t l = Ran l.h l.initial.w l.w l.s l.t
-
-abbrev pub decreases-loop-t : goal.decreases-loop-t
-decreases-loop-t l = 80 - l.t

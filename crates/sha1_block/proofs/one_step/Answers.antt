@@ -1,14 +1,16 @@
-use Rattle.std.proofs.Common.{ℕ, ◌+◌, ◌%◌, ◌^◌, refl, ◌∙◌}
+use Rattle.std.proofs.Common.{◌≡◌, ℕ, ◌+◌, ◌%◌, ◌^◌, refl, ◌∙◌, arith}
 use Rattle.sha1_block.specs.Sha1Block.{hash_step}
-use Rattle.sha1_block.proofs.Equal.{ap₄}
-use Rattle.sha1_block.proofs.Equal.{five}
+use Rattle.sha1_block.proofs.Equal.{ap₄, five}
 use Rattle.sha1_block.proofs.one_step.Goals as goal
+
+wrapped : (a b c d e : ℕ) → ((((a + b) % 2 ^ 32 + c) % 2 ^ 32 + d) % 2 ^ 32 + e) % 2 ^ 32 ≡ (a + b + c + d + e) % 2 ^ 32
+wrapped a b c d e = omega arith
 
 pub returns : goal.returns
 unfolding hash_step
 returns c =
-    let a = c.args in
+    let s = c.args.s in
     five
-    (c.sum.ensures
-    ∙ ap₄ (λ (x y z w : ℕ). (x + y + a.s.e + z + w) % 2 ^ 32) c.rotl5.ensures c.mix.ensures c.constant_of.ensures refl)
-    refl c.rotl30.ensures refl refl
+    (wrapped c.rotate_left.result c.mix.result s.e c.constant_of.result c.args.w
+    ∙ ap₄ (λ (x y z w : ℕ). (x + y + s.e + z + w) % 2 ^ 32) c.rotate_left.ensures c.mix.ensures c.constant_of.ensures refl)
+    refl c.rotate_left-2.ensures refl refl

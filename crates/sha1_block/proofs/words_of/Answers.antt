@@ -5,15 +5,13 @@ use Rattle.sha1_block.proofs.words_of.Goals as goal
 
 pub loop-t-init : goal.loop-t-init
 unfolding words
-loop-t-init c = (omega arith, search rules, refl)
+loop-t-init c = (search rules, refl)
 
 pub loop-t-preserved : goal.loop-t-preserved
 unfolding block_word
 loop-t-preserved c =
     let v = c.loop-t.invariant in
-    (omega arith, simp length-set v.1, laid _ c.loop-t.w c.loop-t.t _ (omega arith) v.2 c.word.ensures)
+    (simp length-set v.0, laid _ c.loop-t.w c.loop-t.t _ (omega arith) v.1 c.from_be_bytes.ensures)
 
 pub returns : goal.returns
-returns c =
-    let v = c.loop-t.invariant in
-    all_laid _ _ _ v.1 c.loop-t-test.false v.0 v.2
+returns c = all_laid _ _ c.loop-t.t c.loop-t.invariant.0 (omega arith) (omega arith) c.loop-t.invariant.1

@@ -1,11 +1,9 @@
 use Rattle.sources.proofs.Laws.{length_record}
 use native.Mathlib.Omega.{arith}
+use borrow.Author.Rules.{rules}
 use Rattle.sources.proofs.held.Goals as goal
 
-pub returns-then-first-lt-LIMIT : goal.returns-then-first-lt-LIMIT
-returns-then-first-lt-LIMIT c =
-    (omega (arith, length_record c.args.memory.now), omega arith, c.first_word-arg-1.given)
-
-pub returns-else-first-lt-LIMIT : goal.returns-else-first-lt-LIMIT
-returns-else-first-lt-LIMIT c =
-    (omega (arith, length_record c.args.memory.now), omega arith, c.first_word-arg-1.given)
+pub returns : goal.returns
+returns c =
+    let size = length_record c.args.memory.now in
+    (omega arith, omega arith, search rules)

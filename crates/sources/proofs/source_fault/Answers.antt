@@ -1,17 +1,16 @@
-use Rattle.sources.proofs.Laws.{source_held, source_full, source_room}
+use Rattle.sources.proofs.Laws.{inside, outside, source_held, source_full, source_room}
+use mathlib.Core.Path.{refl, sym, ◌∙◌}
 use native.Mathlib.Omega.{arith}
 use Rattle.sources.proofs.source_fault.Goals as goal
 
-pub returns-then-place_of-end : goal.returns-then-place_of-end
-returns-then-place_of-end c =
-    source_held _ _ _ c.place_of.ensures.0 (omega (arith, c.held-end.ensures.0))
+pub returns-then-is_some : goal.returns-then-is_some
+returns-then-is_some c =
+    source_held _ c.args.memory.now _ refl (inside _ _ _ c.find.ensures.found (sym c.is_some.ensures ∙ c.if-is_some.true))
 
-pub returns-then-end-ge-LIMIT : goal.returns-then-end-ge-LIMIT
-returns-then-end-ge-LIMIT c =
-    source_full _ _ _ c.place_of.ensures.0 (omega (arith, c.held-end.ensures.0))
-    (omega (arith, c.held-end.ensures.0))
+pub returns-then-held-lt-LIMIT : goal.returns-then-held-lt-LIMIT
+returns-then-held-lt-LIMIT c =
+    source_room _ c.args.memory.now _ refl (outside _ _ _ c.find.ensures.found (sym c.is_some.ensures ∙ c.if-is_some.false)) (omega arith)
 
-pub returns-else-end-ge-LIMIT : goal.returns-else-end-ge-LIMIT
-returns-else-end-ge-LIMIT c =
-    source_room _ _ _ c.place_of.ensures.0 (omega (arith, c.held-end.ensures.0))
-    (omega (arith, c.held-end.ensures.0))
+pub returns-else-held-lt-LIMIT : goal.returns-else-held-lt-LIMIT
+returns-else-held-lt-LIMIT c =
+    source_full _ c.args.memory.now _ refl (outside _ _ _ c.find.ensures.found (sym c.is_some.ensures ∙ c.if-is_some.false)) (omega arith)

@@ -1,75 +1,66 @@
 use mathlib.Core.List.{◌++◌}
 use mathlib.Core.Path.{◌∙◌}
-use Rattle.pdu.proofs.Faults.{start_given, end_given}
+use Rattle.pdu.proofs.Faults.{start_given, end_given, none_given}
 use Rattle.pdu.proofs.Showing.{header_told, length_told}
 use Rattle.split_pdu.proofs.Joining.{total, joined_refused, split_elsewhere, bytes_after, is_joined}
 use Rattle.split_pdu.proofs.joined_number.Goals as goal
 
-pub returns-then-start-ne0 : goal.returns-then-start-ne0
-returns-then-start-ne0 c =
-    let given = c.args in
-    let header = given.header.now in
-    let payload = given.payload.now in
-    joined_refused header payload _
-    (start_given (header ++ payload) (total header payload) c.joined_byte-byte0.ensures c.start_fault-start.ensures c.if-start-ne0.true)
-    c.if-start-ne0.true
+pub returns-in-Err : goal.returns-in-Err
+returns-in-Err c =
+    let header = c.args.header.now in
+    let payload = c.args.payload.now in
+    c.number.ensures
+    ∙ joined_refused header payload _
+    (start_given (header ++ payload) (total header payload) c.joined_byte-byte0.ensures c.start_fault.ensures c.in-Err.is)
 
-pub joined_count-path_count-requires : goal.joined_count-path_count-requires
-joined_count-path_count-requires c =
-    c.joined_byte-byte0.ensures
-
-pub returns-then-end-ne0 : goal.returns-then-end-ne0
-returns-then-end-ne0 c =
-    let given = c.args in
-    let header = given.header.now in
-    let payload = given.payload.now in
+pub returns-in-Err-end_fault : goal.returns-in-Err-end_fault
+returns-in-Err-end_fault c =
+    let header = c.args.header.now in
+    let payload = c.args.payload.now in
     let bytes = header ++ payload in
     let front = header_told bytes c.joined_byte-byte0.ensures c.joined_count-path_count.ensures c.header_length_in-header_length.ensures.0 in
     let whole =
     length_told bytes front c.joined_byte.ensures c.joined_byte-2.ensures (c.word_value.ensures.0 ∙ c.payload_length-payload_length.ensures) in
-    let number =
-    end_given bytes (total header payload) c.joined_byte-byte0.ensures c.start_fault-start.ensures c.if-start-ne0.false c.end_fault-end.ensures
-    front whole in
-    joined_refused header payload _ number c.if-end-ne0.true
+    c.number-in-Err-end_fault.ensures
+    ∙ joined_refused header payload _
+    (end_given bytes (total header payload) c.joined_byte-byte0.ensures c.start_fault.ensures c.in_default.is c.end_fault.ensures front whole
+    c.in-Err-end_fault.is)
 
 pub returns-then-header_length-header : goal.returns-then-header_length-header
 returns-then-header_length-header c =
-    let given = c.args in
-    let header = given.header.now in
-    let payload = given.payload.now in
+    let header = c.args.header.now in
+    let payload = c.args.payload.now in
     let bytes = header ++ payload in
     let front = header_told bytes c.joined_byte-byte0.ensures c.joined_count-path_count.ensures c.header_length_in-header_length.ensures.0 in
     let whole =
     length_told bytes front c.joined_byte.ensures c.joined_byte-2.ensures (c.word_value.ensures.0 ∙ c.payload_length-payload_length.ensures) in
-    let number =
-    end_given bytes (total header payload) c.joined_byte-byte0.ensures c.start_fault-start.ensures c.if-start-ne0.false c.end_fault-end.ensures
-    front whole in
-    split_elsewhere header payload _ _ _ number c.if-end-ne0.false front whole c.if-header_length-header.true
+    let read =
+    none_given bytes (total header payload) c.joined_byte-byte0.ensures c.start_fault.ensures c.in_default.is c.end_fault.ensures front whole
+    c.in_default-end_fault.is in
+    split_elsewhere header payload _ _ read front whole c.if-header_length-header.true
 
 pub returns-then-pdu_length-total : goal.returns-then-pdu_length-total
 returns-then-pdu_length-total c =
-    let given = c.args in
-    let header = given.header.now in
-    let payload = given.payload.now in
+    let header = c.args.header.now in
+    let payload = c.args.payload.now in
     let bytes = header ++ payload in
     let front = header_told bytes c.joined_byte-byte0.ensures c.joined_count-path_count.ensures c.header_length_in-header_length.ensures.0 in
     let whole =
     length_told bytes front c.joined_byte.ensures c.joined_byte-2.ensures (c.word_value.ensures.0 ∙ c.payload_length-payload_length.ensures) in
-    let number =
-    end_given bytes (total header payload) c.joined_byte-byte0.ensures c.start_fault-start.ensures c.if-start-ne0.false c.end_fault-end.ensures
-    front whole in
-    bytes_after header payload _ _ _ number c.if-end-ne0.false front whole c.if-header_length-header.false c.if-pdu_length-total.true
+    let read =
+    none_given bytes (total header payload) c.joined_byte-byte0.ensures c.start_fault.ensures c.in_default.is c.end_fault.ensures front whole
+    c.in_default-end_fault.is in
+    bytes_after header payload _ _ read front whole c.if-header_length-header.false c.if-pdu_length-total.true
 
 pub returns : goal.returns
 returns c =
-    let given = c.args in
-    let header = given.header.now in
-    let payload = given.payload.now in
+    let header = c.args.header.now in
+    let payload = c.args.payload.now in
     let bytes = header ++ payload in
     let front = header_told bytes c.joined_byte-byte0.ensures c.joined_count-path_count.ensures c.header_length_in-header_length.ensures.0 in
     let whole =
     length_told bytes front c.joined_byte.ensures c.joined_byte-2.ensures (c.word_value.ensures.0 ∙ c.payload_length-payload_length.ensures) in
-    let number =
-    end_given bytes (total header payload) c.joined_byte-byte0.ensures c.start_fault-start.ensures c.if-start-ne0.false c.end_fault-end.ensures
-    front whole in
-    is_joined header payload _ _ _ number c.if-end-ne0.false front whole c.if-header_length-header.false c.if-pdu_length-total.false
+    let read =
+    none_given bytes (total header payload) c.joined_byte-byte0.ensures c.start_fault.ensures c.in_default.is c.end_fault.ensures front whole
+    c.in_default-end_fault.is in
+    is_joined header payload _ _ read front whole c.if-header_length-header.false c.if-pdu_length-total.false

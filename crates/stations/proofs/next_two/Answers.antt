@@ -1,25 +1,44 @@
-use Rattle.stations.proofs.Places.{two_so, next_inside}
-use Rattle.stations.proofs.Memory.{length_addresses}
+use Rattle.stations.proofs.Places.{two_so, next_lower, next_not_lower}
 use Rattle.stations.specs.Table.{table_in, addresses, next_place}
-use Rattle.octets.specs.Octets.{at}
-use Prim.Native.Nat.{ℕ, ◌+◌, ◌-◌, ◌*◌, ◌/◌}
-use lib.Dec.{ltb}
-use mathlib.Core.Path.{refl, ◌∙◌, sym, ap, ap₂}
-use mathlib.Core.Bool.{cond}
+use mathlib.Core.Path.{ap, ◌∙◌}
+use Prim.Native.Nat.{ℕ, ◌/◌}
 use native.Mathlib.Omega.{arith}
+use Rattle.stations.proofs.next_two.Goals.{then-over_far, else-over_far, then-over_near, else-over_near}
 use Rattle.stations.proofs.next_two.Goals as goal
 
-pub returns-then-far-end : goal.returns-then-far-end
-returns-then-far-end c =
-    let a = c.args in
-    let memory = a.table.now in
-    let known = addresses (table_in memory) in
-    let so = two_so memory a.address a.place a.step (a.step / 2) _ _ _ (omega arith) (omega arith) refl refl refl (omega arith) in
-    let over = ltb (at memory (4 * (a.place + a.step) - 3)) a.address in
-    let found = c.either-then-far-end-2.ensures ∙ ap₂ (cond over) c.either.ensures c.either-then-far-end.ensures ∙ sym so in
-    let inside = next_inside a.address known (next_place a.address known a.place a.step) (a.step / 2)
-    (next_inside a.address known a.place a.step (omega (arith, length_addresses (table_in memory)))) in
-    (found, omega (arith, found, inside, length_addresses (table_in memory)))
+pub returns-then-over_middle : goal.returns-then-over_middle
+returns-then-over_middle c =
+    elim c.if-over_far.branch [
+      | then-over_far w ↦
+          rw w.behind-is (
+            two_so _ _ _ _ _ _ _ (next_lower _ _ _ _ (omega arith) (omega arith) c.if-over_middle.true)
+                (next_lower _ _ _ _ (omega arith) (omega arith) w.if-over_far.true),
+            omega arith,
+          )
+      | else-over_far w ↦
+          rw w.behind-is (
+            two_so _ _ _ _ _ _ _ (next_lower _ _ _ _ (omega arith) (omega arith) c.if-over_middle.true)
+                (next_not_lower _ _ _ _ (omega arith) (omega arith) w.if-over_far.false),
+            omega arith,
+          )
+    ]
+
+pub returns-else-over_middle : goal.returns-else-over_middle
+returns-else-over_middle c =
+    elim c.if-over_near.branch [
+      | then-over_near w ↦
+          rw w.before-is (
+            two_so _ _ _ _ _ _ _ (next_not_lower _ _ _ _ (omega arith) (omega arith) c.if-over_middle.false)
+                (next_lower _ _ _ _ (omega arith) (omega arith) w.if-over_near.true),
+            omega arith,
+          )
+      | else-over_near w ↦
+          rw w.before-is (
+            two_so _ _ _ _ _ _ _ (next_not_lower _ _ _ _ (omega arith) (omega arith) c.if-over_middle.false)
+                (next_not_lower _ _ _ _ (omega arith) (omega arith) w.if-over_near.false),
+            omega arith,
+          )
+    ]
 
 pub returns : goal.returns
 returns c =

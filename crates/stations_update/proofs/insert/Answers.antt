@@ -1,4 +1,5 @@
 use Rattle.stations_update.proofs.Moving.{puts_first, puts_next, puts_last, lays_long, lays_station}
+use mathlib.Core.Path.{refl}
 use native.Mathlib.Omega.{arith}
 use Rattle.stations_update.proofs.insert.Goals as goal
 
@@ -27,11 +28,7 @@ put_station-requires-2 c =
     let more = c.requires.1 in
     (omega (arith, more, p.held), omega (arith, more, p.held, p.lays.long, lays_long p.lays), p.small)
 
-pub narrow-requires : goal.narrow-requires
-narrow-requires c =
-    omega (arith, c.requires.1, c.loop-i.invariant.held)
-
 pub returns : goal.returns
 returns c =
     let p = c.loop-i.invariant in
-    puts_last _ _ _ p (omega arith) c.put_station-2.ensures c.narrow.ensures c.set_held.ensures
+    puts_last _ _ _ p (omega arith) c.put_station-2.ensures refl refl

@@ -1,12 +1,13 @@
-use Rattle.stations_update.proofs.Answers.{held_inside, removed, not_removed}
+use Rattle.stations.proofs.Answers.{found_inside}
+use Rattle.stations_update.proofs.Answers.{removed, not_removed}
+use mathlib.Core.Path.{sym, ◌∙◌}
 use Rattle.stations_update.proofs.remove.Goals as goal
 
 pub take_out-requires : goal.take_out-requires
-take_out-requires c = held_inside _ _ _ c.find_place-sought.ensures c.if-sought.true
+take_out-requires c = found_inside _ _ _ (sym c.find_place.ensures ∙ c.in-Ok.is)
 
-pub returns-then-sought : goal.returns-then-sought
-returns-then-sought c =
-    removed _ _ _ c.find_place-sought.ensures _ c.if-sought.true c.take_out.ensures
+pub returns-in-Ok : goal.returns-in-Ok
+returns-in-Ok c = removed _ _ _ _ (sym c.find_place.ensures ∙ c.in-Ok.is) c.take_out.ensures
 
-pub returns : goal.returns
-returns c = not_removed _ _ _ c.find_place-sought.ensures c.if-sought.false
+pub returns-in-Err : goal.returns-in-Err
+returns-in-Err c = not_removed _ _ _ (sym c.find_place.ensures ∙ c.in-Err.is)

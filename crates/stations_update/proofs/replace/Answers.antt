@@ -1,4 +1,4 @@
-use mathlib.Core.Path.{◌∙◌}
+use mathlib.Core.Path.{refl}
 use Rattle.stations_update.proofs.Moving.{placed_one}
 use native.Mathlib.Omega.{arith}
 use Rattle.stations_update.proofs.replace.Goals as goal
@@ -12,4 +12,4 @@ put_station-requires c =
 pub returns : goal.returns
 returns c =
     let h = c.held-end.ensures in
-    placed_one _ _ _ _ _ _ c.requires.0 (c.narrow.ensures ∙ h.0) h.2 c.put_station.ensures c.set_held.ensures
+    placed_one _ _ _ _ _ _ c.requires.0 h.0 h.2 c.put_station.ensures refl

@@ -1,4 +1,5 @@
 use Rattle.stations_update.proofs.Moving.{takes_first, takes_next, takes_last, lays_long, lays_station}
+use mathlib.Core.Path.{refl}
 use native.Mathlib.Omega.{arith}
 use Rattle.stations_update.proofs.take_out.Goals as goal
 
@@ -23,4 +24,4 @@ loop-i-preserved c =
 
 pub returns : goal.returns
 returns c =
-    takes_last _ _ c.loop-i.invariant (omega arith) c.narrow.ensures c.set_held.ensures
+    takes_last _ _ c.loop-i.invariant (omega arith) refl refl

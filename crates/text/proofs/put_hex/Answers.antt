@@ -6,39 +6,36 @@ use mathlib.Core.Path.{refl}
 use lib.ListN.{length-set}
 use native.Mathlib.Omega.{arith}
 use Rattle.text.proofs.put_hex.Goals as goal
+use Rattle.text.proofs.put_hex.Goals.{then-output-place-via-then-output-place, then-output-place-via-else-output-place+then-output-place-2}
 
 pub returns-then-output-place : goal.returns-then-output-place
-returns-then-output-place c = not_placed _ _ _ (omega arith)
+returns-then-output-place c =
+    not_placed _ _ _
+    (elim c.then-output-place.branch [
+      | then-output-place-via-then-output-place w ↦ omega arith
+      | then-output-place-via-else-output-place+then-output-place-2 w ↦ omega (arith, length_hex c.args.bytes.now)
+    ])
 
-pub returns-then-output-place-2 : goal.returns-then-output-place-2
-returns-then-output-place-2 c = let a = c.args in not_placed _ _ _ (omega (arith, length_hex a.bytes.now))
-
-pub loop-i-init : goal.loop-i-init
+pub loop-byte-init : goal.loop-byte-init
 unfolding hex
-loop-i-init c = (omega arith, omega arith, refl, omega arith, nothing _ _ (omega arith))
+loop-byte-init c = (omega arith, omega arith, refl, omega arith, nothing _ _ (omega arith))
 
-pub digit-requires : goal.digit-requires
-digit-requires c = omega (arith, c.shared_slice_known-in-loop-i-1.given c.loop-i.i)
+pub bounds-output-next-in-loop-byte : goal.bounds-output-next-in-loop-byte
+bounds-output-next-in-loop-byte c = simp length-set (omega arith)
 
-pub digit-requires-in-loop-i : goal.digit-requires-in-loop-i
-digit-requires-in-loop-i c = omega (arith, c.shared_slice_known-in-loop-i-2-1.given c.loop-i.i)
-
-pub bounds-output-next-in-loop-i : goal.bounds-output-next-in-loop-i
-bounds-output-next-in-loop-i c = simp length-set (omega arith)
-
-pub loop-i-preserved : goal.loop-i-preserved
-loop-i-preserved c =
-    let l = c.loop-i in
+pub loop-byte-preserved : goal.loop-byte-preserved
+loop-byte-preserved c =
+    let l = c.loop-byte in
     let a = c.args in (
       omega arith,
       l.invariant.1,
       simp length-set l.invariant.2,
       omega arith,
-      byte_put a.bytes.now l.i _ _ l.invariant.4 (omega arith) l.invariant.1 c.digit.ensures c.digit-in-loop-i.ensures,
+      byte_put a.bytes.now l.byte-index _ _ l.invariant.4 (omega arith) l.invariant.1 c.digit.ensures c.digit-in-loop-byte.ensures,
     )
 
 pub returns : goal.returns
 returns c =
-    let l = c.loop-i in
+    let l = c.loop-byte in
     let a = c.args in
-    all_put a.bytes.now l.i l.invariant.4 (omega arith)
+    all_put a.bytes.now l.byte-index l.invariant.4 (omega arith)

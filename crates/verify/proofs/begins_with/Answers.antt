@@ -1,8 +1,10 @@
 use Rattle.verify.proofs.Compared.{word_compared}
+use lib.Dec.{eqb}
+use mathlib.Core.Path.{ap, ◌∙◌}
 use native.Mathlib.Omega.{arith}
+use borrow.Author.Rules.{rules}
 use Rattle.verify.proofs.begins_with.Goals as goal
 
 pub returns : goal.returns
 returns c =
-    let a = c.args in
-    word_compared a.word a.block _ _ _ _ (omega arith) c.wide.ensures c.wide-2.ensures c.wide-3.ensures c.wide-4.ensures
+    ap (eqb c.args.word) c.from_be_bytes.ensures ∙ word_compared c.args.word c.args.block (omega arith) (search rules)

@@ -12,40 +12,40 @@ pub count_by-returns-then-marks-next-gt0 : goal.count_by-returns-then-marks-next
 count_by-returns-then-marks-next-gt0 t c =
     let a = c.args in
     let small : (y : ℕ) → at a.counts.now y ≤ count_limit = λ y. fits_most _ (c.type_inv.counts y).fits in
-    adds_nothing (is_heard_in a.table.now) a.growth a.hops a.marks.now a.next a.price a.counts.now a.counted a.enough small
+    adds_nothing (is_heard_in a.walk.now.table.now) a.walk.now.growth a.hops a.marks.now a.next a.price a.counts.now a.counted a.walk.now.enough small
     (omega arith) c.if-marks-next-gt0.true
 
 pub count_by-count_from-count-requires : goal.count_by-count_from-count-requires
 count_by-count_from-count-requires t c =
     let a = c.args in
     let long = length-set a.marks.now a.next 1 in
-    let rows = subst (Rows a.table.now) (sym long) c.requires.6 in
+    let rows = subst (Rows a.walk.now.table.now) (sym long) c.requires.6 in
     (omega arith, (omega arith, omega arith, omega arith, omega arith, omega arith, omega arith, rows))
 
 pub count_by-returns : goal.count_by-returns
 count_by-returns t c =
     let a = c.args in
-    adds_all (is_heard_in a.table.now) a.growth a.hops a.marks.now a.next a.price a.counts.now a.counted a.enough
+    adds_all (is_heard_in a.walk.now.table.now) a.walk.now.growth a.hops a.marks.now a.next a.price a.counts.now a.counted a.walk.now.enough
     _ _ _ c.if-marks-next-gt0.false c.count_from-count.ensures
 
-pub count_from-returns-then-price-enough : goal.count_from-returns-then-price-enough
-count_from-returns-then-price-enough t c =
+pub count_from-returns-then-price-walk : goal.count_from-returns-then-price-walk
+count_from-returns-then-price-walk t c =
     let a = c.args in
-    at_once (is_heard_in a.table.now) a.growth a.hops a.marks.now a.sender a.price a.counts.now a.counted a.enough
-    (omega arith) c.if-price-enough.true
+    at_once (is_heard_in a.walk.now.table.now) a.walk.now.growth a.hops a.marks.now a.sender a.price a.counts.now a.counted a.walk.now.enough
+    (omega arith) c.if-price-walk.true
 
 pub count_from-returns-then-hops-eq0 : goal.count_from-returns-then-hops-eq0
 count_from-returns-then-hops-eq0 t c =
     let a = c.args in
     let small : (y : ℕ) → at a.counts.now y ≤ count_limit = λ y. fits_most _ (c.slice_known-2-1.given y).fits in
-    no_more_hops (is_heard_in a.table.now) a.growth a.hops a.marks.now a.sender a.price a.counts.now a.counted a.enough
+    no_more_hops (is_heard_in a.walk.now.table.now) a.walk.now.growth a.hops a.marks.now a.sender a.price a.counts.now a.counted a.walk.now.enough
     (omega arith) small (omega arith) (omega arith) _ c.add.ensures c.if-hops-eq0.true
 
 pub count_from-loop-next-init : goal.count_from-loop-next-init
 count_from-loop-next-init t c =
     let a = c.args in (
       refl,
-      loop_begins a.table.now a.growth a.hops a.marks.now a.sender a.price a.enough _ _ c.requires.6 (omega arith) _
+      loop_begins a.walk.now.table.now a.walk.now.growth a.hops a.marks.now a.sender a.price a.walk.now.enough _ _ c.requires.6 (omega arith) _
           c.hearer-next.ensures.0 c.hearer-next.ensures.1 (omega arith) (λ y. fits_most _ (c.type_inv.counts y).fits),
     )
 
@@ -53,7 +53,7 @@ pub count_from-count_by-count-requires : goal.count_from-count_by-count-requires
 count_from-count_by-count-requires t c =
     let l = c.loop-next in
     let same = ap length l.invariant.0 in
-    let rows = subst (Rows c.args.table.now) (sym same) c.requires.6 in
+    let rows = subst (Rows c.args.walk.now.table.now) (sym same) c.requires.6 in
     let grown = ap length c.add.ensures ∙ length_added _ _ _ in
     let sized = l.invariant.1.size in
     (omega arith, (omega arith, omega arith, omega arith, omega arith, omega arith, l.invariant.1.within, rows))
@@ -72,7 +72,7 @@ count_from-loop-next-preserved t c =
     let a = c.args in
     let same = ap length l.invariant.0 in (
       c.count_by-count.ensures.marks_kept ∙ l.invariant.0,
-      loop_next a.table.now a.growth a.hops a.marks.now a.sender a.price a.enough _ _ c.requires.6 (omega arith) l.next
+      loop_next a.walk.now.table.now a.walk.now.growth a.hops a.marks.now a.sender a.price a.walk.now.enough _ _ c.requires.6 (omega arith) l.next
           l.count _ _ l.counts _ _ l.marks l.invariant.1 (omega arith) l.invariant.0 c.hearer-next-in-loop-next.ensures.0
           c.hearer-next-in-loop-next.ensures.1 c.count_by-count.ensures,
     )
@@ -83,6 +83,6 @@ count_from-returns t c =
     let a = c.args in
     let small : (y : ℕ) → at a.counts.now y ≤ count_limit = λ y. fits_most _ (c.slice_known-2-1.given y).fits in
     let same = ap length l.invariant.0 in
-    loop_ends a.table.now a.growth a.hops a.marks.now a.sender a.price a.enough _ _ a.counts.now a.counted l.next
+    loop_ends a.walk.now.table.now a.walk.now.growth a.hops a.marks.now a.sender a.price a.walk.now.enough _ _ a.counts.now a.counted l.next
     l.count l.marks l.counts l.invariant.0 l.invariant.1 (omega arith) (omega arith) small (omega arith) refl c.add.ensures
     c.if-hops-eq0.false

@@ -13,7 +13,7 @@ decreases-count_from l = l.hops * 2
 abbrev pub invariant-count_from-loop-next : goal.invariant-count_from-loop-next
 invariant-count_from-loop-next l =
     (l.marks ≡ l.initial.marks)
-    × Looping l.table l.growth l.hops l.initial.marks l.sender l.price l.enough l.initial.count l.initial.counts l.next l.count l.counts
+    × Looping l.walk.table.now l.walk.growth l.hops l.initial.marks l.sender l.price l.walk.enough l.initial.count l.initial.counts l.next l.count l.counts
 
 abbrev pub decreases-count_from-loop-next : goal.decreases-count_from-loop-next
 decreases-count_from-loop-next l = length l.initial.marks - l.next

@@ -1,17 +1,8 @@
 use Rattle.std.proofs.lemmas.Bool.{not_from_false, not_from_true}
 use mathlib.Core.Path.{sym, ◌∙◌}
-use borrow.Author.Tests.{not-false}
 use Rattle.ways.proofs.Counting.{fits_most}
 use Rattle.ways.proofs.Answers.{hop_refused, not_served, serves, exactly, at_least}
 use native.Mathlib.Omega.{arith}
-use Rattle.ways.proofs.answer.Reads as reads
-use Rattle.ways.proofs.answer.Lts as lts
-use Rattle.ways.proofs.clear.Reads as clear_reads
-use Rattle.ways.proofs.clear_counts.Reads as clear-counts-reads
-use Rattle.ways.proofs.count_apart.Reads as count-apart-reads
-use Rattle.ways.proofs.fill.Reads as fill-reads
-use Rattle.ways.proofs.hops_of.Reads as hops-of-reads
-use Rattle.ways.proofs.is_served.Reads as is-served-reads
 use Rattle.ways.proofs.answer.Goals as goal
 
 pub returns-then-hop_limit-gt7 : goal.returns-then-hop_limit-gt7
@@ -40,8 +31,8 @@ pub returns-then-count-enough : goal.returns-then-count-enough
 returns-then-count-enough c =
     let a = c.args in
     exactly a.pairs.now a.marks.now a.from a.hop_limit a.price a.growth a.enough a.counts.now a.table.now _
-    c.if-hop_limit-gt7.false c.is_served.ensures (not_from_true _ c.if-not-is_served.false) _ c.fill.ensures _ c.clear_counts.ensures _
-    c.hops_of.ensures.0 _ _ _ c.count_apart-count.ensures _ _ c.clear.ensures c.table-1.given
+    c.if-hop_limit-gt7.false c.is_served.ensures (not_from_true _ c.if-not-is_served.false) _ c.lay.ensures _ (c.fill.ensures.after (λ y same. same)) _
+    c.hops_of.ensures.0 _ _ _ c.count_apart-count.ensures _ _ (c.fill-2.ensures.after (λ y same. same)) c.table-1.given
     (fits_most _ c.ranges.enough.fits) c.if-count-enough.true
 
 pub shape_of-marks : goal.shape_of-marks
@@ -59,12 +50,12 @@ pub returns : goal.returns
 returns c =
     let a = c.args in
     at_least a.pairs.now a.marks.now a.from a.hop_limit a.price a.growth a.enough a.counts.now a.table.now _
-    c.if-hop_limit-gt7.false c.is_served.ensures (not_from_true _ c.if-not-is_served.false) _ c.fill.ensures _ c.clear_counts.ensures _
-    c.hops_of.ensures.0 _ _ _ c.count_apart-count.ensures _ _ c.clear.ensures c.table-1.given
-    _ c.clear_counts-2.ensures c.if-count-enough.false
+    c.if-hop_limit-gt7.false c.is_served.ensures (not_from_true _ c.if-not-is_served.false) _ c.lay.ensures _ (c.fill.ensures.after (λ y same. same)) _
+    c.hops_of.ensures.0 _ _ _ c.count_apart-count.ensures _ _ (c.fill-2.ensures.after (λ y same. same)) c.table-1.given
+    _ (c.fill-3.ensures.after (λ y same. same)) c.if-count-enough.false
 
-pub fill-requires : goal.fill-requires
-fill-requires c =
+pub lay-requires : goal.lay-requires
+lay-requires c =
     let a = c.args in
     let s = serves _ _ _ _ (sym c.is_served.ensures ∙ c.if-not-is_served.false) in
     (omega (arith, s.few), s.room_is)
@@ -73,6 +64,6 @@ pub count_apart-count-requires : goal.count_apart-count-requires
 count_apart-count-requires c =
     let a = c.args in
     let s = serves _ _ _ _ (sym c.is_served.ensures ∙ c.if-not-is_served.false) in
-    let filled = c.fill.ensures in
+    let filled = c.lay.ensures in
     let sized = c.counts-1.given in
     (s.begins, omega (arith, s.few), sized ∙ s.places_are, omega arith, omega arith, omega arith, filled.rows)

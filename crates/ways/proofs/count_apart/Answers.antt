@@ -3,9 +3,6 @@ use mathlib.Core.Path.{refl, sym, ap, subst}
 use Rattle.ways.specs.Table.{Rows}
 use Rattle.ways.proofs.Counting.{apart_back}
 use native.Mathlib.Omega.{arith}
-use Rattle.ways.proofs.count_apart.Reads as reads
-use Rattle.ways.proofs.count_apart.Lts as lts
-use Rattle.ways.proofs.count_from.Reads as count-from-reads
 use Rattle.ways.proofs.count_apart.Goals as goal
 
 pub bounds-marks-from : goal.bounds-marks-from
@@ -18,7 +15,7 @@ pub count_from-count-requires : goal.count_from-count-requires
 count_from-count-requires c =
     let a = c.args in
     let long = length-set a.marks.now a.from 1 in
-    let rows = subst (Rows a.table.now) (sym long) c.requires.6 in
+    let rows = subst (Rows a.walk.now.table.now) (sym long) c.requires.6 in
     (omega arith, omega arith, omega arith, omega arith, omega arith, omega arith, rows)
 
 pub bounds-marks-from-3 : goal.bounds-marks-from-3
@@ -31,7 +28,7 @@ bounds-marks-from-3 c =
 pub shape_of-marks : goal.shape_of-marks
 shape_of-marks c =
     let a = c.args in
-    ap length (apart_back _ a.marks.now a.counts.now a.from a.enough _ _ _ _ refl c.count_from-count.ensures).marks_kept
+    ap length (apart_back _ a.marks.now a.counts.now a.from a.walk.now.enough _ _ _ _ refl c.count_from-count.ensures).marks_kept
 
 pub shape_of-counts : goal.shape_of-counts
 shape_of-counts c = c.count_from-count.ensures.size
@@ -39,4 +36,4 @@ shape_of-counts c = c.count_from-count.ensures.size
 pub returns : goal.returns
 returns c =
     let a = c.args in
-    apart_back _ a.marks.now a.counts.now a.from a.enough _ _ _ _ refl c.count_from-count.ensures
+    apart_back _ a.marks.now a.counts.now a.from a.walk.now.enough _ _ _ _ refl c.count_from-count.ensures

@@ -1,8 +1,8 @@
 use mathlib.Core.Path.{ap, sym, ◌∙◌}
 use borrow.Author.Tests.{not-true, not-false}
-use Rattle.pdu.specs.declared.Sender.TheVariants.{Known}
 use Rattle.pdu.proofs.Senders.{sender_unknown, sender_source, sender_at}
 use native.Mathlib.Omega.{arith}
+use Rattle.std.specs.Prelude.{Some}
 use Rattle.pdu.proofs.parts.last_sender.Goals as goal
 
 pub returns-then-not-header : goal.returns-then-not-header
@@ -18,5 +18,5 @@ returns-then-entries-eq0 c =
 pub returns : goal.returns
 returns c =
     let a = c.args in
-    ap Known c.path_address.ensures
+    ap Some c.path_address.ensures
     ∙ sym (sender_at a.header a.bytes.now (not-false _ c.if-not-header.false) _ (omega (arith, c.path_entries-entries.ensures.0)))

@@ -1,7 +1,0 @@
-use Rattle.decision.proofs.is_own_report.Goals as goal
-
-pub returns-then-settings : goal.returns-then-settings
-returns-then-settings c = rw c.if-settings.true
-
-pub returns-else-settings : goal.returns-else-settings
-returns-else-settings c = rw c.if-settings.false

@@ -1,7 +1,0 @@
-use mathlib.Core.Path.{◌∙◌, ap₂}
-use Rattle.retained_operations.specs.Operations.{decide_of}
-use Rattle.retained_operations.proofs.step.Goals as goal
-
-pub returns : goal.returns
-returns c = let a = c.args in c.decide.ensures
-    ∙ ap₂ (decide_of a.a a.count) c.step_number-number.ensures c.step_effect-effect.ensures
