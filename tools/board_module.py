@@ -18,7 +18,8 @@ KNOWN = re.compile(
     rf'  (%\S+ = )?(({WORDS})\b|icmp \w+ i|getelementptr (inbounds nuw )?i8, ptr |(load|store) (?!volatile|atomic).*, align ).*|    i\d+ -?\d+, label .*|  \]|'
     r'declare void @llvm\.(memmove\.p0\.p0\.i64|memset\.p0\.i64|trap)\(.*|define .*|}|[\w.]+:( +;.*)?|(attributes|source|;|!).*|'
     r'@static\.\d+ = private unnamed_addr constant \[\d+ x i8\] (c".*", align 1|zeroinitializer, align \d+)|')
-FOREIGN = re.compile(r'\b(i128|float|double|asm|addrspace|inttoptr|ptrtoint)\b|<\d+ x |\{ ptr, (?!i64 \})')
+# a number and a pointer as one value: the pointer lies at byte 8 on 64 bits, where the module stores it, and at byte 4 on 32
+FOREIGN = re.compile(r'\b(i128|float|double|asm|addrspace|inttoptr|ptrtoint)\b|<\d+ x |\{ ptr, (?!i64 \})|\{ i\d+, ptr \}')
 PAIR = r'\{ i\d+, i\d+ \}'
 HEAD = re.compile(rf'define (?:noundef |zeroext )*(void|ptr|i\d+|{PAIR}) @\w+\((.*)\) #0 \{{')
 ARGUMENT = re.compile(r'(ptr|i\d+)(?: noundef| zeroext)*(?: byval\(\[(\d+) x i8\]\) align 8)? %a(\d+)')

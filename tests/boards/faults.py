@@ -51,6 +51,7 @@ CHANGES = (
     (MODULE, FIRST, r'\1  %rp = alloca i8, align 1\n  %rn = ptrtoint ptr %rp to i64\n', 'ptrtoint'),
     (MODULE, FIRST, r'\1  %rp = alloca i8, align 1\n  %rn = icmp eq ptr %rp, null\n', 'icmp'),
     (MODULE, FIRST, r'\1  %rn = add i128 1, 1\n', 'i128'),
+    (MODULE, FIRST, r'\1  %rp = alloca [16 x i8], align 8\n  %rn = load { i8, ptr }, ptr %rp, align 8\n', 'i8, ptr'),
     (MODULE, FIRST, r'\1  %rp = alloca i8, align 1\n  %rn = load volatile i8, ptr %rp, align 1\n', 'volatile'),
     (MODULE, r'(declare void @llvm.trap)', r'declare void @other()\n\n\1', 'other'),
     (MODULE, r'(define internal )', r'@other = global i64 0\n\n\1', 'other'),
