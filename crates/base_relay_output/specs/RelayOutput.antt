@@ -9,7 +9,7 @@ use Rattle.text.specs.Text.{text, decimal}
 use Rattle.lines.specs.Lines.{first_line, last_line}
 use Rattle.job.specs.declared.Job.{Job}
 use Rattle.job.specs.declared.JobRefusal.{JobRefusal}
-use Rattle.job.specs.Jobs.{job_refusal_number, job_number, job_of, batch_in, node_in}
+use Rattle.job.specs.Jobs.{job_refusal_number, with_number, job_number, job_of, batch_in, node_in}
 use Rattle.run.specs.Run.{room_for_one, pdu_lines, printed, Ran}
 
 -- own address 2000, echo and repeating on, and four empty lists, as document 01's example begins
@@ -25,7 +25,7 @@ example_job =
 
 -- the number that bytes are refused with, 0 where they are a job
 abbrev pub fault : List ℕ → ℕ
-fault bytes = job_number (job_of bytes)
+fault bytes = job_number (with_number (job_of bytes))
 
 pub record RelayOutput : Type 0 where
   -- a bad job prints only `refused` and the number

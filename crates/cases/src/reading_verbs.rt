@@ -39,7 +39,8 @@ fn reads(rt: &impl Print, line: Line, input: &[u8]) -> io::Result<bool> {
             pdu::reading_number(pdu::read(input)) as u64,
         );
     }
-    tell(rt, line, 0o2, 0, job::job_number(job::read(input)) as u64)
+    let reading = job::read(input).map_err(|refusal| refusal.number());
+    tell(rt, line, 0o2, 0, u64::from(job::job_number(reading)))
 }
 
 fn views(rt: &impl Print, line: Line, input: &[u8]) -> io::Result<bool> {

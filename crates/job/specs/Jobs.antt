@@ -24,14 +24,19 @@ job_refusal_number BytesAfter = 53
 job_refusal_number BatchTooLong = 54
 job_refusal_number RangeReversed = 20
 
--- the number that each answer has: 0 where it shows a section or a job, else that of the refusal
-abbrev pub taken_number : Result Section JobRefusal → ℕ
-taken_number (Ok section) = 0
-taken_number (Err refusal) = job_refusal_number refusal
+-- what was read, with the number in place of its refusal
+abbrev pub with_number : {A : Type 0} → Result A JobRefusal → Result A ℕ
+with_number (Ok one) = Ok one
+with_number (Err refusal) = Err (job_refusal_number refusal)
 
-abbrev pub job_number : Result Job JobRefusal → ℕ
+-- the number that each has: 0 where it shows a section or a job, else the number it holds
+abbrev pub taken_number : Result Section ℕ → ℕ
+taken_number (Ok section) = 0
+taken_number (Err number) = number
+
+abbrev pub job_number : Result Job ℕ → ℕ
 job_number (Ok job) = 0
-job_number (Err refusal) = job_refusal_number refusal
+job_number (Err number) = number
 
 -- what follows what was read, or its refusal
 abbrev pub then_read : {A B : Type 0} → Result A JobRefusal → (A → Result B JobRefusal) → Result B JobRefusal

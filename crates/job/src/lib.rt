@@ -68,19 +68,18 @@ fn head_of(bytes: &[u8]) -> Result<(u16, u8), JobRefusal>
     Ok((octets::word(bytes, 0), flags))
 }
 
-// The number of a section: that of its refusal as `list_at` and `batch_at` give it, 0 for one that was taken.
-// Document 01, "Numbers answered".
-pub fn taken_number(taken: Result<Section, JobRefusal>) -> u8
+// The number of a section: that of its refusal, 0 for one that was taken. Document 01, "Numbers answered".
+pub fn taken_number(taken: Result<Section, u8>) -> u8
     ensures { result ≡ taken_number taken }
 {
-    taken.err().map_or(0, |refusal| refusal.number())
+    taken.err().unwrap_or(0)
 }
 
-// The number of a job: that of its refusal as `read` gives it, 0 for one that has no fault. Document 01, "Numbers answered".
-pub fn job_number(reading: Result<Job, JobRefusal>) -> u8
+// The number of a job: that of its refusal, 0 for one that has no fault. Its batch is the last section taken. Document 01, "Numbers answered".
+pub fn job_number(reading: Result<Job, u8>) -> u8
     ensures { result ≡ job_number reading }
 {
-    reading.err().map_or(0, |refusal| refusal.number())
+    taken_number(reading.map(|job| job.batch))
 }
 
 // So many ranges without fault: each is there whole, and none has its low above its high.

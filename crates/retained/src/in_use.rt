@@ -44,7 +44,9 @@ pub fn names_in(r: Retained) -> Names
 pub fn is_named(r: Retained, names: Names) -> bool
     ensures { result ≡ is_named names r }
 {
-    names_in(r) == names && is_used(r)
+    // The ID first: it is what differs among the commands of one base to one gate.
+    let held = names_in(r);
+    held.pdu_id == names.pdu_id && held == names && is_used(r)
 }
 
 // Whether a record is in use and was last sent at least the delay ago.

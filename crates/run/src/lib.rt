@@ -20,7 +20,10 @@ pub fn relay(bytes: &[u8], text: &mut [u8]) -> usize
     ensures { Ran bytes.now text.old text.new result }
 {
     match job::read(bytes) {
-        Err(refusal) => lines::put_refused_line(text, 0, refusal.number()),
+        Err(refusal) => {
+            let number = job::job_number(Err(refusal.number()));
+            lines::put_refused_line(text, 0, number)
+        }
         Ok(job) => put_job(text, bytes, job),
     }
 }

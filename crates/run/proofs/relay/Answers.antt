@@ -11,7 +11,7 @@ returns-in-Err c =
     let a = c.args in
     let put =
     refused_put a.bytes.now a.text.now _ _ _ (sym c.read.ensures ∙ c.in-Err.is)
-    (rw c.number.ensures at c.put_refused_line.ensures) in
+    (rw (c.job_number-number.ensures ∙ c.number.ensures) at c.put_refused_line.ensures) in
     ran a.bytes.now a.text.now _ _ (λ i. (c.shared_slice_known-1.given i).fits) put
 
 pub returns-in-Ok : goal.returns-in-Ok

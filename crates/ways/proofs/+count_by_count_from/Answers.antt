@@ -20,7 +20,7 @@ count_by-count_from-count-requires t c =
     let a = c.args in
     let long = length-set a.marks.now a.next 1 in
     let rows = subst (Rows a.walk.now.table.now) (sym long) c.requires.6 in
-    (omega arith, (omega arith, omega arith, omega arith, omega arith, omega arith, omega arith, rows))
+    (omega arith, (omega arith, omega arith, omega arith, omega arith, omega arith, omega arith, rows, omega arith))
 
 pub count_by-returns : goal.count_by-returns
 count_by-returns t c =
@@ -56,7 +56,7 @@ count_from-count_by-count-requires t c =
     let rows = subst (Rows c.args.walk.now.table.now) (sym same) c.requires.6 in
     let grown = ap length c.add.ensures ∙ length_added _ _ _ in
     let sized = l.invariant.1.size in
-    (omega arith, (omega arith, omega arith, omega arith, omega arith, omega arith, l.invariant.1.within, rows))
+    (omega arith, (omega arith, omega arith, omega arith, omega arith, omega arith, l.invariant.1.within, rows, omega arith))
 
 pub count_from-loop-next-smaller : goal.count_from-loop-next-smaller
 count_from-loop-next-smaller t c =

@@ -65,5 +65,13 @@ count_apart-count-requires c =
     let a = c.args in
     let s = serves _ _ _ _ (sym c.is_served.ensures ∙ c.if-not-is_served.false) in
     let filled = c.lay.ensures in
-    let sized = c.counts-1.given in
-    (s.begins, omega (arith, s.few), sized ∙ s.places_are, omega arith, omega arith, omega arith, filled.rows)
+    let sized = c.counts-1.given in (
+      s.begins,
+      omega (arith, s.few),
+      sized ∙ s.places_are,
+      omega arith,
+      omega arith,
+      omega arith,
+      filled.rows,
+      omega (arith, s.room_is, c.table-1.given),
+    )

@@ -16,7 +16,7 @@ count_from-count-requires c =
     let a = c.args in
     let long = length-set a.marks.now a.from 1 in
     let rows = subst (Rows a.walk.now.table.now) (sym long) c.requires.6 in
-    (omega arith, omega arith, omega arith, omega arith, omega arith, omega arith, rows)
+    (omega arith, omega arith, omega arith, omega arith, omega arith, omega arith, rows, omega arith)
 
 pub bounds-marks-from-3 : goal.bounds-marks-from-3
 bounds-marks-from-3 c =

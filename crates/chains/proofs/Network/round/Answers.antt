@@ -1,6 +1,6 @@
 use mathlib.Core.Path.{sym, ◌∙◌}
 use Rattle.chains.specs.Lengths.{is_usable}
-use Rattle.chains.proofs.Noting.{round_next, round_over}
+use Rattle.chains.proofs.Noting.{round_next, round_kept, round_over}
 use native.Mathlib.Omega.{arith}
 use Rattle.chains.proofs.Network.round.Goals as goal
 
@@ -11,8 +11,19 @@ loop-pair-preserved c =
     let steps = c.in-Some.ensures.steps in (
       steps.0 ∙ l.0,
       l.1
+          ∙ round_kept (is_usable a.self.now.marks.now a.self.now.from a.self.now.failed) _ c.in-Some.pair.now _ _ _ _ steps.1.0 (steps.1.1 ∙ l.0)
+          c.from-sender.ensures (sym c.has_length.ensures ∙ c.if-has_length.false),
+    )
+
+pub loop-pair-preserved-then-has_length : goal.loop-pair-preserved-then-has_length
+loop-pair-preserved-then-has_length c =
+    let l = c.loop-pair.invariant in
+    let a = c.args in
+    let steps = c.in-Some.ensures.steps in (
+      steps.0 ∙ l.0,
+      l.1
           ∙ round_next (is_usable a.self.now.marks.now a.self.now.from a.self.now.failed) _ c.in-Some.pair.now _ _ _ _ _ _ steps.1.0 (steps.1.1 ∙ l.0)
-          c.from.ensures c.from-in-loop-pair.ensures c.note.ensures,
+          c.from-sender.ensures c.from.ensures c.note.ensures,
     )
 
 pub returns : goal.returns
