@@ -25,12 +25,10 @@ const carried = (net, from, to, hop) => {
 
 export function showCommand() {
   const { net } = state, select = $('command-to'), others = net.nodes.slice(1), wanted = select.value;
-  offer(select, others);
   const bases = others.filter((node) => !node.repeats), chosen = others.find((node) => String(node.address) === wanted) ?? bases[0] ?? others[0];
+  offer(select, others, chosen?.address);
   $('command').hidden = !chosen;
-  if (!chosen) return;
-  select.value = chosen.address;
-  showCost(net.place.get(chosen.address));
+  if (chosen) showCost(net.place.get(chosen.address));
 }
 function showCost(to) {
   const { net } = state, tries = numberIn('tries'), back = Number($('back').value);

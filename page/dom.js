@@ -25,12 +25,27 @@ export function setAll(element, attributes) {
   for (const key in attributes) if (attributes[key] !== null) element.setAttribute(key, attributes[key]);
 }
 
-// Fills a choice of nodes, where they are others than before.
-export function offer(select, nodes) {
-  const names = nodes.map(named), made = names.join('\n');
-  if (select.made === made) return;
-  select.replaceChildren(...names.map((name, i) => new Option(name, nodes[i].address)));
-  select.made = made;
+const timers = new Map(); // of what is not filled yet: choices and tables
+const noteFilling = () => (document.documentElement.dataset.filling = timers.size || ''); // for the tests
+
+const FEW = 60, PAUSE = 250; // the most nodes whose choice is filled at each change; milliseconds
+// Fills a choice of nodes, if they are others than before, and chooses one. Hundreds take long to style. So a choice of many gets only the chosen one, and the
+// others at a pause, or when the user turns to the choice.
+export function offer(select, nodes, chosen) {
+  const made = nodes.map(named).join('\n');
+  const put = (isAll) => {
+    const some = isAll ? nodes : nodes.filter((node) => node.address === chosen);
+    select.replaceChildren(...some.map((node) => new Option(named(node), node.address)));
+    select.value = chosen;
+    select.made = isAll ? made : null;
+    select.onfocus = select.onpointerenter = isAll ? null : () => put(true);
+    clearTimeout(timers.get(select));
+    if (isAll) timers.delete(select);
+    else timers.set(select, setTimeout(put, PAUSE, true));
+    noteFilling();
+  };
+  if (select.made === made) select.value = chosen;
+  else put(nodes.length <= FEW || select.matches(':focus, :hover'));
 }
 
 const lastGood = new Map();
@@ -53,8 +68,8 @@ export const press = (event) => {
   if (next) (row.tabIndex = -1), (next.tabIndex = 0), next.focus();
 };
 // Fills a table's body with a row for each item. Those in view come at once and the others soon after, since hundreds take long to lay out. The row that had
-// the focus, known by its first cell, has it again. How many tables are not full yet is kept for the tests.
-const FIRST = 40, HIGH = 24, timers = new Map(), above = new WeakMap(); // rows that come together, pixels of a row; rows scrolled past
+// the focus, known by its first cell, has it again.
+const FIRST = 40, HIGH = 24, above = new WeakMap(); // rows that come together, pixels of a row; rows scrolled past
 export function fill(body, items, rowOf) {
   const keyOf = (row) => row.cells[0].textContent, held = body.contains(document.activeElement) ? keyOf(document.activeElement) : null;
   const put = (from, to) => {
@@ -65,7 +80,7 @@ export function fill(body, items, rowOf) {
     if (focused && document.activeElement === document.body) focused.focus({ preventScroll: true });
     if (to < items.length) timers.set(body, setTimeout(put, 0, to, to + FIRST));
     else timers.delete(body);
-    document.documentElement.dataset.filling = timers.size || '';
+    noteFilling();
   };
   if (!above.has(body)) {
     above.set(body, 0);

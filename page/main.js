@@ -32,8 +32,7 @@ function update() {
 
 function showControls() {
   const { net } = state;
-  offer($('originator'), [...net.nodes].sort((a, b) => a.address - b.address));
-  $('originator').value = net.nodes[0].address;
+  offer($('originator'), [...net.nodes].sort((a, b) => a.address - b.address), net.nodes[0].address);
   $('hop').value = net.hop;
   $('hop-value').textContent = net.hop;
   $('hop-words').textContent = net.hop === 7 ? 'never lowered: no limit' : `up to ${counted(net.hop + 1, 'hearing')}`;

@@ -1,9 +1,11 @@
 """What the page shows, taken from its document, for tests/run_page."""
 
-# Sets the text, then fields by name if they are given, waits until nothing is worked on, and says all that is answered about the network.
+# Sets the text, then fields by name if they are given, each as a user does, who turns to it first. Waits until nothing is worked on, and says all that is
+# answered about the network.
 NETWORK = """
 const [text, given, done] = arguments.length === 3 ? arguments : [arguments[0], {}, arguments[1]];
-const $ = (id) => document.getElementById(id), put = (id, value) => (($(id).value = value), $(id).dispatchEvent(new Event('input')));
+const $ = (id) => document.getElementById(id);
+const put = (id, value) => ($(id).dispatchEvent(new Event('focus')), ($(id).value = value), $(id).dispatchEvent(new Event('input')));
 put('source', text);
 for (const [id, value] of Object.entries(given)) put(id, value);
 const cells = (rows) => [...rows].map((row) => [...row.cells].map((cell) => (/^[\\d,]+$/.test(cell.title) ? cell.title : cell.textContent)));

@@ -1,6 +1,7 @@
 """255 nodes: how long the page takes to answer and draw, and what it does with counts that take long."""
 import math
 import re
+import time
 
 import facts
 
@@ -10,6 +11,14 @@ LEAST, MOST = 2, 30  # tries: a machine that is busy with other things is slower
 WORK = ('ScriptDuration', 'LayoutDuration', 'RecalcStyleDuration')
 TIMED = """const s = document.getElementById('source'); s.value = arguments[0]; const t = performance.now(); s.dispatchEvent(new Event('input'));
 document.body.getBoundingClientRect(); return performance.now() - t"""
+# Types texts one after another, turns to the two choices of nodes if that is wanted, and says which node each has chosen and which nodes it has.
+TYPED = """const source = document.getElementById('source'), choices = ['originator', 'command-to'].map((id) => document.getElementById(id));
+for (const text of arguments[0]) (source.value = text), source.dispatchEvent(new Event('input'));
+if (arguments[1]) for (const one of choices) one.dispatchEvent(new Event(arguments[1]));
+return choices.map((one) => [Number(one.value), [...one.options].map((option) => Number(option.value))])"""
+CHOSEN = "const one = document.getElementById('command-to'); one.value = arguments[0]; one.dispatchEvent(new Event('input'))"
+FOCUSED = "document.getElementById('originator')[arguments[0]]()"
+PAUSE = 0.3  # seconds after which a choice is filled
 
 
 def grid(hop, wide=15, high=17):
@@ -64,6 +73,38 @@ def deep(tally, b):
     """The deepest count, along a chain of 255 nodes; its answer is known."""
     found = b.wait(facts.NETWORK, chain(7))
     tally.same('a chain of 255 nodes', (found['figures'][0], found['headline'][0]), ('255', 'All 254 others hear a report from 2.'))
+
+
+def choices(tally, b):
+    """A choice of many nodes has the chosen one alone while texts are typed, and all of them at a pause or when one turns to it."""
+    def typed(what, texts, wanted, turned=''):
+        tally.same(f'choices of nodes: {what}', b.run(TYPED, texts, turned), wanted)
+
+    def paused(what, wanted):
+        b.until("return document.documentElement.dataset.filling === ''", 'a choice of nodes is not filled')
+        time.sleep(PAUSE)
+        typed(f'{what}, at a pause', [], wanted)
+
+    few, many, others = '1\n1: 2', [*range(1, 256)], [1, *range(3, 256)]
+    b.wait(facts.NETWORK, few)
+    typed('many', [chain(7)], [[2, [2]], [1, [1]]])
+    paused('many', [[2, many], [1, others]])
+    for turned in ('focus', 'pointerenter'):
+        typed(f'many, {turned}', [few, chain(7)], [[2, many], [1, others]], turned)
+    typed('few after many', [chain(6, 254), few], [[1, [1, 2]], [2, [2]]])
+    paused('few after many', [[1, [1, 2]], [2, [2]]])
+    typed('many after many', [chain(6, 254), chain(6, 200)], [[2, [2]], [1, [1]]])
+    paused('many after many', [[2, many[:200]], [1, others[:199]]])
+    typed('another originator', [chain(7), chain(7).replace('\n', '\n9:\n', 1)], [[9, [9]], [1, [1]]])
+    paused('another originator', [[9, many], [1, [2, 1, *range(3, 9), *range(10, 256)]]])
+    b.wait(facts.NETWORK, chain(7))
+    b.run(CHOSEN, 100)
+    typed('the chosen one, in the same nodes', [chain(6)], [[2, many], [100, others]], 'focus')
+    typed('the chosen one, in fewer', [chain(6, 200)], [[2, [2]], [100, [100]]])
+    paused('the chosen one', [[2, many[:200]], [100, others[:199]]])
+    b.run(FOCUSED, 'focus')
+    typed('the one that has the focus', [chain(6)], [[2, many], [100, [100]]])
+    b.run(FOCUSED, 'blur')
 
 
 def long_count(tally, b):

@@ -5,6 +5,7 @@ import boxes
 import network_answers
 import paging
 import pdus
+import sizes
 from trying import TOP, Tally
 
 LIBRARY, SEED, COUNT = TOP / 'target/boards/wasm32', 1, 12
@@ -30,6 +31,7 @@ WRONG = (
     ('a hearing is lost', 'network', 'bytesOf(net.pairs)', 'bytesOf(net.pairs.slice(1))', some_networks),
     ('the destination repeats', 'air', 'own[to] = 1', 'own[to] = own[to]', some_networks),
     ('two bytes short', 'answers', 'networkBytes(all, 0, net.hop, size)', 'networkBytes(all, 0, net.hop, size - 2)', some_networks),
+    ('a choice lacks a node', 'dom', 'isAll ? nodes :', 'isAll ? nodes.slice(1) :', sizes.choices),
     ('another field', 'fields', "add('source', h.source", "add('source', h.destination", some_pdus),
     ('edition 1.2 alone', 'reading', "call('mant_read', edition, bytes)", "call('mant_read', 12, bytes)", some_pdus),
     ('lists in each other’s place', 'box', "const ORDER = ['first', 'second']", "const ORDER = ['second', 'first']", some_boxes),
