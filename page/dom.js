@@ -28,9 +28,10 @@ export function setAll(element, attributes) {
 const timers = new Map(); // of what is not filled yet: choices and tables
 const noteFilling = () => (document.documentElement.dataset.filling = timers.size || ''); // for the tests
 
-const FEW = 60, PAUSE = 250; // the most nodes whose choice is filled at each change; milliseconds
-// Fills a choice of nodes, if they are others than before, and chooses one. Hundreds take long to style. So a choice of many gets only the chosen one, and the
-// others at a pause, or when the user turns to the choice.
+export const MANY = 60; // above so many nodes, choices and rows come later
+const PAUSE = 250; // milliseconds without a change, then a choice is filled
+// Fills a choice of nodes, if they are others than before, and chooses one. Hundreds take long to style. So a choice of many gets the chosen one at once. The
+// others come at a pause, or when the user turns to the choice.
 export function offer(select, nodes, chosen) {
   const made = nodes.map(named).join('\n');
   const put = (isAll) => {
@@ -45,7 +46,7 @@ export function offer(select, nodes, chosen) {
     noteFilling();
   };
   if (select.made === made) select.value = chosen;
-  else put(nodes.length <= FEW || select.matches(':focus, :hover'));
+  else put(nodes.length <= MANY || select.matches(':focus, :hover'));
 }
 
 const lastGood = new Map();

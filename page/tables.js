@@ -1,13 +1,13 @@
 // What takes longer than one frame: which failure cuts whom off, every originator, and a long count of the chosen report.
 import { QUICK, given, heardWords, showFigures, showHops, showNodes } from './answers.js';
-import { $, cell, copy, download, fill, html, press } from './dom.js';
+import { $, MANY, cell, copy, download, fill, html, press } from './dom.js';
 import { setOriginator } from './edits.js';
 import { NO_HOP_LIMIT } from './plan.js';
 import { change, state } from './state.js';
 import { counted, csvOf, grouped, listed } from './words.js';
 import { Work } from './work.js';
 
-const SHOWN = 60, NAMED = 10, MANY = 60; // groups of failures that are listed at once, nodes named in one; nodes whose rows are made later
+const SHOWN = 60, NAMED = 10; // groups of failures that are listed at once, nodes named in one
 const COLUMNS = [
   ['address', 'Originator', 1, null], ['name', 'Name', 1, null], ['hear', 'Hear it', -1, 'n'], ['least', 'Least hop limit', -1, 'n'],
   ['sent', 'Sent here', -1, 'n'],

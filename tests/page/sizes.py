@@ -1,4 +1,4 @@
-"""255 nodes: how long the page takes to answer and draw, and what it does with counts that take long."""
+"""255 nodes: how long the page takes to answer and draw, when it fills choices of nodes, and what it does with counts that take long."""
 import math
 import re
 import time
